@@ -1,0 +1,2 @@
+pub mod Life
+pub mod Laws
