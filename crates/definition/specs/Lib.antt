@@ -1,0 +1,5 @@
+pub mod State
+pub mod Reference
+pub mod Words
+pub mod Call
+pub mod Step
