@@ -3,3 +3,4 @@ pub mod Reference
 pub mod Words
 pub mod Call
 pub mod Step
+pub mod Computing
