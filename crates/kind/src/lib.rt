@@ -1,6 +1,7 @@
 // What a route is.
 ghost use mathlib.Core.Path.{_≡_};
-ghost use Rattle.kind.specs.Kind.{codeOf, kindOf, isKind, errorOf, leastScope};
+ghost use Rattle.kind.specs.Code.{isKind, errorOf, leastScope};
+ghost use Rattle.kind.specs.Kind.{codeOf, kindOf};
 
 pub enum Kind {
     Unicast,

@@ -98,7 +98,7 @@ impl Life {
         let valid = self.valid.0;
         if preferred == FOREVER {
             return Left {
-                preferred: Seconds(preferred),
+                preferred: Seconds(FOREVER),
                 valid: Seconds(valid),
             };
         }
@@ -108,7 +108,7 @@ impl Life {
         if valid == FOREVER {
             return Left {
                 preferred: Seconds(rest),
-                valid: Seconds(valid),
+                valid: Seconds(FOREVER),
             };
         }
         Left {
