@@ -1,0 +1,263 @@
+-- Addresses put in and changed, with the routes that they bring (document 01, port order 6; rtnetlink(7) for an address's flags).
+use Prim.Native.Nat.{ℕ, _/_, _%_, _^_}
+use mathlib.Core.Bool.{Bool, cond, not, _&&_, _||_}
+use mathlib.Core.List.{List, [], _∷_, _++_}
+use mathlib.Core.Option.{Option, none, some}
+use lib.Dec.{eqb, leb, ltb}
+use lib.ListN.{getD, take}
+use Rattle.lists.specs.Lists.{Row, any, all, keep, first, replaceFirst, behindLast, zeros}
+use Rattle.prefix.specs.Mask.{network, broadcast}
+use Rattle.life.specs.Life.{forever, lowWord, highWord}
+use Rattle.layout.specs.Flags.{hasBit, clearBit, setBit}
+use Rattle.layout.specs.Address as Address
+use Rattle.layout.specs.Address.{local, address, prefix, broadcastPresent, scope, flags, secondary, secondaryBit, deprecatedBit, permanentBit, noPrefixRoute}
+use Rattle.layout.specs.Route as Route
+use Rattle.layout.specs.Event.{newAddr4}
+use Rattle.layout.specs.Request.{validAsked, preferredAsked, replaceAsked, upAtAddV4}
+use Rattle.definition.specs.State.{State, Out, becomes, stays, also, through, withAddresses, withRoutes}
+use Rattle.definition.specs.Reference.Lookup.{localTable, localKind, broadcastKind}
+use Rattle.definition.specs.Reference.Insert.{kernelAdd4, kernelDel4}
+
+-- ---- subnets
+-- ip is in the address's subnet
+unfoldable pub covers : Row → ℕ → Bool
+covers a ip = eqb (network ip (prefix a)) (network (address a) (prefix a))
+
+-- b is in the subnet of a
+unfoldable pub sameSubnet : Row → Row → Bool
+sameSubnet a b = eqb (prefix a) (prefix b) && covers a (address b)
+
+-- ---- the routes of an address
+-- the scopes of rtnetlink's RT_SCOPE_*
+abbrev pub linkScope : ℕ
+linkScope = 253
+
+abbrev pub hostScope : ℕ
+hostScope = 254
+
+-- one of the kernel's routes, in the local table: proto 2, through the device, host scope or for a broadcast link scope
+unfoldable pub kernelRoute : ℕ → ℕ → ℕ → ℕ → ℕ → Row
+kernelRoute dst len priority kind source =
+    localTable
+    ∷ dst
+    ∷ len
+    ∷ 0
+    ∷ priority
+    ∷ kind
+    ∷ 2
+    ∷ cond (eqb kind broadcastKind) linkScope hostScope
+    ∷ 1
+    ∷ source
+    ∷ 0
+    ∷ 0
+    ∷ 1
+    ∷ 0
+    ∷ 0
+    ∷ zeros 17
+
+-- the local address of the first primary whose subnet it is in, for a secondary; else its own
+abbrev pub localOr : ℕ → Option Row → ℕ
+localOr d none = d
+localOr d (some a) = local a
+
+unfoldable pub primaryOf : List Row → Row → ℕ
+primaryOf addresses a =
+    cond (secondary a)
+    (localOr (local a) (first (λ b. not (secondary b) && sameSubnet b a) addresses))
+    (local a)
+
+-- a list of one element where the test holds
+abbrev pub only : {A : Type 0} → Bool → A → List A
+only b x = cond b (x ∷ []) []
+
+-- the broadcast address that it names, if that is neither 0.0.0.0 nor 255.255.255.255
+abbrev pub namesBroadcast : Row → Bool
+namesBroadcast a =
+    eqb (broadcastPresent a) 1
+    && not (eqb (Address.broadcast a) 0)
+    && not (eqb (Address.broadcast a) 0xffffffff)
+
+-- its prefix is a network of its own: not the network 0, and no /32 of its own address
+abbrev pub ownNetwork : Row → Bool
+ownNetwork a =
+    not (eqb (network (address a) (prefix a)) 0)
+    && not (eqb (network (address a) (prefix a)) (local a) && eqb (prefix a) 32)
+
+-- what an address brings at once: its local route
+unfoldable pub localRoute : ℕ → Row → Row
+localRoute source a = kernelRoute (local a) 32 0 localKind source
+
+-- and while the loopback is up: the broadcast route that it names, and, of a primary, its prefix route and its subnet's
+-- broadcast route (none for prefix 31, RFC 3021)
+unfoldable pub prefixRoute : ℕ → Row → Row
+prefixRoute source a =
+    kernelRoute (network (address a) (prefix a)) (prefix a) (Address.priority a) localKind source
+
+unfoldable pub upRoutes : ℕ → Row → List Row
+upRoutes source a =
+    only (namesBroadcast a) (kernelRoute (Address.broadcast a) 32 0 broadcastKind source)
+    ++ (only (ownNetwork a && not (secondary a) && not (noPrefixRoute a)) (prefixRoute source a)
+    ++ only (ownNetwork a && not (secondary a) && ltb (prefix a) 31) (kernelRoute (broadcast (address a) (prefix a)) 32 0 broadcastKind source))
+
+-- all of them, in order
+unfoldable pub candidates : List Row → Bool → Row → List Row
+candidates addresses up a =
+    let source = primaryOf addresses a in
+    localRoute source a ∷ cond up (upRoutes source a) []
+
+-- ---- lifetimes
+-- rtnetlink's IFA_F_PERMANENT for a valid lifetime that never ends, IFA_F_DEPRECATED for a preferred one of 0
+unfoldable pub lifeFlags : ℕ → ℕ → ℕ → ℕ
+lifeFlags valid preferred f =
+    let cleared = clearBit deprecatedBit (clearBit permanentBit f) in
+    let lasting = cond (eqb valid forever) (setBit permanentBit cleared) cleared in
+    cond (eqb preferred 0) (setBit deprecatedBit lasting) lasting
+
+-- a lifetime that never ends leaves the stored seconds
+abbrev pub seconds : ℕ → ℕ → ℕ
+seconds asked stored = cond (eqb asked forever) stored asked
+
+-- the row with other flags, proto and priority, lifetimes and stamps; the rest stays
+unfoldable pub rewritten : Row → ℕ → ℕ → ℕ → ℕ → ℕ → ℕ → ℕ → Row
+rewritten a flags proto priority valid preferred created changed =
+    take 6 a
+    ++ (flags
+    ∷ proto
+    ∷ getD a 8 0
+    ∷ getD a 9 0
+    ∷ getD a 10 0
+    ∷ getD a 11 0
+    ∷ getD a 12 0
+    ∷ priority
+    ∷ valid
+    ∷ preferred
+    ∷ lowWord created
+    ∷ highWord created
+    ∷ lowWord changed
+    ∷ highWord changed
+    ∷ [])
+
+-- the row with the lifetimes asked for at a moment
+unfoldable pub setLife : ℕ → ℕ → ℕ → Row → Row
+setLife valid preferred now a =
+    rewritten a (lifeFlags valid preferred (flags a)) (Address.proto a) (Address.priority a)
+    (seconds valid (Address.valid a)) (seconds preferred (Address.preferred a)) (Address.created a) now
+
+-- the row that a request asks for: a life of zeros, then its lifetimes; made at that moment
+unfoldable pub asked : Row → ℕ → Row
+asked q now =
+    rewritten q (lifeFlags (validAsked q) (preferredAsked q) (clearBit secondaryBit (flags q))) (Address.proto q) (Address.priority q)
+    (seconds (validAsked q) 0) (seconds (preferredAsked q) 0) now now
+
+-- the row as a secondary
+unfoldable pub asSecondary : Row → Row
+asSecondary a =
+    rewritten a (setBit secondaryBit (flags a)) (Address.proto a) (Address.priority a) (Address.valid a) (Address.preferred a) (Address.created a) (Address.changed a)
+
+-- ---- add_v4
+-- what a changing call comes to: a step, or a refusal's number with the state that it leaves
+pub data Outcome : Type 0 where
+  goes : Out → Outcome
+  refused : ℕ → State → Outcome
+
+-- an address there already: the same local address and subnet
+unfoldable pub sameAddress : Row → Row → Bool
+sameAddress new old = eqb (local old) (local new) && sameSubnet old new
+
+-- where a primary goes: behind the last primary of a scope as wide or wider (a smaller number is wider)
+abbrev pub yields : Row → Row → Bool
+yields new old = not (secondary old) && leb (scope new) (scope old)
+
+unfoldable pub place4 : Row → List Row → List Row
+place4 new addresses =
+    cond (secondary new) (addresses ++ (new ∷ [])) (behindLast (yields new) new addresses)
+
+-- the routes are added in order, those that are there already left out
+unfoldable pub bring : List Row → State → Out
+bring routes st = through kernelAdd4 routes st
+
+-- a new address: told, then the routes that it brings
+unfoldable pub newAddress : Row → Bool → State → Out
+newAddress new up st =
+    let placed = withAddresses (place4 new (st .addresses)) st in
+    also (becomes placed (newAddr4 new ∷ [])) (bring (candidates (placed .addresses) up new))
+
+-- the address with another priority, proto and lifetimes
+unfoldable pub changedTo : Row → Row → ℕ → Row
+changedTo q old now =
+    setLife (validAsked q) (preferredAsked q) now
+    (rewritten old (flags old) (Address.proto q) (Address.priority q) (Address.valid old) (Address.preferred old) (Address.created old) (Address.changed old))
+
+-- its prefix route follows a change of priority while the loopback is up: the new one, then the old one gone
+abbrev pub reroutes : Row → Row → Bool
+reroutes q old =
+    eqb (upAtAddV4 q) 1
+    && not (eqb (Address.priority old) (Address.priority q))
+    && not (secondary old)
+    && not (noPrefixRoute old)
+    && ownNetwork old
+
+unfoldable pub moved : Row → Row → State → Out
+moved q old st =
+    cond (reroutes q old)
+    (also (kernelAdd4 (kernelRoute (network (address old) (prefix old)) (prefix old) (Address.priority q) localKind (local old)) st)
+    (kernelDel4 (prefixRoute (local old) old)))
+    (stays st)
+
+-- an address that is there is replaced
+unfoldable pub changeV4 : Row → Row → ℕ → State → Out
+changeV4 q old now st =
+    let row = changedTo q old now in
+    also (moved q old st)
+    (λ later. becomes (withAddresses (replaceFirst (sameAddress q) row (later .addresses)) later) (newAddr4 row ∷ []))
+
+abbrev pub addedOver : Row → ℕ → Option Row → State → Outcome
+addedOver q now (some old) st =
+    cond (eqb (replaceAsked q) 1) (goes (changeV4 q old now st)) (refused 17 st)
+addedOver q now none st =
+    let fresh = asked q now in
+    let new = cond (any (λ old. sameSubnet old q) (st .addresses)) (asSecondary fresh) fresh in
+    goes (newAddress new (eqb (upAtAddV4 q) 1) st)
+
+unfoldable pub addV4 : Row → ℕ → State → Outcome
+addV4 q now st = addedOver q now (first (sameAddress q) (st .addresses)) st
+
+-- ---- up and down
+-- 127.0.0.1/8 with the label lo, host scope, lifetimes that never end, not replacing, while up
+abbrev pub loopback : Row
+loopback =
+    0x7f000001
+    ∷ 0x7f000001
+    ∷ 8
+    ∷ 0
+    ∷ 0
+    ∷ hostScope
+    ∷ 0
+    ∷ 0
+    ∷ 2
+    ∷ 0x6f6c
+    ∷ 0
+    ∷ 0
+    ∷ 0
+    ∷ 0
+    ∷ forever
+    ∷ forever
+    ∷ 0
+    ∷ 1
+    ∷ []
+
+-- a refusal leaves all as it was
+abbrev pub step : Outcome → Out
+step (goes o) = o
+step (refused n st) = stays st
+
+-- 127.0.0.1 if it isn't there, with its routes; then the routes that every address has, in the addresses' order
+unfoldable pub up : ℕ → State → Out
+up now st =
+    also (step (addV4 loopback now st))
+    (λ later. through (λ a. bring (candidates (later .addresses) Bool.true a)) (later .addresses) later)
+
+-- the routes through the device go, but for those of host scope, without a word
+unfoldable pub down : State → Out
+down st =
+    stays (withRoutes (keep (λ r. not (eqb (Route.device r) 1 && not (eqb (Route.scope r) hostScope))) (st .routes)) st)

@@ -1,0 +1,108 @@
+-- A route put into its table or taken out (document 01, port order 4; rtnetlink(7) and netlink(7) for the flags of a request).
+use Prim.Native.Nat.{ℕ}
+use mathlib.Core.Bool.{Bool, cond, not, _&&_, _||_}
+use mathlib.Core.List.{List, [], _∷_, _++_}
+use mathlib.Core.Option.{Option, none, some}
+use lib.Dec.{eqb}
+use Rattle.lists.specs.Lists.{Row, any, keep, first, removeFirst, replaceFirst, eqRow, among}
+use Rattle.layout.specs.Flags.{hasBit}
+use Rattle.layout.specs.Route.{before, alike, table, dst, len, tos, priority, kind, proto, scope, prefsrcPresent, prefsrc, device}
+use Rattle.layout.specs.Event.{newRoute4, delRoute4}
+use Rattle.definition.specs.State.{State, Out, becomes, stays, withRoutes, withTables}
+use Rattle.definition.specs.Reference.Lookup.{mainTable, localTable}
+
+-- ---- tables
+abbrev pub addTable : ℕ → List ℕ → List ℕ
+addTable t l = cond (among t l) l (l ++ (t ∷ []))
+
+-- a table is listed; 255 brings 254 along if that is unlisted
+unfoldable pub listTable : ℕ → List ℕ → List ℕ
+listTable t l = addTable t (cond (eqb t localTable) (addTable mainTable l) l)
+
+unfoldable pub create4 : ℕ → State → State
+create4 t st = withTables (listTable t (st .tables)) st
+
+-- ---- insertion
+-- netlink's NLM_F_REPLACE, NLM_F_EXCL, NLM_F_CREATE and NLM_F_APPEND, as bits of a request's flags
+abbrev pub replaceFlag : ℕ → Bool
+replaceFlag f = hasBit 8 f
+
+abbrev pub exclFlag : ℕ → Bool
+exclFlag f = hasBit 9 f
+
+abbrev pub createFlag : ℕ → Bool
+createFlag f = hasBit 10 f
+
+abbrev pub appendFlag : ℕ → Bool
+appendFlag f = hasBit 11 f
+
+-- what comes of an insertion: the rows afterwards with the flags told, nothing to do, or a refusal
+pub data Inserted : Type 0 where
+  put : List Row → ℕ → Inserted
+  nothing : Inserted
+  refused : ℕ → Inserted
+
+-- in its place in the order, before the alike rows
+unfoldable pub ahead : Row → List Row → List Row
+ahead new rows =
+    keep (λ r. before r new) rows ++ (new ∷ keep (λ r. not (before r new)) rows)
+
+-- in its place in the order, after the alike rows
+unfoldable pub behind : Row → List Row → List Row
+behind new rows =
+    keep (λ r. not (before new r)) rows ++ (new ∷ keep (λ r. before new r) rows)
+
+abbrev pub isRow : Row → Option Row → Bool
+isRow new none = Bool.false
+isRow new (some r) = eqRow new r
+
+-- Among the rows alike in table, dst, len, tos and priority: EXCL refuses; with REPLACE it takes the first one's place, unless
+-- it is there already; else the same row again is refused, and it goes before them, or after them with APPEND.
+-- Without CREATE a row more is refused.
+unfoldable pub insert4 : Row → ℕ → List Row → Inserted
+insert4 new flags rows =
+    cond (any (alike new) rows)
+    (cond (exclFlag flags) (refused 17)
+    (cond (replaceFlag flags)
+    (cond (isRow new (first (alike new) rows)) nothing
+    (cond (any (eqRow new) rows) (refused 17) (put (replaceFirst (alike new) new rows) 0x100)))
+    (cond (any (eqRow new) rows) (refused 17)
+    (cond (createFlag flags)
+    (cond (appendFlag flags) (put (behind new rows) 0xc00) (put (ahead new rows) 0x400))
+    (refused 2)))))
+    (cond (createFlag flags) (put (ahead new rows) 0x600) (refused 2))
+
+-- ---- the kernel's own routes
+abbrev pub inserted : Row → Inserted → State → Out
+inserted new (put rows flags) st = becomes (withRoutes rows st) (newRoute4 new flags ∷ [])
+inserted new nothing st = stays st
+inserted new (refused n) st = stays st
+
+-- one of the kernel's routes: its table listed, told of unless the same is there
+unfoldable pub kernelAdd4 : Row → State → Out
+kernelAdd4 new st =
+    let made = create4 (table new) st in
+    inserted new (insert4 new 0xc00 (made .routes)) made
+
+-- a row that the kernel's deletion of a route names: any priority where that names none, whatever metrics and gateway
+unfoldable pub named : Row → Row → Bool
+named p r =
+    eqb (table r) (table p)
+    && eqb (dst r) (dst p)
+    && eqb (len r) (len p)
+    && eqb (tos r) (tos p)
+    && eqb (kind r) (kind p)
+    && eqb (scope r) (scope p)
+    && eqb (prefsrcPresent r) (prefsrcPresent p)
+    && eqb (prefsrc r) (prefsrc p)
+    && eqb (proto r) (proto p)
+    && eqb (device r) (device p)
+    && (eqb (priority p) 0 || eqb (priority r) (priority p))
+
+-- the first row that passes goes, and is told
+abbrev pub removed : (Row → Bool) → Option Row → State → Out
+removed p none st = stays st
+removed p (some r) st = becomes (withRoutes (removeFirst p (st .routes)) st) (delRoute4 r ∷ [])
+
+unfoldable pub kernelDel4 : Row → State → Out
+kernelDel4 p st = removed (named p) (first (named p) (st .routes)) st

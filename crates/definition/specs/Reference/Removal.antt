@@ -1,0 +1,131 @@
+-- Addresses taken out, by request or at the end of their life, with the routes that go with them (document 01, port order 2 and 6).
+use Prim.Native.Nat.{ℕ, zero, suc}
+use mathlib.Core.Bool.{Bool, true, cond, not, _&&_, _||_}
+use mathlib.Core.List.{List, [], _∷_, _++_, map}
+use mathlib.Core.Option.{Option, none, some}
+use lib.Dec.{eqb}
+use lib.ListN.{length}
+use Rattle.lists.specs.Lists.{Row, any, keep, first, until, onward, removeFirst, eqRow, each}
+use Rattle.life.specs.Life.{reached}
+use Rattle.layout.specs.Flags.{setBit}
+use Rattle.layout.specs.Address as Address
+use Rattle.layout.specs.Address.{local, prefix, flags, secondary, permanent, deprecated, deprecatedBit, labelLength, label, valid, preferred, created, changed}
+use Rattle.layout.specs.Route as Route
+use Rattle.layout.specs.Route.{table, dst, len, kind}
+use Rattle.layout.specs.Event.{newAddr4, delAddr4}
+use Rattle.layout.specs.Request.{localPresent, localGiven, addressPresent, addressGiven, prefixGiven, labelPresent, labelLengthGiven, labelGiven}
+use Rattle.definition.specs.State.{State, Out, becomes, stays, also, through, withAddresses, withRoutes}
+use Rattle.definition.specs.Reference.Lookup.{mainTable, localKind, broadcastKind, listed, local4}
+use Rattle.definition.specs.Reference.Insert.{kernelDel4}
+use Rattle.definition.specs.Reference.Addresses.{covers, sameSubnet, kernelRoute, localRoute, upRoutes, primaryOf, candidates, rewritten, Outcome, goes, refused}
+
+-- ---- the routes that go with an address
+-- the same route, whatever its preferred source and priority
+abbrev pub sameRoute : Row → Row → Bool
+sameRoute a b = eqb (dst a) (dst b) && eqb (len a) (len b) && eqb (kind a) (kind b)
+
+-- some address wants the route
+unfoldable pub wanted : List Row → Row → Bool
+wanted addresses r = any (λ a. any (sameRoute r) (candidates addresses true a)) addresses
+
+-- the route with no priority named
+abbrev pub anyPriority : Row → Row
+anyPriority r = kernelRoute (dst r) (len r) 0 (kind r) (Route.prefsrc r)
+
+abbrev pub ofKind : ℕ → Row → Bool
+ofKind k r = eqb (kind r) k
+
+-- an address's routes in the order in which they go: the prefix route, the broadcast ones, the local one, each with no priority named
+unfoldable pub leaving : List Row → Row → List Row
+leaving addresses a =
+    let source = primaryOf addresses a in
+    map anyPriority (keep (ofKind localKind) (upRoutes source a))
+    ++ (keep (ofKind broadcastKind) (upRoutes source a) ++ (localRoute source a ∷ []))
+
+-- those of them that no remaining address wants
+unfoldable pub unwanted : List Row → List Row → Row → List Row
+unwanted addresses left a = keep (λ r. not (wanted left r)) (leaving addresses a)
+
+-- main rows with the preferred source
+abbrev pub straysFrom : ℕ → Row → Bool
+straysFrom ip r = eqb (table r) mainTable && eqb (Route.prefsrcPresent r) 1 && eqb (Route.prefsrc r) ip
+
+-- where a /32 of a local route went and the address is local no more, the main rows from it fall, in listed order
+unfoldable pub fall : Row → List Row → State → Out
+fall a routes st =
+    cond (any (λ r. ofKind localKind r && eqb (len r) 32) routes && not (local4 st (local a)))
+    (through kernelDel4 (cond (listed mainTable st) (keep (straysFrom (local a)) (st .routes)) []) st)
+    (stays st)
+
+-- the last address takes every route through the device with it, without a word
+unfoldable pub disable : State → Out
+disable st =
+    cond (eqb (length (st .addresses)) 0)
+    (stays (withRoutes (keep (λ r. not (eqb (Route.device r) 1)) (st .routes)) st))
+    (stays st)
+
+-- one address goes: the first row equal to it, told; then its routes that none wants; then what falls with it
+unfoldable pub removeOne : Row → State → Out
+removeOne a st =
+    let left = removeFirst (eqRow a) (st .addresses) in
+    let routes = unwanted (st .addresses) left a in
+    also (also (also (becomes (withAddresses left st) (delAddr4 a ∷ []))
+    (through kernelDel4 routes))
+    (fall a routes))
+    disable
+
+-- a primary takes its secondaries with it, which go first; the list is fixed at the start
+unfoldable pub goneWith : List Row → Row → List Row
+goneWith addresses a =
+    cond (secondary a) (a ∷ []) (keep (λ b. secondary b && sameSubnet a b) addresses ++ (a ∷ []))
+
+unfoldable pub removeV4 : Row → State → Out
+removeV4 a st = through removeOne (goneWith (st .addresses) a) st
+
+-- ---- del_v4
+-- each condition that the request makes
+unfoldable pub deletes : Row → Row → Bool
+deletes q a =
+    (eqb (localPresent q) 0 || eqb (local a) (localGiven q))
+    && (eqb (labelPresent q) 0 || (eqb (labelLength a) (labelLengthGiven q) && eqb (label a) (labelGiven q)))
+    && (eqb (addressPresent q) 0 || (eqb (prefix a) (prefixGiven q) && covers a (addressGiven q)))
+
+abbrev pub deletedAt : Option Row → State → Outcome
+deletedAt none st = refused 99 st
+deletedAt (some a) st = goes (removeV4 a st)
+
+-- the first address that meets the conditions goes
+unfoldable pub delV4 : Row → State → Outcome
+delV4 q st = deletedAt (first (deletes q) (st .addresses)) st
+
+-- ---- expire
+-- its valid lifetime is reached; a permanent address never runs out
+unfoldable pub due : ℕ → ℕ → Row → Bool
+due allowance now a = not (permanent a) && reached allowance (valid a) (changed a) now
+
+-- its preferred lifetime is reached, and that isn't marked yet
+unfoldable pub fades : ℕ → ℕ → Row → Bool
+fades allowance now a =
+    not (permanent a) && not (deprecated a) && reached allowance (preferred a) (changed a) now
+
+unfoldable pub faded : Row → Row
+faded a =
+    rewritten a (setBit deprecatedBit (flags a)) (Address.proto a) (Address.priority a) (valid a) (preferred a) (created a) (changed a)
+
+-- the addresses before the first that is due are marked, and those newly marked are told
+unfoldable pub fade : ℕ → ℕ → State → Out
+fade allowance now st =
+    let spared = until (due allowance now) (st .addresses) in
+    let marked = map (λ a. cond (fades allowance now a) (faded a) a) spared in
+    becomes (withAddresses (marked ++ onward (due allowance now) (st .addresses)) st)
+    (map (λ a. newAddr4 (faded a)) (keep (fades allowance now) spared))
+
+-- a pass marks, removes the first address that is due, and then all begins again; each pass but the last removes an
+-- address, so as many passes as there are addresses suffice
+unfoldable pub passes : ℕ → ℕ → ℕ → State → Out
+passes zero allowance now st = fade allowance now st
+passes (suc n) allowance now st =
+    elim (first (due allowance now) (st .addresses)) [ none ↦ fade allowance now st | some a ↦ also (also (fade allowance now st) (removeV4 a)) (passes n allowance now) ]
+
+unfoldable pub expire : ℕ → ℕ → State → Out
+expire allowance now st = passes (length (st .addresses)) allowance now st

@@ -1,0 +1,100 @@
+-- The state as 9,507 words, and when words are a state (document 01, "The state, words of 32 bits").
+use Prim.Native.Nat.{ℕ, zero, suc, _+_, _*_, _-_}
+use mathlib.Core.Bool.{Bool, true, false, not, _&&_}
+use mathlib.Core.List.{List, [], _∷_, _++_}
+use lib.Dec.{eqb, leb}
+use lib.ListN.{length, getD, drop}
+use Rattle.lists.specs.Lists.{Row, all, among, pairwise, eqRow, allZero, flat, pad, span, chop}
+use Rattle.layout.specs.Address as Address
+use Rattle.layout.specs.Route as Route
+use Rattle.layout.specs.Address.{fitAddress}
+use Rattle.layout.specs.Route.{fitRoute, before}
+use Rattle.definition.specs.State.{State, Sizes}
+
+-- ---- the limits, which the port adds
+abbrev pub addressLimit : ℕ
+addressLimit = 64
+
+abbrev pub routeLimit : ℕ
+routeLimit = 256
+
+abbrev pub tableLimit : ℕ
+tableLimit = 32
+
+-- each list keeps to its limit
+abbrev pub within : Sizes → Bool
+within s = leb (s .addresses) addressLimit && leb (s .routes) routeLimit && leb (s .tables) tableLimit
+
+-- ---- the layout: three counts, 64 address rows, 256 route rows, 32 table numbers
+abbrev pub stateSize : ℕ
+stateSize = 9507
+
+abbrev pub addressesAt : ℕ
+addressesAt = 3
+
+abbrev pub routesAt : ℕ
+routesAt = 1283
+
+abbrev pub tablesAt : ℕ
+tablesAt = 9475
+
+-- unused rows are zero
+unfoldable pub encode : State → List ℕ
+encode st =
+    length (st .addresses)
+    ∷ length (st .routes)
+    ∷ length (st .tables)
+    ∷ (pad 1280 (flat (st .addresses)) ++ (pad 8192 (flat (st .routes)) ++ pad 32 (st .tables)))
+
+abbrev pub addressCount : List ℕ → ℕ
+addressCount w = getD w 0 0
+
+abbrev pub routeCount : List ℕ → ℕ
+routeCount w = getD w 1 0
+
+abbrev pub tableCount : List ℕ → ℕ
+tableCount w = getD w 2 0
+
+unfoldable pub decode : List ℕ → State
+decode w =
+    record {
+      addresses = chop Address.size (addressCount w) (drop addressesAt w);
+      routes = chop Route.size (routeCount w) (drop routesAt w);
+      tables = span tablesAt (tableCount w) w;
+    }
+
+-- ---- well-formed
+-- no number twice
+unfoldable pub noneTwice : List ℕ → Bool
+noneTwice l = pairwise (λ a b. not (eqb a b)) l
+
+-- routes are ordered, not strictly, and pairwise distinct
+unfoldable pub ordered : List Row → Bool
+ordered l = pairwise (λ a b. not (before b a)) l
+
+unfoldable pub distinct : List Row → Bool
+distinct l = pairwise (λ a b. not (eqRow a b)) l
+
+-- the lists could be those of a well-formed state, but for their limits
+unfoldable pub fitState : State → Bool
+fitState st =
+    all fitAddress (st .addresses)
+    && all fitRoute (st .routes)
+    && ordered (st .routes)
+    && distinct (st .routes)
+    && noneTwice (st .tables)
+
+-- the words behind those in use
+unfoldable pub unusedZero : List ℕ → Bool
+unusedZero w =
+    allZero (span (addressesAt + Address.size * addressCount w) (1280 - Address.size * addressCount w) w)
+    && allZero (span (routesAt + Route.size * routeCount w) (8192 - Route.size * routeCount w) w)
+    && allZero (drop (tablesAt + tableCount w) w)
+
+unfoldable pub wellFormed : List ℕ → Bool
+wellFormed w =
+    leb (addressCount w) addressLimit
+    && leb (routeCount w) routeLimit
+    && leb (tableCount w) tableLimit
+    && fitState (decode w)
+    && unusedZero w

@@ -1,0 +1,5 @@
+pub mod Flags
+pub mod Address
+pub mod Route
+pub mod Event
+pub mod Request
