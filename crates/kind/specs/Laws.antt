@@ -9,8 +9,7 @@ use Rattle.kind.specs.declared.Kind.{Kind}
 use Rattle.kind.specs.declared.Kind.the-variants.{Unicast, Local, Broadcast, Blackhole, Unreachable, Prohibit, Throw}
 use Rattle.kind.specs.declared.FoundKind.{FoundKind}
 use Rattle.kind.specs.declared.FoundKind.the-variants.{Is, Unknown}
-use Rattle.kind.specs.Code.{isKind}
-use Rattle.kind.specs.Kind.{codeOf, kindOf}
+use Rattle.kind.specs.Kind.{codeOf, kindOf, isKind}
 
 pub kind-code : (k : Kind) → kindOf (codeOf k) ≡ Is k
 unfolding kindOf

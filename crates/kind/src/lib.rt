@@ -1,7 +1,6 @@
 // What a route is.
 ghost use mathlib.Core.Path.{_≡_};
-ghost use Rattle.kind.specs.Code.{isKind, errorOf, leastScope};
-ghost use Rattle.kind.specs.Kind.{codeOf, kindOf};
+ghost use Rattle.kind.specs.Kind.{codeOf, kindOf, isKind, errorOf, leastScope};
 
 pub enum Kind {
     Unicast,

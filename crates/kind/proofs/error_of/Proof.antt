@@ -5,7 +5,7 @@ use Prim.Native.Nat.{ℕ}
 use borrow.Author.Needs.{needs}
 use borrow.Author.Tests.{ne-eqb}
 use native.Mathlib.Omega.{arith}
-use Rattle.kind.specs.Code.{errorOf}
+use Rattle.kind.specs.Kind.{errorOf}
 use Rattle.kind.proofs.Table.{at}
 use Rattle.kind.proofs.error_of.Statement.{statement}
 use Rattle.kind.proofs.error_of.Tie as tie

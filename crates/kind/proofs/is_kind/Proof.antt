@@ -8,7 +8,7 @@ use native.Mathlib.Omega.{arith}
 use lib.Dec.{eqb}
 use mathlib.Core.Path.{_≡_, refl, _∙_, ap}
 use mathlib.Core.Bool.{Bool, true, false}
-use Rattle.kind.specs.Code.{isKind}
+use Rattle.kind.specs.Kind.{isKind}
 use Rattle.kind.proofs.Table.{at}
 use Rattle.kind.proofs.is_kind.Statement.{statement}
 use Rattle.kind.proofs.is_kind.Tie as tie

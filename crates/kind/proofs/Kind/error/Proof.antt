@@ -2,7 +2,7 @@
 -- Assumes nothing.
 use borrow.Author.Needs.{needs}
 use mathlib.Core.Path.{_∙_, ap}
-use Rattle.kind.specs.Code.{errorOf}
+use Rattle.kind.specs.Kind.{errorOf}
 use Rattle.kind.proofs.Kind.error.Statement.{statement}
 use Rattle.kind.proofs.Kind.error.Tie as tie
 
