@@ -6,6 +6,7 @@ use lib.Dec.{eqb, leb}
 use Rattle.life.specs.declared.Seconds.{Seconds}
 use Rattle.life.specs.declared.Nanoseconds.{Nanoseconds}
 use Rattle.life.specs.declared.Life.{Life}
+use Rattle.life.specs.declared.Lifetimes.{Lifetimes}
 use Rattle.life.specs.declared.Left.{Left}
 
 -- the lifetime that never ends
@@ -36,6 +37,10 @@ unfoldable pub leftValid : ℕ → ℕ → ℕ → ℕ → ℕ
 leftValid valid preferred changed now =
     cond (eqb preferred forever) valid (cond (eqb valid forever) forever (valid - age changed now))
 
+-- a lifetime that never ends leaves the stored seconds
+abbrev pub storedSeconds : ℕ → ℕ → ℕ
+storedSeconds asked stored = cond (eqb asked forever) stored asked
+
 -- the clock stands in two words, low and high
 abbrev pub clock : ℕ → ℕ → ℕ
 clock low high = low + high * 2 ^ 32
@@ -59,4 +64,14 @@ leftOf l now =
     record {
       preferred = seconds (leftPreferred (l .preferred .0) (l .changed .0) now);
       valid = seconds (leftValid (l .valid .0) (l .preferred .0) (l .changed .0) now);
+    }
+
+-- the lifetimes asked for at a moment
+abbrev pub lifeSet : Lifetimes → ℕ → Life → Life
+lifeSet asked now l =
+    record {
+      valid = seconds (storedSeconds (asked .valid .0) (l .valid .0));
+      preferred = seconds (storedSeconds (asked .preferred .0) (l .preferred .0));
+      created = l .created;
+      changed = nanoseconds now;
     }
