@@ -1,0 +1,150 @@
+// An IPv4 address: its record, read from a row of words, and the methods that take it by value.
+use life::Left;
+use life::Life;
+use life::Lifetimes;
+use life::Nanoseconds;
+use life::Seconds;
+ghost use mathlib.Core.Path.{_≡_};
+ghost use mathlib.Core.Bool.{_&&_};
+ghost use Prim.Native.Nat.{_≤_};
+ghost use lib.ListN.{length};
+ghost use Rattle.prefix.specs.Mask.{mask};
+ghost use Rattle.definition.specs.Reference.Addresses.{lifeFlags};
+ghost use Rattle.address.specs.V4.{v4Of, optionalOf, secondaryV4, coversV4, setLifeV4, leftV4};
+
+// The flags of an address that the kernel keeps (rtnetlink's IFA_F_*).
+pub const SECONDARY: u32 = 0x01;
+
+pub const DEPRECATED: u32 = 0x20;
+
+pub const PERMANENT: u32 = 0x80;
+
+pub enum Optional {
+    Absent,
+    Present(u32),
+}
+
+// Sixteen bytes, little-endian, of which the first `len` are the label.
+pub struct Label {
+    pub len: u32,
+    pub words: [u32; 4],
+}
+
+pub struct V4 {
+    pub local: u32,
+    pub address: u32,
+    pub prefix: u32,
+    pub broadcast: Optional,
+    pub scope: u32,
+    pub flags: u32,
+    pub proto: u32,
+    pub label: Label,
+    // The metric of its prefix route.
+    pub priority: u32,
+    pub life: Life,
+}
+
+// A valid lifetime that never ends makes an address permanent, a preferred one of 0 deprecated.
+pub fn life_flags(flags: u32, valid: u32, preferred: u32) -> u32
+    ensures { λ r. ⌜ r ≡ lifeFlags valid preferred flags ⌝ }
+{
+    let cleared = flags & !PERMANENT & !DEPRECATED;
+    if valid == life::FOREVER {
+        if preferred == 0 {
+            return cleared | PERMANENT | DEPRECATED;
+        }
+        return cleared | PERMANENT;
+    }
+    if preferred == 0 {
+        return cleared | DEPRECATED;
+    }
+    cleared
+}
+
+impl V4 {
+    // It is given `lifetimes` at `now`.
+    pub fn set_life(mut self, lifetimes: Lifetimes, now: Nanoseconds) -> V4
+        ensures { λ r. ⌜ r ≡ setLifeV4 lifetimes (now .0) self ⌝ }
+    {
+        self.flags = life_flags(self.flags, lifetimes.valid.0, lifetimes.preferred.0);
+        let life = self.life;
+        self.life = life.set(lifetimes, now);
+        self
+    }
+
+    pub fn mask(self) -> u32
+        requires { ⌜ self .prefix ≤ 32 ⌝ }
+        ensures { λ r. ⌜ r ≡ mask (self .prefix) ⌝ }
+    {
+        prefix::mask4(self.prefix)
+    }
+
+    // Whether `ip` is in its subnet.
+    pub fn covers(self, ip: u32) -> bool
+        requires { ⌜ self .prefix ≤ 32 ⌝ }
+        ensures { λ r. ⌜ r ≡ coversV4 self ip ⌝ }
+    {
+        prefix::same_network(ip, self.address, self.prefix)
+    }
+
+    pub fn secondary(self) -> bool
+        ensures { λ r. ⌜ r ≡ secondaryV4 self ⌝ }
+    {
+        self.flags & SECONDARY != 0
+    }
+
+    // The lifetimes that it has left: forever while permanent.
+    pub fn left(self, now: Nanoseconds) -> Left
+        ensures { λ r. ⌜ r ≡ leftV4 self (now .0) ⌝ }
+    {
+        if self.flags & PERMANENT != 0 {
+            return Left {
+                preferred: Seconds(life::FOREVER),
+                valid: Seconds(life::FOREVER),
+            };
+        }
+        let life = self.life;
+        life.left(now)
+    }
+}
+
+fn optional_of(present: u32, value: u32) -> Optional
+    ensures { λ r. ⌜ r ≡ optionalOf present value ⌝ }
+{
+    if present == 1 {
+        return Optional::Present(value);
+    }
+    Optional::Absent
+}
+
+// The record of a row of 20 words.
+pub fn v4_of(row: &[u32]) -> V4
+    requires { ⌜ length (now row) ≡ 20 ⌝ }
+    ensures { λ r. ⌜ r ≡ v4Of (now (row .entry)) ⌝ }
+{
+    let broadcast = optional_of(row[3], row[4]);
+    let label = Label {
+        len: row[8],
+        words: [row[9], row[10], row[11], row[12]],
+    };
+    let created = Nanoseconds::of_words(row[16], row[17]);
+    let changed = Nanoseconds::of_words(row[18], row[19]);
+    let life = Life {
+        valid: Seconds(row[14]),
+        preferred: Seconds(row[15]),
+        created: created,
+        changed: changed,
+    };
+    V4 {
+        local: row[0],
+        address: row[1],
+        prefix: row[2],
+        broadcast: broadcast,
+        scope: row[5],
+        flags: row[6],
+        proto: row[7],
+        label: label,
+        priority: row[13],
+        life: life,
+    }
+}
