@@ -2,7 +2,14 @@
 //! word that it must leave, by the unchanged Rust.
 
 pub mod call;
+pub mod checks;
+pub mod compare;
+pub mod examples;
 pub mod fit;
+pub mod generate;
 pub mod model;
+pub mod port;
+pub mod rng;
+pub mod script;
 pub mod well_formed;
 pub mod words;
