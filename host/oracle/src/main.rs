@@ -1,3 +1,4 @@
 fn main() {
-    oracle::examples::run();
+    oracle::linux::run();
+    oracle::facts::run();
 }

@@ -141,8 +141,10 @@ impl Route {
         w.push(u32::from(self.up));
         w
     }
+    /// Of any proto.
     pub fn deleting(&self) -> Vec<u32> {
         let mut w = self.first();
+        w[6] = 0;
         w.extend([self.oif, 1, 0]);
         w.extend([0; 34]);
         w
