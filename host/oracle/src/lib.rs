@@ -4,12 +4,15 @@
 pub mod call;
 pub mod checks;
 pub mod compare;
+pub mod coverage;
 pub mod examples;
 pub mod facts;
+pub mod faults;
 pub mod fit;
 pub mod generate;
 pub mod linux;
 pub mod model;
+pub mod pairs;
 pub mod port;
 pub mod rng;
 pub mod script;

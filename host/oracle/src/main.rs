@@ -1,4 +1,4 @@
 fn main() {
-    oracle::linux::run();
-    oracle::facts::run();
+    oracle::coverage::run(20000, 1);
+    oracle::faults::selftest(1);
 }

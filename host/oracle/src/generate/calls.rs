@@ -12,7 +12,7 @@ pub struct Host {
 }
 
 /// How often each kind of call is drawn, by its code.
-const WEIGHTS: [usize; 15] = [3, 2, 16, 7, 6, 26, 11, 4, 6, 7, 4, 4, 4, 4, 2];
+const WEIGHTS: [usize; 15] = [3, 2, 16, 7, 6, 26, 11, 4, 6, 7, 4, 4, 4, 4, 4];
 
 /// A call of any kind.
 pub fn any(rng: &mut Rng, lists: &Lists, host: &mut Host) -> Call {
@@ -49,11 +49,7 @@ pub fn of_kind(rng: &mut Rng, code: u32, lists: &Lists, host: &mut Host) -> Call
         9 => Call::Lookup4 {
             ip: destination(rng, lists),
         },
-        10 => Call::Lookup4Flow {
-            ip: destination(rng, lists),
-            tos: rng.pick(&[0, 8, 0xe8, 4, 16, 0x1c, 0xfc, 32, 0xff, 9]),
-            oif: rng.pick(&[0, 0, 1, 1, 2]),
-        },
+        10 => flow(rng, lists),
         11 => Call::Local4 {
             ip: destination(rng, lists),
         },
@@ -106,6 +102,22 @@ pub fn destination(rng: &mut Rng, lists: &Lists) -> u32 {
     match some_route(rng, lists) {
         Some(row) => row[1] | (rng.pick(&[0, 0, 1, u32::MAX, 0x0101]) & !pools::mask(row[2])),
         None => pools::address(rng),
+    }
+}
+
+/// A flow, often with the tos of a row that it reaches and bits that are
+/// masked off.
+fn flow(rng: &mut Rng, lists: &Lists) -> Call {
+    let mut ip = destination(rng, lists);
+    let mut tos = rng.pick(&[0, 8, 0xe8, 4, 16, 0x1c, 0xfc, 32, 0xff, 9]);
+    if let Some(row) = some_route(rng, lists).filter(|_| rng.one_in(2)) {
+        ip = row[1] | (rng.pick(&[0, 1]) & !pools::mask(row[2]));
+        tos = row[3] | rng.pick(&[0, 0, 0xe0, 3, 1]);
+    }
+    Call::Lookup4Flow {
+        ip,
+        tos,
+        oif: rng.pick(&[0, 0, 1, 1, 2]),
     }
 }
 

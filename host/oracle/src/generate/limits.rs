@@ -9,6 +9,21 @@ use reference::{Lists, RouteRow};
 
 /// A state with at least one list near its limit, and a call on it.
 pub fn near(rng: &mut Rng) -> (Vec<u32>, Call) {
+    let (lists, mut host) = full(rng);
+    let call = call_on(rng, &lists, &mut host);
+    (states::encoded(&lists), call)
+}
+
+/// A call that is likely to need room.
+pub fn call_on(rng: &mut Rng, lists: &Lists, host: &mut Host) -> Call {
+    let code = rng.pick(&[1, 1, 3, 3, 3, 3, 6, 6, 6, 6, 5, 4, 2, 7, 8, 9]);
+    let mut call = calls::of_kind(rng, code, lists, host);
+    press(rng, lists, &mut call);
+    call
+}
+
+/// Lists of which at least one is near its limit.
+pub fn full(rng: &mut Rng) -> (Lists, Host) {
     let mut host = Host {
         now: 5 * pools::SECOND,
         up: true,
@@ -33,10 +48,7 @@ pub fn near(rng: &mut Rng) -> (Vec<u32>, Call) {
     if which & 4 != 0 {
         fill_tables(rng, &mut lists);
     }
-    let code = rng.pick(&[1, 1, 3, 3, 3, 3, 6, 6, 6, 6, 5, 4, 2, 7, 8, 9]);
-    let mut call = calls::of_kind(rng, code, &lists, &mut host);
-    press(rng, &lists, &mut call);
-    (states::encoded(&lists), call)
+    (lists, host)
 }
 
 /// Makes the call more likely to need room, or to just not need it.
@@ -46,6 +58,7 @@ fn press(rng: &mut Rng, lists: &Lists, call: &mut Call) {
             // a change of priority of an address that is there
             let old = lists.addresses[rng.below(lists.addresses.len())];
             request[..3].copy_from_slice(&old[..3]);
+            request[13] = rng.pick(&[5, 7, 0]);
             request[16] = 1;
             request[17] = 1;
         }
