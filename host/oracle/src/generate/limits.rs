@@ -9,6 +9,9 @@ use reference::{Lists, RouteRow};
 
 /// A state with at least one list near its limit, and a call on it.
 pub fn near(rng: &mut Rng) -> (Vec<u32>, Call) {
+    if rng.one_in(8) {
+        return heavy(rng);
+    }
     let (lists, mut host) = full(rng);
     let call = call_on(rng, &lists, &mut host);
     (states::encoded(&lists), call)
@@ -120,4 +123,55 @@ fn fill_tables(rng: &mut Rng, lists: &mut Lists) {
         lists.tables.push(1000 + i);
     }
     lists.tables.truncate(wanted);
+}
+
+/// A removal that tells of many rows: up to 64 addresses of few subnets,
+/// with lifetimes that end together, kernel routes, and main routes with
+/// their prefsrc.
+fn heavy(rng: &mut Rng) -> (Vec<u32>, Call) {
+    let mut lists = Lists {
+        tables: vec![254, 255],
+        ..Lists::default()
+    };
+    let subnets = 1 + rng.below(3) as u32;
+    let shared = rng.one_in(2);
+    for i in 0..64 - rng.below(3) as u32 {
+        let mut row = [0; 20];
+        row[0] = 0x0c00_0001 + ((i % subnets) << 8) + i;
+        row[1] = row[0];
+        row[2] = 24;
+        row[6] = u32::from(i >= subnets || (shared && i + 1 < subnets));
+        // the last one, or each, is due at two seconds
+        row[14] = if shared { rng.pick(&[100, 1]) } else { 1 };
+        row[15] = rng.pick(&[1, 1, 1, 100]);
+        lists.addresses.push(row);
+    }
+    if rng.one_in(2) {
+        lists.addresses.reverse();
+    }
+    let sources: Vec<u32> = lists.addresses.iter().map(|a| a[0]).collect();
+    let source = rng.pick(&sources);
+    for i in 0..256 - rng.below(4) as u32 {
+        let mut row: RouteRow = [0; 32];
+        if let Some(local) = sources.get(i as usize).filter(|_| i % 4 < 3) {
+            row[..8].copy_from_slice(&[255, *local, 32, 0, 0, 2, 2, 254]);
+            row[8..10].copy_from_slice(&[1, rng.pick(&[*local, source])]);
+        } else {
+            row[..8].copy_from_slice(&[254, 0x0b00_0000 + (i << 8), 24, 0, 0, 1, 3, 253]);
+            row[8..10].copy_from_slice(&[1, rng.pick(&[source, source, sources[0]])]);
+        }
+        row[12] = 1;
+        lists.routes.push(row);
+    }
+    arrange(&mut lists.routes);
+    let call = if rng.one_in(3) {
+        let mut request = vec![0; 11];
+        request[..2].copy_from_slice(&[1, source]);
+        Call::DelV4 { request }
+    } else {
+        Call::Expire {
+            now: 2 * pools::SECOND,
+        }
+    };
+    (states::encoded(&lists), call)
 }
