@@ -17,8 +17,8 @@ const LARGE: Weights = [0, 0, 1, 2, 0, 0, 0];
 /// up to their limits.
 pub fn run(count: usize, seed: u64, large: usize) {
     let mut rng = Rng::new(seed);
-    let mut small_cases = Cases::new(rng.next(), SMALL);
-    let mut large_cases = Cases::new(rng.next(), LARGE);
+    let mut small_cases = Cases::new(rng.draw(), SMALL);
+    let mut large_cases = Cases::new(rng.draw(), LARGE);
     let mut printed = 0;
     while printed < count {
         let (_, case) = if rng.below(100) < large {

@@ -99,10 +99,12 @@ fn replayed(data: &[u32]) -> Result<bool, String> {
     Ok(true)
 }
 
+type Part = dyn Fn() -> Result<bool, String>;
+
 /// Everything, and one line of counts for each part.
 fn all() -> Result<bool, String> {
     let begin = Instant::now();
-    let parts: [(&str, &dyn Fn() -> Result<bool, String>); 7] = [
+    let parts: [(&str, &Part); 7] = [
         ("examples", &|| Ok(examples::run())),
         ("linux", &|| Ok(linux::run())),
         ("facts", &|| Ok(facts::run())),

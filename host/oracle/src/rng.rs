@@ -7,7 +7,7 @@ impl Rng {
     pub fn new(seed: u64) -> Self {
         Self(seed)
     }
-    pub fn next(&mut self) -> u64 {
+    pub fn draw(&mut self) -> u64 {
         self.0 = self.0.wrapping_add(0x9e37_79b9_7f4a_7c15);
         let mut z = self.0;
         z = (z ^ (z >> 30)).wrapping_mul(0xbf58_476d_1ce4_e5b9);
@@ -16,10 +16,10 @@ impl Rng {
     }
     /// A number below `bound`, which isn't 0.
     pub fn below(&mut self, bound: usize) -> usize {
-        (self.next() % bound as u64) as usize
+        (self.draw() % bound as u64) as usize
     }
     pub fn word(&mut self) -> u32 {
-        self.next() as u32
+        self.draw() as u32
     }
     /// True once in `n` times.
     pub fn one_in(&mut self, n: usize) -> bool {
@@ -30,6 +30,6 @@ impl Rng {
     }
     /// Another source that goes its own way.
     pub fn split(&mut self) -> Self {
-        Self(self.next())
+        Self(self.draw())
     }
 }

@@ -4,7 +4,8 @@ use crate::call::Call;
 use crate::compare::{Case, filled};
 use crate::generate::calls::{self, Host};
 use crate::generate::cases::{Cases, Weights};
-use crate::generate::{limits, states};
+use crate::generate::states::Sizes;
+use crate::generate::{damage, limits, states};
 use crate::model::model;
 use crate::port::bytes;
 use crate::rng::Rng;
@@ -20,10 +21,9 @@ pub const SEED: u64 = 1;
 /// one that is too long.
 pub const HELD_WORDS: usize = STATE_WORDS + 1;
 /// What each part of the list may take, in words.
-const SEQUENCES: usize = 52_000;
-const DIRECT: usize = 16_000;
-const UNFIT: usize = 14_000;
-const LIMITS: usize = 14_000;
+const SEQUENCES: usize = 56_000;
+const DIRECT: usize = 14_000;
+const LIMITS: usize = 16_000;
 
 /// The list in the making.
 struct Writer {
@@ -59,7 +59,7 @@ pub fn vectors(seed: u64) -> (Vec<u32>, BTreeMap<u32, usize>) {
     w.by_hand();
     w.part(SEQUENCES, &mut rng, [1, 0, 0, 0, 0, 0, 0]);
     w.part(DIRECT, &mut rng, [0, 1, 0, 0, 0, 0, 0]);
-    w.part(UNFIT, &mut rng, [0, 0, 0, 0, 5, 5, 3]);
+    w.unfit(&mut rng);
     w.limits(LIMITS, &mut rng);
     w.words[3] = w.records;
     w.words[4] = w.words.len() as u32;
@@ -79,7 +79,7 @@ impl Writer {
 
     /// Cases of some origins until `size` words are written.
     fn part(&mut self, size: usize, rng: &mut Rng, weights: Weights) {
-        let mut cases = Cases::new(rng.next(), weights);
+        let mut cases = Cases::new(rng.draw(), weights);
         let end = self.words.len() + size;
         while self.words.len() < end {
             let (_, mut case) = cases.next_case();
@@ -92,13 +92,53 @@ impl Writer {
         }
     }
 
+    /// Each clause and each kind of request damaged, and wrong lengths, all
+    /// on one state.
+    fn unfit(&mut self, rng: &mut Rng) {
+        let sizes = Sizes {
+            addresses: 3,
+            routes: 4,
+            tables: 3,
+        };
+        let lists = states::direct(rng, sizes);
+        let state = states::encoded(&lists);
+        let mut host = Host::default();
+        for clause in 0..damage::CLAUSES {
+            let code = 1 + clause as u32 % 14;
+            let call = calls::of_kind(rng, code, &lists, &mut host);
+            let (_, unfit) = damage::of_lists(rng, clause, &lists);
+            self.record(&Case::new(call, unfit));
+        }
+        for i in 0..90 {
+            let mut call = calls::of_kind(rng, 1 + i % 15, &lists, &mut host);
+            if damage::request(rng, &mut call) || damage::handed_row(rng, &mut call) {
+                self.record(&Case::new(call, state.clone()));
+            }
+        }
+        for code in 1..=15 {
+            let call = calls::of_kind(rng, code, &lists, &mut host);
+            for length in [STATE_WORDS - 1, HELD_WORDS] {
+                let mut case = Case::new(call.clone(), state.clone());
+                case.state.resize(length, 0);
+                self.record(&case);
+            }
+            let mut case = Case::new(call, state.clone());
+            case.buffer.pop();
+            self.record(&case);
+            if let Some(lent) = case.call.lent_mut() {
+                lent.pop();
+                self.record(&case);
+            }
+        }
+    }
+
     /// Several calls on each of a few states at the limits.
     fn limits(&mut self, size: usize, rng: &mut Rng) {
         let end = self.words.len() + size;
         while self.words.len() < end {
             let (lists, mut host) = limits::full(rng);
             let mut state = states::encoded(&lists);
-            for _ in 0..16 {
+            for _ in 0..40 {
                 let call = self.limit_call(rng, &state, &mut host);
                 self.record(&Case::new(call, state));
                 state = self.held[..STATE_WORDS].to_vec();
@@ -117,7 +157,7 @@ impl Writer {
             let mut after = state.to_vec();
             let mut buffer = filled(call.buffer().least());
             let reply = model(&call, &mut after, &mut buffer);
-            if written(&call, &reply) <= 400 && changed(state, &after).len() < 900 {
+            if written(&call, &reply) <= 400 && changed(state, &after).len() < 300 {
                 return call;
             }
         }

@@ -75,11 +75,11 @@ pub fn of_kind(rng: &mut Rng, code: u32, lists: &Lists, host: &mut Host) -> Call
 /// The clock mostly goes on a little, at times by a jump or backwards.
 fn tick(rng: &mut Rng, host: &mut Host) {
     host.now = match rng.below(40) {
-        0 => host.now.saturating_sub(rng.next() % (20 * SECOND)),
-        1 => host.now.saturating_add(rng.next() % (30 * SECOND)),
-        2 => rng.next(),
+        0 => host.now.saturating_sub(rng.draw() % (20 * SECOND)),
+        1 => host.now.saturating_add(rng.draw() % (30 * SECOND)),
+        2 => rng.draw(),
         3..10 => host.now,
-        _ => host.now.saturating_add(rng.next() % SECOND),
+        _ => host.now.saturating_add(rng.draw() % SECOND),
     };
     if host.now > 1 << 62 && rng.one_in(3) {
         host.now %= 1000 * SECOND;
@@ -207,7 +207,7 @@ fn left(rng: &mut Rng, lists: &Lists, host: &Host) -> Call {
     let changed = u64::from(row[18]) | u64::from(row[19]) << 32;
     let now = match rng.below(4) {
         0 => host.now,
-        1 => rng.next(),
+        1 => rng.draw(),
         2 => pools::near_end(rng, changed, row[14]),
         _ => pools::near_end(rng, changed, row[15]),
     };

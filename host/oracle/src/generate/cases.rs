@@ -125,7 +125,7 @@ impl Cases {
         let rng = &mut self.rng;
         let lists = states::direct(rng, sizes);
         let mut host = Host {
-            now: rng.next() % (1 << 34),
+            now: rng.draw() % (1 << 34),
             up: rng.one_in(2),
         };
         let call = calls::any(rng, &lists, &mut host);

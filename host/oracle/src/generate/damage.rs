@@ -5,7 +5,7 @@ use crate::call::Call;
 use crate::fit::CLOCK_LIMIT;
 use crate::rng::Rng;
 use crate::words::{self, ADDRESSES_AT, ROUTES_AT, TABLES_AT};
-use reference::{AddressRow, RouteRow};
+use reference::{AddressRow, Lists, RouteRow};
 
 /// What is done to an address row that could stand in a state.
 type OnAddress = fn(&mut Rng, &mut AddressRow);
@@ -84,7 +84,13 @@ pub fn state(rng: &mut Rng, which: usize) -> (&'static str, Vec<u32>) {
     sizes.routes += 1;
     sizes.tables += 1;
     let lists = states::direct(rng, sizes);
-    let mut state = states::encoded(&lists);
+    of_lists(rng, which, &lists)
+}
+
+/// The words of `lists`, none of them empty or full, with clause `which`
+/// broken.
+pub fn of_lists(rng: &mut Rng, which: usize, lists: &Lists) -> (&'static str, Vec<u32>) {
+    let mut state = states::encoded(lists);
     if let Some((name, damage)) = ADDRESS_CLAUSES.get(which) {
         let i = rng.below(lists.addresses.len());
         let mut row = lists.addresses[i];
@@ -226,7 +232,7 @@ pub fn request(rng: &mut Rng, call: &mut Call) -> bool {
             1 => (*present, *dst) = (0, pools::address(rng) | 1),
             _ => *scope = over(rng, 256),
         },
-        Call::Expire { now } => *now = CLOCK_LIMIT + 1 + rng.next() % 20_000_000,
+        Call::Expire { now } => *now = CLOCK_LIMIT + 1 + rng.draw() % 20_000_000,
         _ => return false,
     }
     true

@@ -128,6 +128,6 @@ pub fn near_end(rng: &mut Rng, changed: u64, seconds: u32) -> u64 {
         0 => edge,
         1 => edge.saturating_sub(1),
         2 => edge.saturating_add(1),
-        _ => edge.saturating_add(rng.next() % (3 * SECOND)),
+        _ => edge.saturating_add(rng.draw() % (3 * SECOND)),
     }
 }

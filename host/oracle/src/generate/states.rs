@@ -40,7 +40,7 @@ pub fn address(rng: &mut Rng) -> AddressRow {
     row[15] = rng.pick(&pools::LIVES);
     let far = if rng.one_in(10) { u64::MAX } else { 1 << 34 };
     for at in [16, 18] {
-        let stamp = rng.next() % far;
+        let stamp = rng.draw() % far;
         row[at] = stamp as u32;
         row[at + 1] = (stamp >> 32) as u32;
     }
