@@ -3,3 +3,6 @@ pub mod Fit
 pub mod Encode
 pub mod Order
 pub mod Routes
+pub mod Keeps
+pub mod Rows
+pub mod Steps
