@@ -6,3 +6,5 @@ pub mod Routes
 pub mod Keeps
 pub mod Rows
 pub mod Steps
+pub mod Removal
+pub mod Requests

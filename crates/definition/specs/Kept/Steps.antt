@@ -19,8 +19,6 @@ use Rattle.layout.specs.Request.{fitAddV4, fitAddRoute4, replaceAsked, upAtAddV
 use Rattle.definition.specs.State.{State, Out, becomes, stays, also, through, withAddresses, withRoutes}
 use Rattle.definition.specs.Reference.Insert.{create4, listTable, insert4, Inserted, put, nothing, inserted, kernelAdd4, kernelDel4, named, removed}
 use Rattle.definition.specs.Reference.Addresses.{Outcome, candidates, kernelRoute, prefixRoute, bring, place4, yields, newAddress, changedTo, moved, reroutes, changeV4, addedOver, addV4, asked, asSecondary, sameAddress, sameSubnet, loopback, step, up, down, hostScope}
-use Rattle.definition.specs.Reference.Removal.{unwanted, fall, disable, removeOne, goneWith, removeV4, deletes, deletedAt, delV4, due, fades, faded, fade, passes, expire, straysFrom}
-use Rattle.definition.specs.Reference.Routes.{addRoute4, routed, Reached, insertedAs, askedRoute, reachCheck, validPrefsrc4, formCheck, tableNamed, selects, deletedRoute, delRoute4Request}
 use Rattle.definition.specs.Kept.Fit.{Fit, FitRoutes, fields-address}
 use Rattle.definition.specs.Kept.Routes.{keep-fit, removeFirst-fit, Puts, insert-fit, listTable-fit}
 use Rattle.definition.specs.Kept.Keeps.{Kept, Keeps, KeptOutcome, KeepsOutcome, fit-addresses, fit-routes, fit-tables, becomes-kept, stays-keeps, also-kept, through-keeps, through-each}
