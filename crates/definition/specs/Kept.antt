@@ -8,3 +8,4 @@ pub mod Rows
 pub mod Steps
 pub mod Removal
 pub mod Requests
+pub mod Step
