@@ -5,3 +5,4 @@ pub mod Call
 pub mod Step
 pub mod Computing
 pub mod Laws
+pub mod Kept
