@@ -1,3 +1,6 @@
 pub mod Lists
 pub mod All
 pub mod Rows
+pub mod Place
+pub mod Parts
+pub mod Laid

@@ -1,17 +1,17 @@
 -- What it is for a state's lists to be fit, part by part.
 -- Assumes nothing.
-use Prim.Native.Nat.{ℕ}
+use Prim.Native.Nat.{ℕ, _≤_}
 use mathlib.Core.Path.{_≡_}
 use mathlib.Core.Bool.{Bool, true, _&&_}
 use mathlib.Core.List.{List}
 use lib.Dec.{eqb, leb, ltb}
 use lib.ListN.{length}
-use borrow.Author.Tests.{eqb-true, eq-eqb}
+use borrow.Author.Tests.{eqb-true, eq-eqb, leb-true}
 use Rattle.lists.specs.Lists.{Row, all}
 use Rattle.lists.specs.All.{and-iff, all-mono}
 use Rattle.lists.specs.Rows.{sized}
 use Rattle.layout.specs.Address.{fitAddress, fitLabel, optional, prefix, broadcastPresent, broadcast, scope, proto, labelLength, label}
-use Rattle.layout.specs.Route.{fitRoute}
+use Rattle.layout.specs.Route.{fitRoute, len}
 use Rattle.layout.specs.Request.{fitAddV4}
 use Rattle.definition.specs.State.{State}
 use Rattle.definition.specs.Words.{fitState, ordered, distinct, noneTwice}
@@ -48,6 +48,10 @@ fields-request q h =
 pub length-route : (r : Row) → fitRoute r ≡ true → length r ≡ 32
 unfolding fitRoute
 length-route r h = eqb-true (length r) 32 ((simp and-iff at h) .0 .0 .0 .0 .0 .0 .0 .0 .0 .0 .0)
+
+pub route-len : (r : Row) → fitRoute r ≡ true → len r ≤ 32
+unfolding fitRoute
+route-len r h = leb-true (len r) 32 ((simp and-iff at h) .0 .0 .0 .0 .0 .0 .0 .0 .0 .0 .1)
 
 pub sized-addresses : (l : List Row) → all fitAddress l ≡ true → sized 20 l ≡ true
 sized-addresses l h = all-mono fitAddress (λ r. eqb (length r) 20) l (λ r e. eq-eqb (length r) 20 (length-address r e)) h
