@@ -4,3 +4,4 @@ pub mod Rows
 pub mod Place
 pub mod Parts
 pub mod Laid
+pub mod Count
