@@ -1,0 +1,174 @@
+-- What the tests on lists have to do with one another: a part of a list that a test keeps, and another test, or a search, on that part.
+use Prim.Native.Nat.{ℕ}
+use mathlib.Core.Path.{_≡_, refl, sym, _∙_, ap}
+use mathlib.Core.Bool.{Bool, true, false, cond, not, _&&_, _||_, true≢false, false≢true}
+use mathlib.Core.List.{List, [], _∷_, _++_, reverse, reverseAux, append-nil, append-assoc}
+use mathlib.Core.Option.{Option, none, some}
+use lib.Dec.{eqb}
+use borrow.Author.Tests.{eqb-true}
+use Rattle.lists.specs.Lists.{Row, all, any, keep, first, removeFirst, replaceFirst, each, eqRow}
+
+-- ---- tests
+-- by cases on a test, each with its outcome
+pub byCase : {G : Type 0} (b : Bool) → (b ≡ true → G) → (b ≡ false → G) → G
+byCase true t f = t refl
+byCase false t f = f refl
+
+-- the two halves of a test that holds
+pub and-left : (a b : Bool) → (a && b) ≡ true → a ≡ true
+and-left true b h = refl
+and-left false b h = h
+
+pub and-right : (a b : Bool) → (a && b) ≡ true → b ≡ true
+and-right true b h = h
+and-right false b h = absurd (false≢true h)
+
+pub and-both : (a b : Bool) → a ≡ true → b ≡ true → (a && b) ≡ true
+and-both a b h k = rw (h, k)
+
+-- a test that both sides of a choice pass
+pub or-either : (a b c : Bool) → (a ≡ true → c ≡ true) → (b ≡ true → c ≡ true) → (a || b) ≡ true → c ≡ true
+or-either true b c f g h = f refl
+or-either false b c f g h = g h
+
+-- what follows from a test that holds doesn't hold where the test fails
+pub contrary : (a b : Bool) → (a ≡ true → b ≡ true) → b ≡ false → a ≡ false
+contrary true b f h = absurd (true≢false (sym (f refl) ∙ h))
+contrary false b f h = refl
+
+pub cond-map : {A B : Type 0} (f : A → B) (b : Bool) (x y : A) → f (cond b x y) ≡ cond b (f x) (f y)
+cond-map f true x y = refl
+cond-map f false x y = refl
+
+pub cond-same : {A : Type 0} (b : Bool) (x : A) → cond b x x ≡ x
+cond-same true x = refl
+cond-same false x = refl
+
+-- every element that passes p passes q
+abbrev pub Implies : {A : Type 0} → (A → Bool) → (A → Bool) → Type 0
+Implies {A} p q = (x : A) → p x ≡ true → q x ≡ true
+
+-- ---- what is kept
+module _ {A : Type 0} where
+  pub keep-true : (p : A → Bool) (x : A) (l : List A) → p x ≡ true → keep p (x ∷ l) ≡ x ∷ keep p l
+  keep-true p x l e = rw e
+
+  pub keep-false : (p : A → Bool) (x : A) (l : List A) → p x ≡ false → keep p (x ∷ l) ≡ keep p l
+  keep-false p x l e = rw e
+
+  pub keep-append : (p : A → Bool) (l m : List A) → keep p (l ++ m) ≡ keep p l ++ keep p m
+  keep-append p [] m = refl
+  keep-append p (x ∷ l) m =
+      byCase (p x) (λ e. rw (e, keep-append p l m)) (λ e. rw (e, keep-append p l m))
+
+  pub keep-each : {B : Type 0} (p : A → Bool) (f : B → List A) (l : List B) → keep p (each f l) ≡ each (λ x. keep p (f x)) l
+  keep-each p f [] = refl
+  keep-each p f (x ∷ l) = keep-append p (f x) (each f l) ∙ ap (λ m. keep p (f x) ++ m) (keep-each p f l)
+
+  pub keep-reverse : (p : A → Bool) (l : List A) → keep p (reverse l) ≡ reverse (keep p l)
+  keep-reverse p l = go l []
+    where
+      go : (l m : List A) → keep p (reverseAux l m) ≡ reverseAux (keep p l) (keep p m)
+      go [] m = refl
+      go (x ∷ l) m = go l (x ∷ m) ∙ byCase (p x) (λ e. rw e) (λ e. rw e)
+
+  pub keep-all : (p : A → Bool) (l : List A) → all p (keep p l) ≡ true
+  keep-all p [] = refl
+  keep-all p (x ∷ l) = byCase (p x) (λ e. rw (e, e, keep-all p l)) (λ e. rw (e, keep-all p l))
+
+  pub all-implied : (p q : A → Bool) → Implies p q → (l : List A) → all p l ≡ true → all q l ≡ true
+  all-implied p q i [] h = refl
+  all-implied p q i (x ∷ l) h =
+      and-both (q x) (all q l) (i x (and-left (p x) (all p l) h)) (all-implied p q i l (and-right (p x) (all p l) h))
+
+  pub all-append : (p : A → Bool) (l m : List A) → all p l ≡ true → all p m ≡ true → all p (l ++ m) ≡ true
+  all-append p [] m h k = k
+  all-append p (x ∷ l) m h k =
+      and-both (p x) (all p (l ++ m)) (and-left (p x) (all p l) h) (all-append p l m (and-right (p x) (all p l) h) k)
+
+  -- of elements that all pass, those that another test keeps
+  pub all-keep : (p q : A → Bool) (l : List A) → all p l ≡ true → all p (keep q l) ≡ true
+  all-keep p q [] h = refl
+  all-keep p q (x ∷ l) h =
+      let ih = all-keep p q l (and-right (p x) (all p l) h) in
+      byCase (q x) (λ e. rw e (and-both (p x) (all p (keep q l)) (and-left (p x) (all p l) h) ih)) (λ e. rw e ih)
+
+  pub keep-keep : (p q : A → Bool) (l : List A) → keep p (keep q l) ≡ keep q (keep p l)
+  keep-keep p q [] = refl
+  keep-keep p q (x ∷ l) =
+      byCase (p x)
+      (λ e. byCase (q x) (λ f. rw (f, e, f, keep-keep p q l)) (λ f. rw (f, e, f, keep-keep p q l)))
+      (λ e. byCase (q x) (λ f. rw (f, e, keep-keep p q l)) (λ f. rw (f, e, keep-keep p q l)))
+
+  -- where none that passes p passes q
+  pub keep-none : (p q : A → Bool) → ((x : A) → p x ≡ true → q x ≡ false) → (l : List A) → keep p (keep q l) ≡ []
+  keep-none p q i [] = refl
+  keep-none p q i (x ∷ l) =
+      byCase (p x) (λ e. rw (i x e) (keep-none p q i l))
+      (λ e. byCase (q x) (λ f. rw (f, e) (keep-none p q i l)) (λ f. rw f (keep-none p q i l)))
+
+  -- elements for which f gives nothing may go
+  pub each-keep : {B : Type 0} (f : A → List B) (q : A → Bool) → ((x : A) → q x ≡ false → f x ≡ []) → (l : List A) → each f (keep q l) ≡ each f l
+  each-keep f q i [] = refl
+  each-keep f q i (x ∷ l) =
+      byCase (q x) (λ e. rw (e, each-keep f q i l)) (λ e. rw (e, i x e) (each-keep f q i l))
+
+  pub each-same : {B : Type 0} (f g : A → List B) → ((x : A) → f x ≡ g x) → (l : List A) → each f l ≡ each g l
+  each-same f g i [] = refl
+  each-same f g i (x ∷ l) = rw (i x, each-same f g i l)
+
+  -- ---- a test that only elements kept by q pass
+  module _ (p q : A → Bool) (i : Implies p q) where
+    pub keep-within : (l : List A) → keep p (keep q l) ≡ keep p l
+    keep-within [] = refl
+    keep-within (x ∷ l) =
+        byCase (p x) (λ e. rw (i x e, e, keep-within l))
+        (λ e. byCase (q x) (λ f. rw (f, e) (keep-within l)) (λ f. rw (f, e) (keep-within l)))
+
+    pub any-within : (l : List A) → any p (keep q l) ≡ any p l
+    any-within [] = refl
+    any-within (x ∷ l) =
+        byCase (p x) (λ e. rw (i x e, e))
+        (λ e. byCase (q x) (λ f. rw (f, e) (any-within l)) (λ f. rw (f, e) (any-within l)))
+
+    pub first-within : (l : List A) → first p (keep q l) ≡ first p l
+    first-within [] = refl
+    first-within (x ∷ l) =
+        byCase (p x) (λ e. rw (i x e, e))
+        (λ e. byCase (q x) (λ f. rw (f, e) (first-within l)) (λ f. rw (f, e) (first-within l)))
+
+    pub removeFirst-within : (l : List A) → removeFirst p (keep q l) ≡ keep q (removeFirst p l)
+    removeFirst-within [] = refl
+    removeFirst-within (x ∷ l) =
+        byCase (p x) (λ e. rw (i x e, e))
+        (λ e. byCase (q x) (λ f. rw (f, e, f, removeFirst-within l)) (λ f. rw (f, e, f) (removeFirst-within l)))
+
+    pub replaceFirst-within : (y : A) → q y ≡ true → (l : List A) → replaceFirst p y (keep q l) ≡ keep q (replaceFirst p y l)
+    replaceFirst-within y k [] = refl
+    replaceFirst-within y k (x ∷ l) =
+        byCase (p x) (λ e. rw (i x e, e, k))
+        (λ e. byCase (q x) (λ f. rw (f, e, f, replaceFirst-within y k l)) (λ f. rw (f, e, f) (replaceFirst-within y k l)))
+
+  -- ---- a test that no element kept by q passes
+  module _ (p q : A → Bool) (i : (x : A) → p x ≡ true → q x ≡ false) where
+    pub removeFirst-without : (l : List A) → keep q (removeFirst p l) ≡ keep q l
+    removeFirst-without [] = refl
+    removeFirst-without (x ∷ l) =
+        byCase (p x) (λ e. rw (e, i x e))
+        (λ e. rw e (byCase (q x) (λ f. rw (f, removeFirst-without l)) (λ f. rw f (removeFirst-without l))))
+
+    pub replaceFirst-without : (y : A) → q y ≡ false → (l : List A) → keep q (replaceFirst p y l) ≡ keep q l
+    replaceFirst-without y k [] = refl
+    replaceFirst-without y k (x ∷ l) =
+        byCase (p x) (λ e. rw (e, k, i x e))
+        (λ e. rw e (byCase (q x) (λ f. rw (f, replaceFirst-without y k l)) (λ f. rw f (replaceFirst-without y k l))))
+
+-- two rows that are the same words are one
+pub eqRow-true : (r s : Row) → eqRow r s ≡ true → r ≡ s
+eqRow-true [] [] h = refl
+eqRow-true [] (y ∷ m) h = absurd (false≢true h)
+eqRow-true (x ∷ l) [] h = absurd (false≢true h)
+eqRow-true (x ∷ l) (y ∷ m) h =
+    let e : x ≡ y = eqb-true x y (and-left (eqb x y) (eqRow l m) h) in
+    let f : l ≡ m = eqRow-true l m (and-right (eqb x y) (eqRow l m) h) in
+    rw (e, f)
