@@ -1,0 +1,2 @@
+-- Demand 3: whatever two runs ask of their private tables, the rest comes out alike.
+pub mod Statement
