@@ -1,2 +1,4 @@
 -- Demand 3: whatever two runs ask of their private tables, the rest comes out alike.
 pub mod Statement
+pub mod Projection
+pub mod Tables
