@@ -2,3 +2,4 @@
 pub mod Statement
 pub mod Projection
 pub mod Tables
+pub mod Addresses

@@ -81,10 +81,13 @@ module _ {A : Type 0} where
   all-implied p q i (x ∷ l) h =
       and-both (q x) (all q l) (i x (and-left (p x) (all p l) h)) (all-implied p q i l (and-right (p x) (all p l) h))
 
-  pub all-append : (p : A → Bool) (l m : List A) → all p l ≡ true → all p m ≡ true → all p (l ++ m) ≡ true
-  all-append p [] m h k = k
-  all-append p (x ∷ l) m h k =
-      and-both (p x) (all p (l ++ m)) (and-left (p x) (all p l) h) (all-append p l m (and-right (p x) (all p l) h) k)
+  pub all-true : (l : List A) → all (λ x. true) l ≡ true
+  all-true [] = refl
+  all-true (x ∷ l) = all-true l
+
+  pub all-append : (p : A → Bool) (l m : List A) → all p (l ++ m) ≡ (all p l && all p m)
+  all-append p [] m = refl
+  all-append p (x ∷ l) m = byCase (p x) (λ e. rw (e, all-append p l m)) (λ e. rw e)
 
   -- of elements that all pass, those that another test keeps
   pub all-keep : (p q : A → Bool) (l : List A) → all p l ≡ true → all p (keep q l) ≡ true

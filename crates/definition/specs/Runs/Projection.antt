@@ -7,9 +7,10 @@ use mathlib.Core.Option.{Option, none, some}
 use lib.Dec.{eqb}
 use borrow.Author.Tests.{eqb-true}
 use Rattle.lists.specs.Lists.{Row, keep, all}
-use Rattle.lists.specs.Keep.{and-left, and-right, or-either}
+use Rattle.lists.specs.Keep.{and-left, and-right, all-true}
 use Rattle.layout.specs.Route.{table}
 use Rattle.definition.specs.State.{State, Out, also, through}
+use Rattle.definition.specs.Reference.Addresses.{Outcome, goes, refused}
 use Rattle.definition.specs.Runs.Statement.{Choice, outside}
 
 module _ (chosen : ℕ → Bool) where
@@ -61,6 +62,18 @@ module _ (chosen : ℕ → Bool) where
       mirrors-also (f x st) (f x (without st)) (through f l) (through f l) (h x (and-left (p x) (all p l) k) st)
       (apart-through f p h l (and-right (p x) (all p l) k))
 
+  pub apart-all : {A : Type 0} (f : A → State → Out) → ((x : A) → Apart (f x)) → (l : List A) → Apart (through f l)
+  apart-all f h l = apart-through f (λ x. true) (λ x e. h x) l (all-true l)
+
   pub mirrors-cond : (b : Bool) (o o′ p p′ : Out) → Mirrors o p → Mirrors o′ p′ → Mirrors (cond b o o′) (cond b p p′)
   mirrors-cond true o o′ p p′ m n = m
   mirrors-cond false o o′ p p′ m n = n
+
+  -- what a changing call comes to, with and without the chosen tables
+  pub data Tandem : Outcome → Outcome → Type 0 where
+    both-go : {o p : Out} → Mirrors o p → Tandem (goes o) (goes p)
+    both-refuse : (n : ℕ) (st : State) → Tandem (refused n st) (refused n (without st))
+
+  pub tandem-cond : (b : Bool) (o o′ p p′ : Outcome) → Tandem o p → Tandem o′ p′ → Tandem (cond b o o′) (cond b p p′)
+  tandem-cond true o o′ p p′ m n = m
+  tandem-cond false o o′ p p′ m n = n
