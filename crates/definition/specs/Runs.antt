@@ -3,3 +3,4 @@ pub mod Statement
 pub mod Projection
 pub mod Tables
 pub mod Addresses
+pub mod Routes

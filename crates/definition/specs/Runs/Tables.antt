@@ -86,7 +86,7 @@ module _ (chosen : ℕ → Bool) (choice : Choice chosen) where
       (λ e. rw (e, addTable-apart t o (st .tables)))
 
   -- ---- insertion
-  keptIn : Inserted → Inserted
+  unfoldable pub keptIn : Inserted → Inserted
   keptIn (put rows flags) = put (keep (outside chosen) rows) flags
   keptIn nothing = nothing
   keptIn (Inserted.refused n) = Inserted.refused n
@@ -121,7 +121,7 @@ module _ (chosen : ℕ → Bool) (choice : Choice chosen) where
           keep-keep (outside chosen) (λ r. before new r) rows,
         )
 
-    insert4-apart : (flags : ℕ) (rows : List Row) → insert4 new flags (keep (outside chosen) rows) ≡ keptIn (insert4 new flags rows)
+    pub insert4-apart : (flags : ℕ) (rows : List Row) → insert4 new flags (keep (outside chosen) rows) ≡ keptIn (insert4 new flags rows)
     unfolding insert4
     insert4-apart flags rows =
         rw (
