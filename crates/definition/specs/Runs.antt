@@ -4,3 +4,4 @@ pub mod Projection
 pub mod Tables
 pub mod Addresses
 pub mod Routes
+pub mod Struck

@@ -6,7 +6,7 @@ use mathlib.Core.List.{List, [], _∷_, _++_, reverse, reverseAux, append-nil, a
 use mathlib.Core.Option.{Option, none, some}
 use lib.Dec.{eqb}
 use borrow.Author.Tests.{eqb-true}
-use Rattle.lists.specs.Lists.{Row, all, any, keep, first, removeFirst, replaceFirst, each, eqRow}
+use Rattle.lists.specs.Lists.{Row, all, any, keep, first, removeFirst, replaceFirst, pairwise, each, eqRow}
 
 -- ---- tests
 -- by cases on a test, each with its outcome
@@ -35,6 +35,10 @@ or-either false b c f g h = g h
 pub contrary : (a b : Bool) → (a ≡ true → b ≡ true) → b ≡ false → a ≡ false
 contrary true b f h = absurd (true≢false (sym (f refl) ∙ h))
 contrary false b f h = refl
+
+pub not-not : (b : Bool) → not (not b) ≡ b
+not-not true = refl
+not-not false = refl
 
 pub cond-map : {A B : Type 0} (f : A → B) (b : Bool) (x y : A) → f (cond b x y) ≡ cond b (f x) (f y)
 cond-map f true x y = refl
@@ -165,6 +169,26 @@ module _ {A : Type 0} where
     replaceFirst-without y k (x ∷ l) =
         byCase (p x) (λ e. rw (e, k, i x e))
         (λ e. rw e (byCase (q x) (λ f. rw (f, replaceFirst-without y k l)) (λ f. rw f (replaceFirst-without y k l))))
+
+-- ---- a list in an order
+module _ {A : Type 0} (r : A → A → Bool) (p : A → Bool) (i : (a b : A) → r a b ≡ true → p b ≡ true → p a ≡ true) where
+  -- behind an element that fails, none passes
+  keep-behind : (x : A) → p x ≡ false → (l : List A) → all (r x) l ≡ true → keep p l ≡ []
+  keep-behind x e [] h = refl
+  keep-behind x e (y ∷ l) h =
+      let f = contrary (p y) (p x) (i x y (and-left (r x y) (all (r x) l) h)) e in
+      rw f (keep-behind x e l (and-right (r x y) (all (r x) l) h))
+
+  -- where what passes stands in front, the list is what passes and then what fails
+  pub keep-split : (l : List A) → pairwise r l ≡ true → keep p l ++ keep (λ x. not (p x)) l ≡ l
+  keep-split [] h = refl
+  keep-split (x ∷ l) h =
+      let later = keep-split l (and-right (all (r x) l) (pairwise r l) h) in
+      byCase (p x) (λ e. rw (e, later))
+      (λ e.
+      let none-passes = keep-behind x e l (and-left (all (r x) l) (pairwise r l) h) in
+      let rest : keep (λ x. not (p x)) l ≡ l = rw none-passes at later in
+      rw (e, none-passes, rest))
 
 -- two rows that are the same words are one
 pub eqRow-true : (r s : Row) → eqRow r s ≡ true → r ≡ s

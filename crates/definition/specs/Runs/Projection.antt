@@ -13,6 +13,11 @@ use Rattle.definition.specs.State.{State, Out, also, through}
 use Rattle.definition.specs.Reference.Addresses.{Outcome, goes, refused}
 use Rattle.definition.specs.Runs.Statement.{Choice, outside}
 
+-- the state that a changing call leaves, if that keeps to the limits
+abbrev pub result : Outcome → State
+result (goes o) = o .state
+result (refused n st) = st
+
 module _ (chosen : ℕ → Bool) where
   -- a table that isn't chosen
   abbrev pub unchosen : ℕ → Bool
