@@ -4,4 +4,5 @@ pub mod Words
 pub mod Call
 pub mod Step
 pub mod Computing
+pub mod Kept
 pub mod Runs

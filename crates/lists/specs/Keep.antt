@@ -1,35 +1,15 @@
 -- What the tests on lists have to do with one another: a part of a list that a test keeps, and another test, or a search, on that part.
-use Prim.Native.Nat.{ℕ}
 use mathlib.Core.Path.{_≡_, refl, sym, _∙_, ap}
-use mathlib.Core.Bool.{Bool, true, false, cond, not, _&&_, _||_, true≢false, false≢true}
-use mathlib.Core.List.{List, [], _∷_, _++_, reverse, reverseAux, append-nil, append-assoc}
-use mathlib.Core.Option.{Option, none, some}
-use lib.Dec.{eqb}
-use borrow.Author.Tests.{eqb-true}
-use Rattle.lists.specs.Lists.{Row, all, any, keep, first, removeFirst, replaceFirst, pairwise, each, eqRow}
+use mathlib.Core.Bool.{Bool, true, false, cond, not, _&&_, true≢false}
+use mathlib.Core.List.{List, [], _∷_, _++_, reverse, reverseAux}
+use Rattle.lists.specs.Lists.{all, any, keep, first, removeFirst, replaceFirst, pairwise, each}
+use Rattle.lists.specs.All.{and-left, and-right}
 
 -- ---- tests
 -- by cases on a test, each with its outcome
 pub byCase : {G : Type 0} (b : Bool) → (b ≡ true → G) → (b ≡ false → G) → G
 byCase true t f = t refl
 byCase false t f = f refl
-
--- the two halves of a test that holds
-pub and-left : (a b : Bool) → (a && b) ≡ true → a ≡ true
-and-left true b h = refl
-and-left false b h = h
-
-pub and-right : (a b : Bool) → (a && b) ≡ true → b ≡ true
-and-right true b h = h
-and-right false b h = absurd (false≢true h)
-
-pub and-both : (a b : Bool) → a ≡ true → b ≡ true → (a && b) ≡ true
-and-both a b h k = rw (h, k)
-
--- a test that both sides of a choice pass
-pub or-either : (a b c : Bool) → (a ≡ true → c ≡ true) → (b ≡ true → c ≡ true) → (a || b) ≡ true → c ≡ true
-or-either true b c f g h = f refl
-or-either false b c f g h = g h
 
 -- what follows from a test that holds doesn't hold where the test fails
 pub contrary : (a b : Bool) → (a ≡ true → b ≡ true) → b ≡ false → a ≡ false
@@ -76,29 +56,9 @@ module _ {A : Type 0} where
       go [] m = refl
       go (x ∷ l) m = go l (x ∷ m) ∙ byCase (p x) (λ e. rw e) (λ e. rw e)
 
-  pub keep-all : (p : A → Bool) (l : List A) → all p (keep p l) ≡ true
-  keep-all p [] = refl
-  keep-all p (x ∷ l) = byCase (p x) (λ e. rw (e, e, keep-all p l)) (λ e. rw (e, keep-all p l))
-
-  pub all-implied : (p q : A → Bool) → Implies p q → (l : List A) → all p l ≡ true → all q l ≡ true
-  all-implied p q i [] h = refl
-  all-implied p q i (x ∷ l) h =
-      and-both (q x) (all q l) (i x (and-left (p x) (all p l) h)) (all-implied p q i l (and-right (p x) (all p l) h))
-
-  pub all-true : (l : List A) → all (λ x. true) l ≡ true
-  all-true [] = refl
-  all-true (x ∷ l) = all-true l
-
-  pub all-append : (p : A → Bool) (l m : List A) → all p (l ++ m) ≡ (all p l && all p m)
-  all-append p [] m = refl
-  all-append p (x ∷ l) m = byCase (p x) (λ e. rw (e, all-append p l m)) (λ e. rw e)
-
-  -- of elements that all pass, those that another test keeps
-  pub all-keep : (p q : A → Bool) (l : List A) → all p l ≡ true → all p (keep q l) ≡ true
-  all-keep p q [] h = refl
-  all-keep p q (x ∷ l) h =
-      let ih = all-keep p q l (and-right (p x) (all p l) h) in
-      byCase (q x) (λ e. rw e (and-both (p x) (all p (keep q l)) (and-left (p x) (all p l) h) ih)) (λ e. rw e ih)
+  pub all-joined : (p : A → Bool) (l m : List A) → all p (l ++ m) ≡ (all p l && all p m)
+  all-joined p [] m = refl
+  all-joined p (x ∷ l) m = byCase (p x) (λ e. rw (e, all-joined p l m)) (λ e. rw e)
 
   pub keep-keep : (p q : A → Bool) (l : List A) → keep p (keep q l) ≡ keep q (keep p l)
   keep-keep p q [] = refl
@@ -189,13 +149,3 @@ module _ {A : Type 0} (r : A → A → Bool) (p : A → Bool) (i : (a b : A) →
       let none-passes = keep-behind x e l (and-left (all (r x) l) (pairwise r l) h) in
       let rest : keep (λ x. not (p x)) l ≡ l = rw none-passes at later in
       rw (e, none-passes, rest))
-
--- two rows that are the same words are one
-pub eqRow-true : (r s : Row) → eqRow r s ≡ true → r ≡ s
-eqRow-true [] [] h = refl
-eqRow-true [] (y ∷ m) h = absurd (false≢true h)
-eqRow-true (x ∷ l) [] h = absurd (false≢true h)
-eqRow-true (x ∷ l) (y ∷ m) h =
-    let e : x ≡ y = eqb-true x y (and-left (eqb x y) (eqRow l m) h) in
-    let f : l ≡ m = eqRow-true l m (and-right (eqb x y) (eqRow l m) h) in
-    rw (e, f)

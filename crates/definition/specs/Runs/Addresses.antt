@@ -7,7 +7,8 @@ use mathlib.Core.Option.{Option, none, some}
 use lib.Dec.{eqb}
 use lib.ListN.{length}
 use Rattle.lists.specs.Lists.{Row, keep, all, any, first, removeFirst, eqRow}
-use Rattle.lists.specs.Keep.{Implies, byCase, and-left, cond-map, cond-same, all-append, all-keep, all-implied, keep-all, keep-keep, keep-within}
+use Rattle.lists.specs.All.{all-keep, all-kept, all-mono}
+use Rattle.lists.specs.Keep.{Implies, byCase, cond-map, cond-same, all-joined, keep-keep, keep-within}
 use Rattle.layout.specs.Address.{local}
 use Rattle.layout.specs.Route as Route
 use Rattle.layout.specs.Route.{table, dst, len, kind}
@@ -33,7 +34,7 @@ module _ (chosen : ℕ → Bool) (choice : Choice chosen) where
   upRoutes-outside : (source : ℕ) (a : Row) → all (outside chosen) (upRoutes source a) ≡ true
   unfolding upRoutes prefixRoute
   upRoutes-outside source a =
-      simp (all-append, only-outside, kernelRoute-outside, cond-same)
+      simp (all-joined, only-outside, kernelRoute-outside, cond-same)
 
   localRoute-outside : (source : ℕ) (a : Row) → outside chosen (localRoute source a) ≡ true
   unfolding localRoute kernelRoute
@@ -102,8 +103,8 @@ module _ (chosen : ℕ → Bool) (choice : Choice chosen) where
   leaving-outside addresses a =
       let source = primaryOf addresses a in
       rw (
-        all-append (outside chosen) (map anyPriority (keep (ofKind localKind) (upRoutes source a))) (keep (ofKind broadcastKind) (upRoutes source a) ++ (localRoute source a ∷ [])),
-        all-append (outside chosen) (keep (ofKind broadcastKind) (upRoutes source a)) (localRoute source a ∷ []),
+        all-joined (outside chosen) (map anyPriority (keep (ofKind localKind) (upRoutes source a))) (keep (ofKind broadcastKind) (upRoutes source a) ++ (localRoute source a ∷ [])),
+        all-joined (outside chosen) (keep (ofKind broadcastKind) (upRoutes source a)) (localRoute source a ∷ []),
         anyPriority-outside (keep (ofKind localKind) (upRoutes source a)),
         all-keep (outside chosen) (ofKind broadcastKind) (upRoutes source a) (upRoutes-outside source a),
         localRoute-outside source a,
@@ -132,7 +133,7 @@ module _ (chosen : ℕ → Bool) (choice : Choice chosen) where
   unfolding falling
   falling-outside ip st =
       byCase (listed mainTable st)
-      (λ e. rw e (all-implied (straysFrom ip) (outside chosen) (strays-outside ip) (keep (straysFrom ip) (st .routes)) (keep-all (straysFrom ip) (st .routes))))
+      (λ e. rw e (all-mono (straysFrom ip) (outside chosen) (keep (straysFrom ip) (st .routes)) (strays-outside ip) (all-kept (straysFrom ip) (st .routes))))
       (λ e. rw e)
 
   falling-apart : (ip : ℕ) (st : State) → falling ip (without chosen st) ≡ falling ip st

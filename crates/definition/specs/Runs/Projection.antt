@@ -7,7 +7,7 @@ use mathlib.Core.Option.{Option, none, some}
 use lib.Dec.{eqb}
 use borrow.Author.Tests.{eqb-true}
 use Rattle.lists.specs.Lists.{Row, keep, all}
-use Rattle.lists.specs.Keep.{and-left, and-right, all-true}
+use Rattle.lists.specs.All.{and-left, and-right, all-always}
 use Rattle.layout.specs.Route.{table}
 use Rattle.definition.specs.State.{State, Out, also, through}
 use Rattle.definition.specs.Reference.Addresses.{Outcome, goes, refused}
@@ -68,7 +68,7 @@ module _ (chosen : ℕ → Bool) where
       (apart-through f p h l (and-right (p x) (all p l) k))
 
   pub apart-all : {A : Type 0} (f : A → State → Out) → ((x : A) → Apart (f x)) → (l : List A) → Apart (through f l)
-  apart-all f h l = apart-through f (λ x. true) (λ x e. h x) l (all-true l)
+  apart-all f h l = apart-through f (λ x. true) (λ x e. h x) l (all-always (λ x. true) l (λ x. refl))
 
   pub mirrors-cond : (b : Bool) (o o′ p p′ : Out) → Mirrors o p → Mirrors o′ p′ → Mirrors (cond b o o′) (cond b p p′)
   mirrors-cond true o o′ p p′ m n = m

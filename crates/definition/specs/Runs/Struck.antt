@@ -9,7 +9,8 @@ use mathlib.Core.Option.{Option, none, some}
 use lib.Dec.{eqb, ltb}
 use borrow.Author.Tests.{eqb-true, eq-eqb, ltb-true, ltb-false, not-true, lt-ltb, le-ltb}
 use Rattle.lists.specs.Lists.{Row, keep, any, first, eqRow, removeFirst, replaceFirst, among}
-use Rattle.lists.specs.Keep.{byCase, contrary, keep-false, and-left, and-right, not-not, keep-append, keep-split, keep-none, removeFirst-without, replaceFirst-without}
+use Rattle.lists.specs.All.{and-left, and-right}
+use Rattle.lists.specs.Keep.{byCase, contrary, keep-false, not-not, keep-append, keep-split, keep-none, removeFirst-without, replaceFirst-without}
 use Rattle.layout.specs.Route.{table, dst, len, tos, priority, before, alike, prefsrcPresent}
 use Rattle.layout.specs.Request.{nlmFlags}
 use Rattle.definition.specs.State.{State, withRoutes}

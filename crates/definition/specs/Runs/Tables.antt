@@ -7,7 +7,8 @@ use mathlib.Core.Option.{Option, none, some}
 use lib.Dec.{eqb}
 use borrow.Author.Tests.{eqb-true}
 use Rattle.lists.specs.Lists.{Row, keep, all, any, first, removeFirst, replaceFirst, eqRow, among}
-use Rattle.lists.specs.Keep.{Implies, byCase, and-left, and-right, or-either, cond-map, keep-append, keep-keep, keep-true, keep-within, any-within, first-within, removeFirst-within, replaceFirst-within, eqRow-true}
+use Rattle.lists.specs.All.{and-left, and-right, or-case, eqRow-true}
+use Rattle.lists.specs.Keep.{Implies, byCase, cond-map, keep-append, keep-keep, keep-within, any-within, first-within, removeFirst-within, replaceFirst-within}
 use Rattle.layout.specs.Route.{table, before, alike}
 use Rattle.definition.specs.State.{State, Out, becomes, withRoutes}
 use Rattle.definition.specs.Reference.Lookup.{Flow, Found, longest, fits, answer, together, lookupIn, lookup4, lookup4Flow, typeSet, addrType4, local4, listed, settled, ruling, refused, kindFound, flowTo, netUnreachable, broadcastKind, localKind, mainTable, localTable, defaultTable}
@@ -34,8 +35,8 @@ module _ (chosen : ℕ → Bool) (choice : Choice chosen) where
 
   either-open : (u : ℕ) → (eqb u localTable || eqb u mainTable) ≡ true → unchosen chosen u ≡ true
   either-open u h =
-      or-either (eqb u localTable) (eqb u mainTable) (unchosen chosen u) (unchosen-as chosen localTable u local-open)
-      (unchosen-as chosen mainTable u main-open) h
+      or-case (eqb u localTable) (eqb u mainTable) h (unchosen-as chosen localTable u local-open)
+      (unchosen-as chosen mainTable u main-open)
 
   -- the sets that lookups read hold no chosen table
   pub together-open : (t : ℕ) → Implies (together t) (unchosen chosen)

@@ -1,0 +1,5 @@
+-- What every call keeps: the words' form, the lists' order, the limits.
+pub mod Fit
+pub mod Encode
+pub mod Order
+pub mod Routes
