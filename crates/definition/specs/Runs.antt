@@ -5,3 +5,5 @@ pub mod Tables
 pub mod Addresses
 pub mod Routes
 pub mod Struck
+pub mod Calls
+pub mod Apart

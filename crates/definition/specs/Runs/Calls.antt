@@ -1,0 +1,158 @@
+-- The calls by what they do to a state, without limits: what a call on sound words replies and leaves, unless it answers 203.
+use Prim.Native.Nat.{ℕ}
+use mathlib.Core.Path.{_≡_, refl, sym, _∙_, ap}
+use mathlib.Core.Bool.{Bool, true, false, cond, not, _&&_, false≢true}
+use mathlib.Core.List.{List, [], _∷_}
+use lib.Dec.{eqb, leb, ltb}
+use lib.ListN.{length}
+use borrow.Author.Tests.{eq-eqb}
+use Rattle.lists.specs.Keep.{byCase}
+use Rattle.life.specs.Life.{allowance}
+use Rattle.layout.specs.Address.{optional}
+use Rattle.layout.specs.Route as Route
+use Rattle.layout.specs.Route.{fitRoute}
+use Rattle.layout.specs.Request.{addV4Size, fitAddV4, delV4Size, fitDelV4, addRoute4Size, fitAddRoute4, delRoute4Size, fitDelRoute4}
+use Rattle.definition.specs.State.{State, Out, sizes}
+use Rattle.definition.specs.Words.{within, stateSize, encode, decode, wellFormed}
+use Rattle.definition.specs.Call.{Call, Reply, refusal, valued, written, optionally, foundRow}
+use Rattle.definition.specs.Reference.Lookup.{lookup4, lookup4Flow, local4}
+use Rattle.definition.specs.Reference.Addresses.{Outcome, goes, refused, addV4, up, down}
+use Rattle.definition.specs.Reference.Removal.{delV4, expire}
+use Rattle.definition.specs.Reference.Routes.{addRoute4, delRoute4Request}
+use Rattle.definition.specs.Reference.Source.{dump4, select4, source4, source, present}
+use Rattle.definition.specs.Step.{Result, checks, outcome, changing, reading, eventsFit, requestIs, listingRoom, clockLimit, upCall, downCall, addV4Call, delV4Call, expireCall, addRoute4Call, delRoute4Call, dump4Call, lookup4Call, lookup4FlowCall, local4Call, source4Call, sourceCall, select4Call, step}
+use Rattle.definition.specs.Kept.Encode.{Good, length-encode, decode-encode, wellFormed-encode, good-decode}
+use Rattle.definition.specs.Runs.Projection.{result}
+
+-- what a call does, with the tests of its buffers, of a row handed over and of its request
+pub data Deed : Type 0 where
+  changes : (buffers request : Bool) → (State → Outcome) → Deed
+  reads : (buffers row request : Bool) → (State → Reply) → Deed
+
+abbrev pub deed : Call → Deed
+deed (Call.up events now) = changes (eventsFit events) true (λ st. goes (up now st))
+deed (Call.down events) = changes (eventsFit events) true (λ st. goes (down st))
+deed (Call.addV4 q events now) = changes (requestIs addV4Size q && eventsFit events) (fitAddV4 q) (addV4 q now)
+deed (Call.delV4 q events) = changes (requestIs delV4Size q && eventsFit events) (fitDelV4 q) (delV4 q)
+deed (Call.expire events now) = changes (eventsFit events) (leb now clockLimit) (λ st. goes (expire allowance now st))
+deed (Call.addRoute4 q events) =
+    changes (requestIs addRoute4Size q && eventsFit events) (fitAddRoute4 q) (addRoute4 q)
+deed (Call.delRoute4 q events) =
+    changes (requestIs delRoute4Size q && eventsFit events) (fitDelRoute4 q) (delRoute4Request q)
+deed (Call.dump4 listing) = reads (leb listingRoom listing) true true (λ st. written (dump4 st))
+deed (Call.lookup4 rowRoom ip) = reads (leb Route.size rowRoom) true true (λ st. foundRow (lookup4 st ip))
+deed (Call.lookup4Flow rowRoom ip tos oif) =
+    reads (leb Route.size rowRoom) true (ltb tos 256) (λ st. foundRow (lookup4Flow st ip tos oif))
+deed (Call.local4 ip) = reads true true true (λ st. valued (cond (local4 st ip) 1 0))
+deed (Call.source4 row ip) = reads true (fitRoute row) true (λ st. optionally (source4 (st .addresses) row ip))
+deed (Call.source ip) = reads true true true (λ st. valued (source st ip))
+deed (Call.select4 dstPresent dst scope) =
+    reads true true (optional dstPresent dst && ltb scope 256)
+    (λ st. optionally (select4 (st .addresses) (present dstPresent dst) scope))
+
+-- on words
+abbrev pub performed : Deed → List ℕ → Result
+performed (changes buffers request f) w = changing buffers request f w
+performed (reads buffers row request f) w = reading buffers row request f w
+
+pub step-performed : (c : Call) (w : List ℕ) → step c w ≡ performed (deed c) w
+unfolding step upCall downCall addV4Call delV4Call expireCall addRoute4Call delRoute4Call dump4Call lookup4Call lookup4FlowCall local4Call source4Call sourceCall select4Call
+step-performed (Call.up events now) w = refl
+step-performed (Call.down events) w = refl
+step-performed (Call.addV4 q events now) w = refl
+step-performed (Call.delV4 q events) w = refl
+step-performed (Call.expire events now) w = refl
+step-performed (Call.addRoute4 q events) w = refl
+step-performed (Call.delRoute4 q events) w = refl
+step-performed (Call.dump4 listing) w = refl
+step-performed (Call.lookup4 rowRoom ip) w = refl
+step-performed (Call.lookup4Flow rowRoom ip tos oif) w = refl
+step-performed (Call.local4 ip) w = refl
+step-performed (Call.source4 row ip) w = refl
+step-performed (Call.source ip) w = refl
+step-performed (Call.select4 dstPresent dst scope) w = refl
+
+-- ---- without limits
+-- a reply, and the state afterwards
+pub record Done : Type 0 where
+  pub reply : Reply
+  pub state : State
+
+abbrev pub answered : Outcome → Reply
+answered (goes o) = written (o .told)
+answered (refused n st) = refusal n
+
+unfoldable pub freely : Deed → State → Done
+freely (changes buffers request f) st =
+    let n = checks buffers true request in
+    cond (eqb n 0) (record { reply = answered (f st); state = result (f st) }) (record { reply = refusal n; state = st })
+freely (reads buffers row request f) st =
+    let n = checks buffers row request in
+    record { reply = cond (eqb n 0) (f st) (refusal n); state = st }
+
+-- words that are a state
+pub record Sound (w : List ℕ) : Type 0 where
+  pub long : length w ≡ stateSize
+  pub formed : wellFormed w ≡ true
+
+-- the lists keep to their limits all through
+abbrev pub roomy : Outcome → Bool
+roomy (goes o) = within (o .peak)
+roomy (refused n st) = within (sizes st)
+
+-- a deed leaves a good state, if there is room
+abbrev pub Keeping : Deed → Type 0
+Keeping (changes buffers request f) =
+    buffers ≡ true → request ≡ true → (st : State) → Good st → roomy (f st) ≡ true → Good (result (f st))
+Keeping (reads buffers row request f) = Unit {0}
+
+-- the call on words comes to what the deed does without limits
+pub record Follows (d : Deed) (w : List ℕ) : Type 0 where
+  pub sound : Sound (performed d w .words)
+  pub reply : performed d w .reply ≡ freely d (decode w) .reply
+  pub state : decode (performed d w .words) ≡ freely d (decode w) .state
+
+spaced : Result → Bool
+spaced r = not (eqb (r .reply .number) 203)
+
+changing-sound : (buffers request : Bool) (f : State → Outcome) (w : List ℕ) → Sound w → changing buffers request f w ≡ cond (eqb (checks buffers true request) 0) (outcome (f (decode w)) w) (record { reply = refusal (checks buffers true request); words = w })
+unfolding changing
+changing-sound buffers request f w s = rw (eq-eqb (length w) stateSize (s .long), s .formed)
+
+outcome-roomy : (o : Outcome) (w : List ℕ) → outcome o w ≡ cond (roomy o) (record { reply = answered o; words = encode (result o) }) (record { reply = refusal 203; words = w })
+outcome-roomy (goes o) w = refl
+outcome-roomy (refused n st) w = refl
+
+follows-as : (d : Deed) (w : List ℕ) (r : Result) → performed d w ≡ r → Sound (r .words) → r .reply ≡ freely d (decode w) .reply → decode (r .words) ≡ freely d (decode w) .state → Follows d w
+follows-as d w r e s f g =
+    record { sound = rw e s; reply = ap (λ x. x .reply) e ∙ f; state = ap (λ x. decode (x .words)) e ∙ g }
+
+follows-changes : (buffers request : Bool) (f : State → Outcome) → Keeping (changes buffers request f) → (w : List ℕ) → Sound w → spaced (changing buffers request f w) ≡ true → Follows (changes buffers request f) w
+unfolding freely spaced
+follows-changes false request f k w s h = follows-as _ w _ (changing-sound false request f w s) s refl refl
+follows-changes true false f k w s h = follows-as _ w _ (changing-sound true false f w s) s refl refl
+follows-changes true true f k w s h =
+    let o = f (decode w) in
+    let e : changing true true f w ≡ cond (roomy o) (record { reply = answered o; words = encode (result o) }) (record { reply = refusal 203; words = w }) =
+    changing-sound true true f w s ∙ outcome-roomy o w
+    in
+    byCase (roomy o)
+    (λ room.
+    let g = k refl refl (decode w) (good-decode w (s .long) (s .formed)) room in
+    follows-as _ w (record { reply = answered o; words = encode (result o) }) (e ∙ rw room)
+    (record { long = length-encode (result o) g; formed = wellFormed-encode (result o) g }) refl (decode-encode (result o) g))
+    (λ full. absurd (false≢true (rw (e, full) at h)))
+
+follows-reads : (buffers row request : Bool) (f : State → Reply) (w : List ℕ) → Sound w → Follows (reads buffers row request f) w
+unfolding reading freely
+follows-reads buffers row request f w s =
+    record {
+      sound = s;
+      reply = rw (eq-eqb (length w) stateSize (s .long), s .formed);
+      state = refl;
+    }
+
+pub follows : (d : Deed) → Keeping d → (w : List ℕ) → Sound w → not (eqb (performed d w .reply .number) 203) ≡ true → Follows d w
+unfolding spaced
+follows (changes buffers request f) k w s h = follows-changes buffers request f k w s h
+follows (reads buffers row request f) k w s h = follows-reads buffers row request f w s
