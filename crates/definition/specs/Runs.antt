@@ -7,3 +7,4 @@ pub mod Routes
 pub mod Struck
 pub mod Calls
 pub mod Apart
+pub mod Theorem

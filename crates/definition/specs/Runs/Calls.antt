@@ -51,11 +51,11 @@ deed (Call.select4 dstPresent dst scope) =
     (λ st. optionally (select4 (st .addresses) (present dstPresent dst) scope))
 
 -- on words
-abbrev pub performed : Deed → List ℕ → Result
+abbrev performed : Deed → List ℕ → Result
 performed (changes buffers request f) w = changing buffers request f w
 performed (reads buffers row request f) w = reading buffers row request f w
 
-pub step-performed : (c : Call) (w : List ℕ) → step c w ≡ performed (deed c) w
+step-performed : (c : Call) (w : List ℕ) → step c w ≡ performed (deed c) w
 unfolding step upCall downCall addV4Call delV4Call expireCall addRoute4Call delRoute4Call dump4Call lookup4Call lookup4FlowCall local4Call source4Call sourceCall select4Call
 step-performed (Call.up events now) w = refl
 step-performed (Call.down events) w = refl
@@ -106,13 +106,14 @@ Keeping (changes buffers request f) =
     buffers ≡ true → request ≡ true → (st : State) → Good st → roomy (f st) ≡ true → Good (result (f st))
 Keeping (reads buffers row request f) = Unit {0}
 
--- the call on words comes to what the deed does without limits
-pub record Follows (d : Deed) (w : List ℕ) : Type 0 where
-  pub sound : Sound (performed d w .words)
-  pub reply : performed d w .reply ≡ freely d (decode w) .reply
-  pub state : decode (performed d w .words) ≡ freely d (decode w) .state
+-- what a call on the words w came to is what the deed does without limits
+pub record Follows (d : Deed) (w : List ℕ) (r : Result) : Type 0 where
+  pub sound : Sound (r .words)
+  pub reply : r .reply ≡ freely d (decode w) .reply
+  pub state : decode (r .words) ≡ freely d (decode w) .state
 
-spaced : Result → Bool
+-- it isn't refused for want of space
+abbrev pub spaced : Result → Bool
 spaced r = not (eqb (r .reply .number) 203)
 
 changing-sound : (buffers request : Bool) (f : State → Outcome) (w : List ℕ) → Sound w → changing buffers request f w ≡ cond (eqb (checks buffers true request) 0) (outcome (f (decode w)) w) (record { reply = refusal (checks buffers true request); words = w })
@@ -123,14 +124,12 @@ outcome-roomy : (o : Outcome) (w : List ℕ) → outcome o w ≡ cond (roomy o) 
 outcome-roomy (goes o) w = refl
 outcome-roomy (refused n st) w = refl
 
-follows-as : (d : Deed) (w : List ℕ) (r : Result) → performed d w ≡ r → Sound (r .words) → r .reply ≡ freely d (decode w) .reply → decode (r .words) ≡ freely d (decode w) .state → Follows d w
-follows-as d w r e s f g =
-    record { sound = rw e s; reply = ap (λ x. x .reply) e ∙ f; state = ap (λ x. decode (x .words)) e ∙ g }
-
-follows-changes : (buffers request : Bool) (f : State → Outcome) → Keeping (changes buffers request f) → (w : List ℕ) → Sound w → spaced (changing buffers request f w) ≡ true → Follows (changes buffers request f) w
-unfolding freely spaced
-follows-changes false request f k w s h = follows-as _ w _ (changing-sound false request f w s) s refl refl
-follows-changes true false f k w s h = follows-as _ w _ (changing-sound true false f w s) s refl refl
+follows-changes : (buffers request : Bool) (f : State → Outcome) → Keeping (changes buffers request f) → (w : List ℕ) → Sound w → spaced (changing buffers request f w) ≡ true → Follows (changes buffers request f) w (changing buffers request f w)
+unfolding freely
+follows-changes false request f k w s h =
+    rw (changing-sound false request f w s) (record { sound = s; reply = refl; state = refl })
+follows-changes true false f k w s h =
+    rw (changing-sound true false f w s) (record { sound = s; reply = refl; state = refl })
 follows-changes true true f k w s h =
     let o = f (decode w) in
     let e : changing true true f w ≡ cond (roomy o) (record { reply = answered o; words = encode (result o) }) (record { reply = refusal 203; words = w }) =
@@ -139,11 +138,15 @@ follows-changes true true f k w s h =
     byCase (roomy o)
     (λ room.
     let g = k refl refl (decode w) (good-decode w (s .long) (s .formed)) room in
-    follows-as _ w (record { reply = answered o; words = encode (result o) }) (e ∙ rw room)
-    (record { long = length-encode (result o) g; formed = wellFormed-encode (result o) g }) refl (decode-encode (result o) g))
+    rw (e, room)
+    (record {
+      sound = record { long = length-encode (result o) g; formed = wellFormed-encode (result o) g };
+      reply = refl;
+      state = decode-encode (result o) g;
+    }))
     (λ full. absurd (false≢true (rw (e, full) at h)))
 
-follows-reads : (buffers row request : Bool) (f : State → Reply) (w : List ℕ) → Sound w → Follows (reads buffers row request f) w
+follows-reads : (buffers row request : Bool) (f : State → Reply) (w : List ℕ) → Sound w → Follows (reads buffers row request f) w (reading buffers row request f w)
 unfolding reading freely
 follows-reads buffers row request f w s =
     record {
@@ -152,7 +155,9 @@ follows-reads buffers row request f w s =
       state = refl;
     }
 
-pub follows : (d : Deed) → Keeping d → (w : List ℕ) → Sound w → not (eqb (performed d w .reply .number) 203) ≡ true → Follows d w
-unfolding spaced
+follows : (d : Deed) → Keeping d → (w : List ℕ) → Sound w → spaced (performed d w) ≡ true → Follows d w (performed d w)
 follows (changes buffers request f) k w s h = follows-changes buffers request f k w s h
 follows (reads buffers row request f) k w s h = follows-reads buffers row request f w s
+
+pub step-follows : (c : Call) → Keeping (deed c) → (w : List ℕ) → Sound w → spaced (step c w) ≡ true → Follows (deed c) w (step c w)
+step-follows c k w s h = rw (step-performed c w) (follows (deed c) k w s (rw (step-performed c w) at h))
