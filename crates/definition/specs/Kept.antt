@@ -3,3 +3,9 @@ pub mod Fit
 pub mod Encode
 pub mod Order
 pub mod Routes
+pub mod Keeps
+pub mod Rows
+pub mod Steps
+pub mod Removal
+pub mod Requests
+pub mod Step
