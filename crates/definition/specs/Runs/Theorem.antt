@@ -12,10 +12,11 @@ use Rattle.definition.specs.Words.{decode, encode, ordered}
 use Rattle.definition.specs.Call.{Call, Reply}
 use Rattle.definition.specs.Step.{step}
 use Rattle.definition.specs.Kept.Fit.{fit-state}
-use Rattle.definition.specs.Kept.Encode.{good-decode, good-empty, length-encode, wellFormed-encode, encode-empty}
+use Rattle.definition.specs.Kept.Encode.{good-decode}
+use Rattle.definition.specs.Kept.Step.{Held, held-empty}
 use Rattle.definition.specs.Runs.Statement.{Choice, struck, unstruck, Agree, emptyWords, after, spacious, compared, observed, View, view, Alike, TwoRuns}
 use Rattle.definition.specs.Runs.Projection.{without}
-use Rattle.definition.specs.Runs.Calls.{deed, freely, Keeping, Sound, spaced, step-follows}
+use Rattle.definition.specs.Runs.Calls.{deed, freely, spaced, step-follows}
 use Rattle.definition.specs.Runs.Apart.{Same, same, hidden}
 
 -- ---- a run without limits, on states
@@ -32,20 +33,20 @@ last (c ∷ cs) st = last cs (freely (deed c) st .state)
 seen : State → View
 seen st = record { addresses = st .addresses; routes = st .routes }
 
-module _ (keeping : (c : Call) → Keeping (deed c)) (chosen : ℕ → Bool) (choice : Choice chosen) where
+module _ (chosen : ℕ → Bool) (choice : Choice chosen) where
   -- the run on words answers, and ends, as what isn't struck does without the chosen tables
   record Projects (cs : List Call) (w : List ℕ) : Type 0 where
     answers : observed chosen cs w ≡ ideal chosen (unstruck chosen cs) (without chosen (decode w))
     ends : without chosen (decode (after cs w)) ≡ last (unstruck chosen cs) (without chosen (decode w))
 
-  projects : (cs : List Call) (w : List ℕ) → Sound w → spacious cs w ≡ true → Projects cs w
+  projects : (cs : List Call) (w : List ℕ) → Held w → spacious cs w ≡ true → Projects cs w
   unfolding observed after spacious ideal last
   projects [] w s h = record { answers = refl; ends = refl }
   projects (c ∷ cs) w s h =
       let w′ = step c w .words in
-      let f = step-follows c (keeping c) w s (and-left (spaced (step c w)) (spacious cs w′) h) in
-      let later = projects cs w′ (f .sound) (and-right (spaced (step c w)) (spacious cs w′) h) in
-      let inOrder = fit-state (decode w) (good-decode w (s .long) (s .formed) .fits) .ofRoutes .inOrder in
+      let f = step-follows c w s (and-left (spaced (step c w)) (spacious cs w′) h) in
+      let later = projects cs w′ (f .held) (and-right (spaced (step c w)) (spacious cs w′) h) in
+      let inOrder = fit-state (decode w) (good-decode w (s .long) (s .well) .fits) .ofRoutes .inOrder in
       byCase (struck chosen c)
       (λ e.
       let unseen : without chosen (decode w′) ≡ without chosen (decode w) =
@@ -63,15 +64,11 @@ module _ (keeping : (c : Call) → Keeping (deed c)) (chosen : ℕ → Bool) (ch
       })
 
 -- ---- the claim
-sound-empty : Sound emptyWords
-sound-empty =
-    rw (sym encode-empty) (record { long = length-encode empty good-empty; formed = wellFormed-encode empty good-empty })
-
-pub two-runs-kept : ((c : Call) → Keeping (deed c)) → TwoRuns
+pub two-runs : TwoRuns
 unfolding seen
-two-runs-kept keeping chosen choice cs ds agree h k =
-    let p = projects keeping chosen choice cs emptyWords sound-empty h in
-    let q = projects keeping chosen choice ds emptyWords sound-empty k in
+two-runs chosen choice cs ds agree h k =
+    let p = projects chosen choice cs emptyWords held-empty h in
+    let q = projects chosen choice ds emptyWords held-empty k in
     record {
       answers = p .answers ∙ ap (λ l. ideal chosen l (without chosen (decode emptyWords))) agree ∙ sym (q .answers);
       afterwards = ap seen (p .ends ∙ ap (λ l. last l (without chosen (decode emptyWords))) agree ∙ sym (q .ends));
