@@ -6,3 +6,4 @@ pub mod Step
 pub mod Computing
 pub mod Laws
 pub mod Kept
+pub mod Runs

@@ -5,3 +5,4 @@ pub mod Place
 pub mod Parts
 pub mod Laid
 pub mod Count
+pub mod Keep

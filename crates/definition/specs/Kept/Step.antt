@@ -84,11 +84,11 @@ unfolding reading
 reading-held buffers row request f w h = h
 
 -- a step that always goes on
-going : (f : State → Out) → Keeps f → KeepsOutcome (λ st. goes (f st))
+pub going : (f : State → Out) → Keeps f → KeepsOutcome (λ st. goes (f st))
 going f k = record { kept = k .kept }
 
 -- the request has its words
-sized-request : (n events : ℕ) (q : Row) → requestIs n q && eventsFit events ≡ true → length q ≡ n
+pub sized-request : (n events : ℕ) (q : Row) → requestIs n q && eventsFit events ≡ true → length q ≡ n
 sized-request n events q h = eqb-true (length q) n (and-left (requestIs n q) (eventsFit events) h)
 
 pub step-held : (c : Call) (w : List ℕ) → Held w → Held ((step c w) .words)
