@@ -5,6 +5,7 @@ pub mod call;
 pub mod checks;
 pub mod compare;
 pub mod coverage;
+pub mod document;
 pub mod examples;
 pub mod facts;
 pub mod faults;
