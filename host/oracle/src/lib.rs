@@ -16,6 +16,7 @@ pub mod linux;
 pub mod model;
 pub mod pairs;
 pub mod port;
+pub mod rfc;
 pub mod rng;
 pub mod script;
 pub mod vectors;

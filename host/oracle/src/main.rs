@@ -1,12 +1,13 @@
 //! The oracle's commands. Every one ends with a line of counts; the exit
 //! status is 0 only if nothing failed.
-use oracle::{coverage, document, examples, facts, faults, json, linux, pairs, vectors};
+use oracle::{coverage, document, examples, facts, faults, json, linux, pairs, rfc, vectors};
 use std::process::ExitCode;
 use std::time::Instant;
 
 const USAGE: &str = "usage: oracle COMMAND
   examples               document 01's examples on the Rust
   linux                  the known differences from Linux, the Rust's side
+  rfc                    the known differences from RFCs, the Rust's side
   facts                  what else the Rust does that is easily missed
   document [N] [SEED]    sentences of document 01 on N generated cases
   generator [N] [SEED]   what N generated cases reach
@@ -16,8 +17,9 @@ const USAGE: &str = "usage: oracle COMMAND
   replay FILE            replays such a list against the model
   cases N SEED [--large PERCENT]
                          prints N random cases as JSON lines
-  all                    all of examples, linux, facts, document, generator,
-                         pairs, selftest, and a list of answers replayed";
+  all                    all of examples, linux, rfc, facts, document,
+                         generator, pairs, selftest, and a list of answers
+                         replayed";
 
 const CASES: usize = 30_000;
 const PAIRS: usize = 3_000;
@@ -51,6 +53,7 @@ fn command(arguments: &[String]) -> Result<bool, String> {
     match name.as_str() {
         "examples" => most(0).map(|()| examples::run()),
         "linux" => most(0).map(|()| linux::run()),
+        "rfc" => most(0).map(|()| rfc::run()),
         "facts" => most(0).map(|()| facts::run()),
         "document" => {
             most(2)?;
@@ -112,9 +115,10 @@ type Part = dyn Fn() -> Result<bool, String>;
 /// Everything, and one line of counts for each part.
 fn all() -> Result<bool, String> {
     let begin = Instant::now();
-    let parts: [(&str, &Part); 8] = [
+    let parts: [(&str, &Part); 9] = [
         ("examples", &|| Ok(examples::run())),
         ("linux", &|| Ok(linux::run())),
+        ("rfc", &|| Ok(rfc::run())),
         ("facts", &|| Ok(facts::run())),
         ("document", &|| Ok(document::run(CASES, SEED))),
         ("generator", &|| Ok(coverage::run(CASES, SEED))),
