@@ -2,6 +2,7 @@
 //! word that it must leave, by the unchanged Rust.
 
 pub mod call;
+pub mod campaign;
 pub mod checks;
 pub mod compare;
 pub mod coverage;

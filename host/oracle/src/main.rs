@@ -1,6 +1,8 @@
 //! The oracle's commands. Every one ends with a line of counts; the exit
 //! status is 0 only if nothing failed.
-use oracle::{coverage, document, examples, facts, faults, json, linux, pairs, rfc, vectors};
+use oracle::{
+    checks, coverage, document, examples, facts, faults, json, linux, pairs, rfc, vectors,
+};
 use std::process::ExitCode;
 use std::time::Instant;
 
@@ -51,10 +53,10 @@ fn command(arguments: &[String]) -> Result<bool, String> {
         }
     };
     match name.as_str() {
-        "examples" => most(0).map(|()| examples::run()),
-        "linux" => most(0).map(|()| linux::run()),
-        "rfc" => most(0).map(|()| rfc::run()),
-        "facts" => most(0).map(|()| facts::run()),
+        "examples" => most(0).map(|()| checks::run("examples", examples::check)),
+        "linux" => most(0).map(|()| checks::run("linux", linux::check)),
+        "rfc" => most(0).map(|()| checks::run("rfc", rfc::check)),
+        "facts" => most(0).map(|()| checks::run("facts", facts::check)),
         "document" => {
             most(2)?;
             Ok(document::run(
@@ -116,10 +118,10 @@ type Part = dyn Fn() -> Result<bool, String>;
 fn all() -> Result<bool, String> {
     let begin = Instant::now();
     let parts: [(&str, &Part); 9] = [
-        ("examples", &|| Ok(examples::run())),
-        ("linux", &|| Ok(linux::run())),
-        ("rfc", &|| Ok(rfc::run())),
-        ("facts", &|| Ok(facts::run())),
+        ("examples", &|| Ok(checks::run("examples", examples::check))),
+        ("linux", &|| Ok(checks::run("linux", linux::check))),
+        ("rfc", &|| Ok(checks::run("rfc", rfc::check))),
+        ("facts", &|| Ok(checks::run("facts", facts::check))),
         ("document", &|| Ok(document::run(CASES, SEED))),
         ("generator", &|| Ok(coverage::run(CASES, SEED))),
         ("pairs", &|| Ok(pairs::run(PAIRS, SEED))),

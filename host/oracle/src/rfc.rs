@@ -4,13 +4,11 @@ use crate::call::{Call, Reply};
 use crate::checks::{Checks, lines};
 use crate::script::{Route, Script, address, ip, route};
 
-pub fn run() -> bool {
-    let mut checks = Checks::default();
-    longest_match(&mut checks);
-    type_of_service(&mut checks);
-    special_addresses(&mut checks);
-    broadcast(&mut checks);
-    checks.finish("rfc")
+pub fn check(checks: &mut Checks) {
+    longest_match(checks);
+    type_of_service(checks);
+    special_addresses(checks);
+    broadcast(checks);
 }
 
 fn longest_match(checks: &mut Checks) {
