@@ -42,12 +42,18 @@ pub fn run(count: usize, seed: u64) -> bool {
     let mut cases = Cases::new(seed, USUAL);
     let mut seen: BTreeMap<(u32, u32), usize> = BTreeMap::new();
     let mut flags: BTreeSet<u32> = BTreeSet::new();
+    let mut asked: BTreeSet<u32> = BTreeSet::new();
     let mut most_events = [0; 15];
     for _ in 0..count {
         let (_, mut case) = cases.next_case();
         let reply = answer(&mut case);
         let code = case.call.code();
         *seen.entry((code, reply.number)).or_default() += 1;
+        if let Call::AddRoute4 { request } = &case.call
+            && matches!(reply.number, 0 | 2 | 17)
+        {
+            asked.insert(request[14] >> 8 & 15);
+        }
         if case.call.buffer() == Buffer::Events {
             let rows = case.buffer[..written(&case.call, &reply)].chunks_exact(EVENT_WORDS);
             most_events[code as usize - 1] = rows.len().max(most_events[code as usize - 1]);
@@ -67,6 +73,9 @@ pub fn run(count: usize, seed: u64) -> bool {
     }
     let unseen = FLAGS.iter().filter(|f| !flags.contains(f));
     missed.extend(unseen.map(|f| format!("flags {f:#x}")));
+    if asked.len() < 16 {
+        missed.push(format!("{} sets of request flags", 16 - asked.len()));
+    }
     let pairs: usize = ANSWERS.iter().map(|a| a.len()).sum();
     println!(
         "generator: {count} cases; {} of {} answers and flags seen; {unfit} of {} damaged \

@@ -6,18 +6,16 @@ use crate::words::{self, encode};
 use reference::Lists;
 use std::net::Ipv4Addr;
 
-pub fn run() -> bool {
-    let mut checks = Checks::default();
-    masks(&mut checks);
-    kinds(&mut checks);
-    up(&mut checks);
-    two_addresses(&mut checks);
-    lifetimes(&mut checks);
-    lookups(&mut checks);
-    new_primaries(&mut checks);
-    refusals(&mut checks);
-    printing(&mut checks);
-    checks.finish("examples")
+pub fn check(checks: &mut Checks) {
+    masks(checks);
+    kinds(checks);
+    up(checks);
+    two_addresses(checks);
+    lifetimes(checks);
+    lookups(checks);
+    new_primaries(checks);
+    refusals(checks);
+    printing(checks);
 }
 
 fn masks(checks: &mut Checks) {
@@ -276,7 +274,7 @@ fn new_primaries(checks: &mut Checks) {
     routes("prefix 32 has its /32 only", "10.1.0.5/32", &own);
     routes("prefix 0 has its /32 only", "10.1.0.5/0", &own);
     routes(
-        "prefix 30 in network 0 has its /32 only (docs/DIFFERENCES.md)",
+        "D1 prefix 30 in network 0 has its /32 only",
         "0.0.0.1/30",
         &["255 0.0.0.1/32 kind 2 from 0.0.0.1"],
     );

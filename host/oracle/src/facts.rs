@@ -5,16 +5,14 @@ use crate::script::{NewAddress, Route, Script, address, ip, route};
 use crate::words::{self, encode};
 use reference::{Lists, RouteRow};
 
-pub fn run() -> bool {
-    let mut checks = Checks::default();
-    refusal_order(&mut checks);
-    gateways(&mut checks);
-    changes(&mut checks);
-    strays(&mut checks);
-    no_events(&mut checks);
-    space(&mut checks);
-    most_events(&mut checks);
-    checks.finish("facts")
+pub fn check(checks: &mut Checks) {
+    refusal_order(checks);
+    gateways(checks);
+    changes(checks);
+    strays(checks);
+    no_events(checks);
+    space(checks);
+    most_events(checks);
 }
 
 fn refusal_order(checks: &mut Checks) {
@@ -27,7 +25,7 @@ fn refusal_order(checks: &mut Checks) {
     };
     let up = route("10.2.0.0/24").up();
     for kind in [10, 11] {
-        let name = format!("kind {kind} below scope 255 is 22");
+        let name = format!("D2 kind {kind} below scope 255 is 22");
         number(
             &name,
             Route {
@@ -39,7 +37,7 @@ fn refusal_order(checks: &mut Checks) {
         );
     }
     number(
-        "kind 4 below scope 253 is 22",
+        "D2 kind 4 below scope 253 is 22",
         Route {
             kind: 4,
             scope: 252,
@@ -48,7 +46,7 @@ fn refusal_order(checks: &mut Checks) {
         22,
     );
     number(
-        "the metrics error comes before 95",
+        "D2 the metrics error comes before 95",
         Route {
             kind: 5,
             error: 7,
@@ -57,7 +55,7 @@ fn refusal_order(checks: &mut Checks) {
         7,
     );
     number(
-        "and before an unknown kind's 22",
+        "D2 and before an unknown kind's 22",
         Route {
             kind: 12,
             error: 7,
@@ -66,7 +64,7 @@ fn refusal_order(checks: &mut Checks) {
         7,
     );
     number(
-        "a rejecting kind with a device is 22",
+        "D3 a rejecting kind with a device is 22",
         Route {
             kind: 6,
             oif: 2,
@@ -88,20 +86,20 @@ fn gateways(checks: &mut Checks) {
         oif: 2,
         ..via("127.0.0.1")
     });
-    checks.same("a gateway with oif 2 is 101", told.reply.number, 101);
+    checks.same("D3 a gateway with oif 2 is 101", told.reply.number, 101);
     let onlink = Route {
         flags: 4,
         ..via("10.9.0.1")
     };
     let told = Script::default().add_route(onlink);
     checks.same(
-        "an on-link gateway while 255 is unlisted is 22",
+        "C1 an on-link gateway while 255 is unlisted is 22",
         told.reply.number,
         22,
     );
     s.add_route(route("10.9.0.0/16").rejecting(6));
     checks.same(
-        "under a rejecting row it is taken",
+        "C1 under a rejecting row it is taken",
         s.add_route(onlink).reply,
         Reply::value(1),
     );
@@ -125,7 +123,7 @@ fn changes(checks: &mut Checks) {
         ..old.up()
     });
     checks.same(
-        "a change of priority without the old prefix route",
+        "C2 a change of priority without the old prefix route",
         told.text,
         lines(&[
             "NewRoute4 0x600 255 10.1.0.0/24 kind 2 priority 5 from 10.1.0.5",
@@ -135,7 +133,7 @@ fn changes(checks: &mut Checks) {
     );
     let row = words::address_at(&s.state, 0);
     checks.same(
-        "a change leaves broadcast, scope and other flags",
+        "C3 a change leaves broadcast, scope and other flags",
         (row[4], row[5], row[6]),
         (ip("10.1.0.77"), 7, 0x80),
     );
@@ -152,7 +150,7 @@ fn changes(checks: &mut Checks) {
     });
     let row = words::address_at(&s.state, 0);
     checks.same(
-        "valid forever leaves the stored seconds",
+        "C4 valid forever leaves the stored seconds",
         (row[14], row[15], row[6]),
         (10, 5, 0x80),
     );
@@ -181,7 +179,7 @@ fn strays(checks: &mut Checks) {
     let mut request = vec![0; 11];
     request[2..5].copy_from_slice(&[1, ip("10.1.0.9"), 32]);
     checks.same(
-        "main routes fall while another address has the same local",
+        "C5 main routes fall while another address has the same local",
         s.call(Call::DelV4 { request }).text,
         lines(&[
             "DelAddr4 10.1.0.5/32",
@@ -199,7 +197,7 @@ fn no_events(checks: &mut Checks) {
     };
     s.add_route(twice);
     checks.same(
-        "a row replaced by itself",
+        "C6 a row replaced by itself",
         s.add_route(twice).reply,
         Reply::default(),
     );
@@ -210,7 +208,7 @@ fn no_events(checks: &mut Checks) {
     s.state = encode(&lists);
     let found = (s.up(0).reply, s.tables());
     checks.same(
-        "up lists tables without an event",
+        "C7 up lists tables without an event",
         found,
         (Reply::default(), vec![254, 255]),
     );

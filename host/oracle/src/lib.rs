@@ -2,9 +2,11 @@
 //! word that it must leave, by the unchanged Rust.
 
 pub mod call;
+pub mod campaign;
 pub mod checks;
 pub mod compare;
 pub mod coverage;
+pub mod document;
 pub mod examples;
 pub mod facts;
 pub mod faults;
@@ -15,6 +17,7 @@ pub mod linux;
 pub mod model;
 pub mod pairs;
 pub mod port;
+pub mod rfc;
 pub mod rng;
 pub mod script;
 pub mod vectors;

@@ -1,13 +1,17 @@
 //! The oracle's commands. Every one ends with a line of counts; the exit
 //! status is 0 only if nothing failed.
-use oracle::{coverage, examples, facts, faults, json, linux, pairs, vectors};
+use oracle::{
+    checks, coverage, document, examples, facts, faults, json, linux, pairs, rfc, vectors,
+};
 use std::process::ExitCode;
 use std::time::Instant;
 
 const USAGE: &str = "usage: oracle COMMAND
   examples               document 01's examples on the Rust
   linux                  the known differences from Linux, the Rust's side
+  rfc                    the known differences from RFCs, the Rust's side
   facts                  what else the Rust does that is easily missed
+  document [N] [SEED]    sentences of document 01 on N generated cases
   generator [N] [SEED]   what N generated cases reach
   pairs [N] [SEED]       document 01's claim about two runs, on N pairs
   selftest [SEED]        planted faults, which the comparison must find
@@ -15,8 +19,9 @@ const USAGE: &str = "usage: oracle COMMAND
   replay FILE            replays such a list against the model
   cases N SEED [--large PERCENT]
                          prints N random cases as JSON lines
-  all                    all of examples, linux, facts, generator, pairs,
-                         selftest, and a list of answers replayed";
+  all                    all of examples, linux, rfc, facts, document,
+                         generator, pairs, selftest, and a list of answers
+                         replayed";
 
 const CASES: usize = 30_000;
 const PAIRS: usize = 3_000;
@@ -48,9 +53,17 @@ fn command(arguments: &[String]) -> Result<bool, String> {
         }
     };
     match name.as_str() {
-        "examples" => most(0).map(|()| examples::run()),
-        "linux" => most(0).map(|()| linux::run()),
-        "facts" => most(0).map(|()| facts::run()),
+        "examples" => most(0).map(|()| checks::run("examples", examples::check)),
+        "linux" => most(0).map(|()| checks::run("linux", linux::check)),
+        "rfc" => most(0).map(|()| checks::run("rfc", rfc::check)),
+        "facts" => most(0).map(|()| checks::run("facts", facts::check)),
+        "document" => {
+            most(2)?;
+            Ok(document::run(
+                number(rest, 0, CASES)?,
+                number(rest, 1, SEED)?,
+            ))
+        }
         "generator" => {
             most(2)?;
             Ok(coverage::run(
@@ -104,10 +117,12 @@ type Part = dyn Fn() -> Result<bool, String>;
 /// Everything, and one line of counts for each part.
 fn all() -> Result<bool, String> {
     let begin = Instant::now();
-    let parts: [(&str, &Part); 7] = [
-        ("examples", &|| Ok(examples::run())),
-        ("linux", &|| Ok(linux::run())),
-        ("facts", &|| Ok(facts::run())),
+    let parts: [(&str, &Part); 9] = [
+        ("examples", &|| Ok(checks::run("examples", examples::check))),
+        ("linux", &|| Ok(checks::run("linux", linux::check))),
+        ("rfc", &|| Ok(checks::run("rfc", rfc::check))),
+        ("facts", &|| Ok(checks::run("facts", facts::check))),
+        ("document", &|| Ok(document::run(CASES, SEED))),
         ("generator", &|| Ok(coverage::run(CASES, SEED))),
         ("pairs", &|| Ok(pairs::run(PAIRS, SEED))),
         ("selftest", &|| Ok(faults::selftest(SEED))),

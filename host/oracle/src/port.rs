@@ -188,3 +188,21 @@ impl<W: WordPort> Port for Bytes<W> {
         self.reading(&Call::Left { row, now }, &[], &mut [])
     }
 }
+
+/// A port on bytes met through words: the other way round.
+pub struct Words<'a>(pub &'a mut dyn Port);
+
+impl WordPort for Words<'_> {
+    fn name(&self) -> String {
+        self.0.name()
+    }
+    fn call(&mut self, call: &Call, state: &mut [u32], buffer: &mut [u32]) -> Reply {
+        let mut state_bytes = bytes(state);
+        let mut buffer_bytes = bytes(buffer);
+        let lent = bytes(call.lent().unwrap_or(&[]));
+        let reply = make(self.0, call, &mut state_bytes, &lent, &mut buffer_bytes);
+        state.copy_from_slice(&words(&state_bytes));
+        buffer.copy_from_slice(&words(&buffer_bytes));
+        reply
+    }
+}

@@ -1,9 +1,10 @@
 //! Short sequences written by hand: requests with usual values, a state
 //! that goes along, and events as text.
 use crate::call::{Call, Reply};
-use crate::compare::filled;
+use crate::compare::{Case, filled};
 use crate::model::model;
 use crate::words::{self, EVENT_WORDS, ROUTE_WORDS};
+use std::cell::RefCell;
 use std::net::Ipv4Addr;
 
 pub const FOREVER: u32 = u32::MAX;
@@ -175,8 +176,25 @@ impl Default for Script {
     }
 }
 
+thread_local! {
+    /// The cases that scripts make, while somebody collects them.
+    static MADE: RefCell<Option<Vec<Case>>> = const { RefCell::new(None) };
+}
+
+/// The cases of all calls that scripts make during `run`.
+pub fn collect(run: impl FnOnce()) -> Vec<Case> {
+    MADE.replace(Some(Vec::new()));
+    run();
+    MADE.take().unwrap_or_default()
+}
+
 impl Script {
     pub fn call(&mut self, call: Call) -> Told {
+        MADE.with_borrow_mut(|made| {
+            if let Some(made) = made {
+                made.push(Case::new(call.clone(), self.state.clone()));
+            }
+        });
         let mut buffer = filled(call.buffer().least());
         let reply = model(&call, &mut self.state, &mut buffer);
         let written = written(&call, &reply);

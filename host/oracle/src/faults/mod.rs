@@ -5,6 +5,8 @@ mod effects;
 mod refusals;
 
 use crate::call::{Call, Reply};
+use crate::campaign::shrink;
+use crate::campaign::{self, Amount, Summary};
 use crate::compare::compare;
 use crate::generate::cases::{Cases, USUAL};
 use crate::pairs;
@@ -58,14 +60,32 @@ pub fn selftest(seed: u64) -> bool {
             None => println!("MISSED  {} in {PAIRS} pairs", fault.name),
         }
     }
-    let sound = alike(seed);
+    let sound = sound(seed);
     println!(
-        "selftest: {found} of {} faults found by the comparison, {parted} of {} by the pairs, \
-         {sound} of {SOUND} cases alike without a fault",
+        "selftest: {found} of {} faults found by the comparison, {parted} of {} by the pairs; \
+         without a fault {}",
         all.len(),
-        parting.len()
+        parting.len(),
+        sound.as_ref().map_or_else(String::clone, said)
     );
-    found == all.len() && parted == parting.len() && sound == SOUND
+    found == all.len() && parted == parting.len() && sound.is_ok()
+}
+
+/// The model met through bytes: nothing may be found.
+fn sound(seed: u64) -> Result<Summary, String> {
+    let amount = Amount {
+        cases: SOUND,
+        pairs: SOUND / 50,
+        seed,
+    };
+    campaign::run(&mut Bytes(Model), amount)
+}
+
+fn said(summary: &Summary) -> String {
+    format!(
+        "{} calls by hand, {} cases and {} pairs alike",
+        summary.by_hand, summary.cases, summary.pairs
+    )
 }
 
 fn cases_to_find(fault: Fault, seed: u64) -> Option<(usize, String)> {
@@ -74,7 +94,12 @@ fn cases_to_find(fault: Fault, seed: u64) -> Option<(usize, String)> {
     (1..=CASES).find_map(|i| {
         let (_, case) = cases.next_case();
         let other = compare(&mut port, &case).err()?;
-        Some((i, format!("{}: {}", other.call.name(), other.what)))
+        let rows = |state: &[u32]| state.iter().take(3).sum::<u32>();
+        let before = rows(&case.state);
+        let (small, other) = shrink(&mut port, case, other);
+        let after = rows(&small.state);
+        let what = format!("{}: {}", other.call.name(), other.what);
+        Some((i, format!("{before} rows cut to {after}: {what}")))
     })
 }
 
@@ -84,12 +109,4 @@ fn pairs_to_find(mut fault: Fault, seed: u64) -> Option<usize> {
         let pair = pairs::pair(&mut rng);
         matches!(pairs::try_pair(&mut fault, &pair), pairs::Result::Apart(_))
     })
-}
-
-/// Cases in which the model, met through bytes, is like itself.
-fn alike(seed: u64) -> usize {
-    let mut cases = Cases::new(seed, USUAL);
-    (0..SOUND)
-        .filter(|_| compare(&mut Bytes(Model), &cases.next_case().1).is_ok())
-        .count()
 }
