@@ -12,7 +12,7 @@ use Rattle.address.proofs.V4.left.Tie as tie
 returns : tie.Need-returns
 returns c =
     let set : hasBit 7 (c .before .before .args .self .flags) ≡ true =
-        sym (has-and 7 (c .before .before .args .self .flags)) ∙ ap not (ne-eqb _ _ (c .if1 .taken))
+    sym (has-and 7 (c .before .before .args .self .flags)) ∙ ap not (ne-eqb _ _ (c .if1 .taken))
     in
     simp set
 
@@ -22,7 +22,7 @@ left-requires c κs = search needs
 returns-2 : tie.Need-returns-2
 returns-2 c =
     let clear : hasBit 7 (c .before .before .before .before .args .self .flags) ≡ false =
-        sym (has-and 7 (c .before .before .before .before .args .self .flags)) ∙ ap not (eq-eqb _ _ (c .before .before .if1 .left))
+    sym (has-and 7 (c .before .before .before .before .args .self .flags)) ∙ ap not (eq-eqb _ _ (c .before .before .if1 .left))
     in
     simp clear (c .left .ensures)
 
