@@ -2,18 +2,22 @@
 -- Assumes nothing.
 use mathlib.Core.Path.{_≡_, refl, ap, _∙_}
 use mathlib.Core.Bool.{Bool, true, false, _&&_}
-use Prim.Native.Nat.{ℕ}
+use mathlib.Core.List.{[], _∷_}
+use Prim.Native.Nat.{ℕ, _≤_}
+use native.Mathlib.Omega.{arith}
 use lib.ListN.{length}
 use borrow.Author.Tests.{eqb-true}
 use Rattle.lists.specs.Lists.{Row}
-use Rattle.layout.specs.Address.{secondary, permanent, fitAddress}
-use Rattle.definition.specs.Reference.Addresses.{covers}
+use Rattle.layout.specs.Address.{created, secondary, permanent, fitAddress}
+use Rattle.definition.specs.Reference.Addresses.{covers, rewritten, setLife}
 use Rattle.definition.specs.Reference.Source.{left}
 use Rattle.definition.specs.Step.{leftCall}
 use Rattle.address.specs.declared.LeftReply.the-variants.{Refused, Left}
 use Rattle.address.specs.declared.V4.{V4}
+use Rattle.life.specs.Life.{seconds}
+use Rattle.life.specs.Laws.{clock-words}
 use Rattle.life.specs.declared.Left.{Left as BothLeft}
-use Rattle.address.specs.V4.{v4Of, secondaryV4, coversV4, leftV4}
+use Rattle.address.specs.V4.{v4Of, secondaryV4, coversV4, setLifeV4, leftV4}
 use Rattle.address.specs.Row.{leftReply, replyOf}
 
 and-left : (a b : Bool) → a && b ≡ true → a ≡ true
@@ -69,3 +73,16 @@ module _ (a : Row) (clock : ℕ) where
   left-refused e =
       let answer : Refused 201 ≡ leftReply a clock = rw e in
       (answer, ap replyOf answer ∙ left-says)
+
+-- the six words before the flags stay, and the clock's two words make the clock again
+pub set-life-v4 : (valid preferred clock : ℕ) (a : Row) → 6 ≤ length a
+    → v4Of (setLife valid preferred clock a) ≡ setLifeV4 (record { valid = seconds valid; preferred = seconds preferred }) clock (v4Of a)
+unfolding setLife rewritten
+set-life-v4 valid preferred clock (u ∷ v ∷ w ∷ x ∷ y ∷ z ∷ l) h =
+    rw (clock-words (created (u ∷ v ∷ w ∷ x ∷ y ∷ z ∷ l)), clock-words clock)
+set-life-v4 valid preferred clock [] h = absurd (omega arith)
+set-life-v4 valid preferred clock (u ∷ []) h = absurd (omega arith)
+set-life-v4 valid preferred clock (u ∷ v ∷ []) h = absurd (omega arith)
+set-life-v4 valid preferred clock (u ∷ v ∷ w ∷ []) h = absurd (omega arith)
+set-life-v4 valid preferred clock (u ∷ v ∷ w ∷ x ∷ []) h = absurd (omega arith)
+set-life-v4 valid preferred clock (u ∷ v ∷ w ∷ x ∷ y ∷ []) h = absurd (omega arith)

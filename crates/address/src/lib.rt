@@ -11,7 +11,7 @@ ghost use Rattle.prefix.specs.Mask.{mask};
 ghost use Rattle.layout.specs.Address.{optional, fitLabel, fitAddress};
 ghost use Rattle.definition.specs.Reference.Addresses.{lifeFlags};
 ghost use Rattle.definition.specs.Step.{leftCall};
-ghost use Rattle.address.specs.V4.{v4Of, optionalOf, secondaryV4, coversV4, setLifeV4, leftV4};
+ghost use Rattle.address.specs.V4.{v4Of, optionalOf, labelOf, lifeOf, secondaryV4, coversV4, setLifeV4, leftV4};
 ghost use Rattle.address.specs.Row.{wordEnds, leftReply, replyOf};
 
 // The flags of an address that the kernel keeps (rtnetlink's IFA_F_*).
@@ -119,24 +119,38 @@ fn optional_of(present: u32, value: u32) -> Optional
     Optional::Absent
 }
 
+fn label_of(row: &[u32]) -> Label
+    requires { ⌜ length (now row) ≡ 20 ⌝ }
+    ensures { λ r. ⌜ r ≡ labelOf (now (row .entry)) ⌝ }
+{
+    Label {
+        len: row[8],
+        words: [row[9], row[10], row[11], row[12]],
+    }
+}
+
+fn life_of(row: &[u32]) -> Life
+    requires { ⌜ length (now row) ≡ 20 ⌝ }
+    ensures { λ r. ⌜ r ≡ lifeOf (now (row .entry)) ⌝ }
+{
+    let created = Nanoseconds::of_words(row[16], row[17]);
+    let changed = Nanoseconds::of_words(row[18], row[19]);
+    Life {
+        valid: Seconds(row[14]),
+        preferred: Seconds(row[15]),
+        created: created,
+        changed: changed,
+    }
+}
+
 // The record of a row of 20 words.
 pub fn v4_of(row: &[u32]) -> V4
     requires { ⌜ length (now row) ≡ 20 ⌝ }
     ensures { λ r. ⌜ r ≡ v4Of (now (row .entry)) ⌝ }
 {
     let broadcast = optional_of(row[3], row[4]);
-    let label = Label {
-        len: row[8],
-        words: [row[9], row[10], row[11], row[12]],
-    };
-    let created = Nanoseconds::of_words(row[16], row[17]);
-    let changed = Nanoseconds::of_words(row[18], row[19]);
-    let life = Life {
-        valid: Seconds(row[14]),
-        preferred: Seconds(row[15]),
-        created: created,
-        changed: changed,
-    };
+    let label = label_of(row);
+    let life = life_of(row);
     V4 {
         local: row[0],
         address: row[1],
