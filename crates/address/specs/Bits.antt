@@ -1,16 +1,16 @@
 -- Flag words: what `&`, `|` and `!` of a bit do is what the arithmetic of flags says.
 -- Assumes nothing.
-use mathlib.Core.Path.{_≡_, refl, sym, ap, ap₂, _∙_, subst}
-use mathlib.Core.Bool.{Bool, true, false, not}
+use mathlib.Core.Path.{_≡_, sym, ap, ap₂, _∙_}
+use mathlib.Core.Bool.{not}
 use Prim.Native.Nat.{ℕ, zero, suc, _+_, _-_, _*_, _/_, _%_, _^_, _≤_, _<_, min}
 use native.Mathlib.Nat.{pow-suc, zero-mul}
 use native.Mathlib.Omega.{arith}
 use native.Mathlib.Numerals.{one-add}
-use lib.Bits.{bitAnd, bitOr, and-step, and-high, and-le-l, or-add-and, and-zero-r}
+use lib.Bits.{bitAnd, bitOr, and-step, and-high, and-le-l, or-add-and}
 use lib.Arith.{lt-one}
 use lib.Dec.{eqb}
 use lib.Pow.{pow-pos, pow-lt}
-use borrow.Author.Tests.{eq-eqb, ne-eqb, eqb-true, eqb-false}
+use borrow.Author.Tests.{ne-eqb}
 use Rattle.layout.specs.Flags.{hasBit, clearBit, setBit}
 
 -- `f & (1 << k)`

@@ -2,7 +2,7 @@
 -- Assumes nothing.
 use Prim.Native.Nat.{ℕ}
 use mathlib.Core.Bool.{Bool, cond}
-use mathlib.Core.List.{List, [], _∷_}
+use mathlib.Core.List.{[], _∷_}
 use lib.Dec.{eqb}
 use lib.ListN.{getD}
 use Rattle.lists.specs.Lists.{Row}
@@ -16,11 +16,15 @@ use Rattle.layout.specs.Address as Address
 use Rattle.definition.specs.Reference.Addresses.{lifeFlags}
 use Rattle.address.specs.declared.Optional.{Optional}
 use Rattle.address.specs.declared.Optional.the-variants.{Absent, Present}
+use Rattle.address.specs.declared.Label.{Label}
 use Rattle.address.specs.declared.V4.{V4}
 
 -- ---- a row's record
 abbrev pub optionalOf : ℕ → ℕ → Optional
 optionalOf present value = cond (eqb present 1) (Present value) Absent
+
+abbrev pub labelOf : Row → Label
+labelOf a = record { len = Address.labelLength a; words = getD a 9 0 ∷ getD a 10 0 ∷ getD a 11 0 ∷ getD a 12 0 ∷ [] }
 
 abbrev pub lifeOf : Row → Life
 lifeOf a =
@@ -41,7 +45,7 @@ v4Of a =
       scope = Address.scope a;
       flags = Address.flags a;
       proto = Address.proto a;
-      label = record { len = Address.labelLength a; words = getD a 9 0 ∷ getD a 10 0 ∷ getD a 11 0 ∷ getD a 12 0 ∷ [] };
+      label = labelOf a;
       priority = Address.priority a;
       life = lifeOf a;
     }

@@ -1,106 +1,47 @@
+-- `address::v4_of` meets its contract: every field is a word of the row, or what a callee makes of some.
+-- Assumes nothing.
 use borrow.Author.Needs.{needs}
 use Rattle.address.proofs.v4_of.Statement.{statement}
 use Rattle.address.proofs.v4_of.Tie as tie
-use Rattle.address.proofs.v4_of.Reads as reads
-use Rattle.address.proofs.v4_of.Lts as lts
-use Rattle.address.proofs.optional_of.Reads as optional-of-reads
-use Rattle.life.proofs.Nanoseconds.of_words.Reads as of-words-reads
 
--- src/lib.rt:125:33
 shared-slice-read-optional-of : tie.Need-shared-slice-read-optional-of
 shared-slice-read-optional-of c = search needs
 
--- src/lib.rt:125:41
 shared-slice-read-optional-of-2 : tie.Need-shared-slice-read-optional-of-2
 shared-slice-read-optional-of-2 c = search needs
 
--- src/lib.rt:125:9
 optional-of-requires : tie.Need-optional-of-requires
 optional-of-requires c κs = search needs
 
--- src/lib.rt:127:14
-shared-slice-read-of-words : tie.Need-shared-slice-read-of-words
-shared-slice-read-of-words c = search needs
+label-of-requires : tie.Need-label-of-requires
+label-of-requires c κs = search needs
 
--- src/lib.rt:128:17
-shared-slice-read-of-words-2 : tie.Need-shared-slice-read-of-words-2
-shared-slice-read-of-words-2 c = search needs
+life-of-requires : tie.Need-life-of-requires
+life-of-requires c κs = search needs
 
--- src/lib.rt:128:25
-shared-slice-read-t14 : tie.Need-shared-slice-read-t14
-shared-slice-read-t14 c = search needs
+shared-slice-read-t6 : tie.Need-shared-slice-read-t6
+shared-slice-read-t6 c = search needs
 
--- src/lib.rt:128:34
-shared-slice-read-t16 : tie.Need-shared-slice-read-t16
-shared-slice-read-t16 c = search needs
-
--- src/lib.rt:128:43
-shared-slice-read-of-words-3 : tie.Need-shared-slice-read-of-words-3
-shared-slice-read-of-words-3 c = search needs
-
--- src/lib.rt:130:41
-shared-slice-read-of-words-4 : tie.Need-shared-slice-read-of-words-4
-shared-slice-read-of-words-4 c = search needs
-
--- src/lib.rt:130:50
-shared-slice-read-of-words-5 : tie.Need-shared-slice-read-of-words-5
-shared-slice-read-of-words-5 c = search needs
-
--- src/lib.rt:130:9
-of-words-requires : tie.Need-of-words-requires
-of-words-requires c κs = search needs
-
--- src/lib.rt:131:41
-shared-slice-read-of-words-6 : tie.Need-shared-slice-read-of-words-6
-shared-slice-read-of-words-6 c = search needs
-
--- src/lib.rt:131:50
-shared-slice-read-of-words-7 : tie.Need-shared-slice-read-of-words-7
-shared-slice-read-of-words-7 c = search needs
-
--- src/lib.rt:131:9
-of-words-requires-2 : tie.Need-of-words-requires-2
-of-words-requires-2 c κs = search needs
-
--- src/lib.rt:133:24
 shared-slice-read-t8 : tie.Need-shared-slice-read-t8
 shared-slice-read-t8 c = search needs
 
--- src/lib.rt:134:28
-shared-slice-read-t10 : tie.Need-shared-slice-read-t10
-shared-slice-read-t10 c = search needs
+shared-slice-read-t12 : tie.Need-shared-slice-read-t12
+shared-slice-read-t12 c = search needs
 
--- src/lib.rt:139:16
+shared-slice-read-t14 : tie.Need-shared-slice-read-t14
+shared-slice-read-t14 c = search needs
+
+shared-slice-read-t16 : tie.Need-shared-slice-read-t16
+shared-slice-read-t16 c = search needs
+
 shared-slice-read-t18 : tie.Need-shared-slice-read-t18
 shared-slice-read-t18 c = search needs
 
--- src/lib.rt:140:18
-shared-slice-read-t14-2 : tie.Need-shared-slice-read-t14-2
-shared-slice-read-t14-2 c = search needs
+shared-slice-read-t20 : tie.Need-shared-slice-read-t20
+shared-slice-read-t20 c = search needs
 
--- src/lib.rt:141:17
-shared-slice-read-t10-2 : tie.Need-shared-slice-read-t10-2
-shared-slice-read-t10-2 c = search needs
-
--- src/lib.rt:143:16
-shared-slice-read-t16-2 : tie.Need-shared-slice-read-t16-2
-shared-slice-read-t16-2 c = search needs
-
--- src/lib.rt:144:16
-shared-slice-read-t8-2 : tie.Need-shared-slice-read-t8-2
-shared-slice-read-t8-2 c = search needs
-
--- src/lib.rt:145:16
-shared-slice-read-t34 : tie.Need-shared-slice-read-t34
-shared-slice-read-t34 c = search needs
-
--- src/lib.rt:147:19
-shared-slice-read-t36 : tie.Need-shared-slice-read-t36
-shared-slice-read-t36 c = search needs
-
--- src/lib.rt:121:1
 returns : tie.Need-returns
-returns c = rw (c .before .before .before .before .before .before .before .before .before .before .before .before .before .before .before .before .before .before .before .before .optional-of .ensures, c .before .before .before .before .before .before .before .before .before .before .before .before .of-words .ensures, c .before .before .before .before .before .before .before .before .before .of-words2 .ensures)
+returns c = rw (c .before .before .before .before .before .before .before .before .before .optional-of .ensures, c .before .before .before .before .before .before .before .before .label-of .ensures, c .before .before .before .before .before .before .before .life-of .ensures)
 
 pub v4-of-spec : {M : Type 1} → statement M
 v4-of-spec =
@@ -109,24 +50,13 @@ v4-of-spec =
     shared-slice-read-optional-of
     shared-slice-read-optional-of-2
     optional-of-requires
-    shared-slice-read-of-words
-    shared-slice-read-of-words-2
+    label-of-requires
+    life-of-requires
+    shared-slice-read-t6
+    shared-slice-read-t8
+    shared-slice-read-t12
     shared-slice-read-t14
     shared-slice-read-t16
-    shared-slice-read-of-words-3
-    shared-slice-read-of-words-4
-    shared-slice-read-of-words-5
-    of-words-requires
-    shared-slice-read-of-words-6
-    shared-slice-read-of-words-7
-    of-words-requires-2
-    shared-slice-read-t8
-    shared-slice-read-t10
     shared-slice-read-t18
-    shared-slice-read-t14-2
-    shared-slice-read-t10-2
-    shared-slice-read-t16-2
-    shared-slice-read-t8-2
-    shared-slice-read-t34
-    shared-slice-read-t36
+    shared-slice-read-t20
     returns)
