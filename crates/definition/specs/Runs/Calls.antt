@@ -95,10 +95,18 @@ freely (reads buffers row request f) st =
     let n = checks buffers row request in
     record { reply = cond (eqb n 0) (f st) (refusal n); state = st }
 
+-- ---- with limits
 -- the lists keep to their limits all through
 abbrev pub roomy : Outcome → Bool
 roomy (goes o) = within (o .peak)
 roomy (refused n st) = within (sizes st)
+
+abbrev pub fitting : Deed → State → Bool
+fitting (changes buffers request f) st = cond (buffers && request) (roomy (f st)) true
+fitting (reads buffers row request f) st = true
+
+unfoldable pub bounded : Deed → State → Done
+bounded d st = cond (fitting d st) (freely d st) (record { reply = refusal 203; state = st })
 
 -- ---- what every deed keeps
 abbrev Keeping : Deed → Type 0
@@ -127,15 +135,11 @@ good-result (goes o) k e = good-kept o k e
 good-result (refused n st) f e = record { fits = state-fit st f; limits = e }
 
 -- ---- on words
--- what a call on the words w came to is what the deed does without limits
+-- what a call on the words w came to is what the deed does to their state
 pub record Follows (d : Deed) (w : List ℕ) (r : Result) : Type 0 where
   pub held : Held (r .words)
-  pub reply : r .reply ≡ freely d (decode w) .reply
-  pub state : decode (r .words) ≡ freely d (decode w) .state
-
--- it isn't refused for want of space
-abbrev pub spaced : Result → Bool
-spaced r = not (eqb (r .reply .number) 203)
+  pub reply : r .reply ≡ bounded d (decode w) .reply
+  pub state : decode (r .words) ≡ bounded d (decode w) .state
 
 changing-held : (buffers request : Bool) (f : State → Outcome) (w : List ℕ) → Held w → changing buffers request f w ≡ cond (eqb (checks buffers true request) 0) (outcome (f (decode w)) w) (record { reply = refusal (checks buffers true request); words = w })
 unfolding changing
@@ -145,40 +149,38 @@ outcome-roomy : (o : Outcome) (w : List ℕ) → outcome o w ≡ cond (roomy o) 
 outcome-roomy (goes o) w = refl
 outcome-roomy (refused n st) w = refl
 
-follows-changes : (buffers request : Bool) (f : State → Outcome) → Keeping (changes buffers request f) → (w : List ℕ) → Held w → spaced (changing buffers request f w) ≡ true → Follows (changes buffers request f) w (changing buffers request f w)
-unfolding freely
-follows-changes false request f k w s h =
+follows-changes : (buffers request : Bool) (f : State → Outcome) → Keeping (changes buffers request f) → (w : List ℕ) → Held w → Follows (changes buffers request f) w (changing buffers request f w)
+unfolding bounded freely
+follows-changes false request f k w s =
     rw (changing-held false request f w s) (record { held = s; reply = refl; state = refl })
-follows-changes true false f k w s h =
+follows-changes true false f k w s =
     rw (changing-held true false f w s) (record { held = s; reply = refl; state = refl })
-follows-changes true true f k w s h =
+follows-changes true true f k w s =
     let o = f (decode w) in
-    let e : changing true true f w ≡ cond (roomy o) (record { reply = answered o; words = encode (result o) }) (record { reply = refusal 203; words = w }) =
-    changing-held true true f w s ∙ outcome-roomy o w
-    in
-    byCase (roomy o)
+    rw (changing-held true true f w s, outcome-roomy o w)
+    (byCase (roomy o)
     (λ room.
     let g = good-result o (k refl refl .kept (decode w) (fit-state (decode w) (good-decode w (s .long) (s .well) .fits))) room in
-    rw (e, room)
-    (record {
-      held = held-encode (result o) g;
-      reply = refl;
-      state = decode-encode (result o) g;
-    }))
-    (λ full. absurd (false≢true (rw (e, full) at h)))
+    record { held = rw room (held-encode (result o) g); reply = rw room; state = rw room (decode-encode (result o) g) })
+    (λ full. record { held = rw full s; reply = rw full; state = rw full }))
 
 follows-reads : (buffers row request : Bool) (f : State → Reply) (w : List ℕ) → Held w → Follows (reads buffers row request f) w (reading buffers row request f w)
-unfolding reading freely
+unfolding reading bounded freely
 follows-reads buffers row request f w s =
-    record {
-      held = s;
-      reply = rw (eq-eqb (length w) stateSize (s .long), s .well);
-      state = refl;
-    }
+    record { held = s; reply = rw (eq-eqb (length w) stateSize (s .long), s .well); state = refl }
 
-follows : (d : Deed) → Keeping d → (w : List ℕ) → Held w → spaced (performed d w) ≡ true → Follows d w (performed d w)
-follows (changes buffers request f) k w s h = follows-changes buffers request f k w s h
-follows (reads buffers row request f) k w s h = follows-reads buffers row request f w s
+follows : (d : Deed) → Keeping d → (w : List ℕ) → Held w → Follows d w (performed d w)
+follows (changes buffers request f) k w s = follows-changes buffers request f k w s
+follows (reads buffers row request f) k w s = follows-reads buffers row request f w s
 
-pub step-follows : (c : Call) (w : List ℕ) → Held w → spaced (step c w) ≡ true → Follows (deed c) w (step c w)
-step-follows c w s h = rw (step-performed c w) (follows (deed c) (keeping c) w s (rw (step-performed c w) at h))
+pub step-follows : (c : Call) (w : List ℕ) → Held w → Follows (deed c) w (step c w)
+step-follows c w s = rw (step-performed c w) (follows (deed c) (keeping c) w s)
+
+-- ---- not refused for want of space
+abbrev pub spaced : Reply → Bool
+spaced r = not (eqb (r .number) 203)
+
+-- then the limits don't show
+pub bounded-freely : (d : Deed) (st : State) → spaced (bounded d st .reply) ≡ true → bounded d st ≡ freely d st
+unfolding bounded
+bounded-freely d st h = byCase (fitting d st) (λ e. rw e) (λ e. absurd (false≢true (rw e at h)))
