@@ -9,3 +9,5 @@ pub mod Steps
 pub mod Removal
 pub mod Requests
 pub mod Step
+pub mod Adding
+pub mod Removing
