@@ -11,3 +11,4 @@ pub mod Requests
 pub mod Step
 pub mod Adding
 pub mod Removing
+pub mod Numbers
