@@ -12,3 +12,4 @@ pub mod Step
 pub mod Adding
 pub mod Removing
 pub mod Numbers
+pub mod Told
