@@ -9,3 +9,7 @@ pub mod Steps
 pub mod Removal
 pub mod Requests
 pub mod Step
+pub mod Adding
+pub mod Removing
+pub mod Numbers
+pub mod Told

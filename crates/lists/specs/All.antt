@@ -63,6 +63,11 @@ false-not b h = ap not h
 pub true-false : (b : Bool) → b ≡ true → b ≡ false → ⊥
 true-false b g h = let z : _≡_ {A = ℕ} 0 1 = cc in omega arith
 
+-- a test passes or fails
+pub test-case : (b : Bool) {C : Type 0} → (b ≡ true → C) → (b ≡ false → C) → C
+test-case true f g = f refl
+test-case false f g = g refl
+
 -- what holds of both arms, each where its test says so, holds of the choice
 pub cond-case {ℓ} : {A : Type ℓ} (P : A → Type 0) (b : Bool) {x y : A} → (b ≡ true → P x) → (b ≡ false → P y) → P (cond b x y)
 cond-case P true f g = f refl

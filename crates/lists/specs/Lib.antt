@@ -1,4 +1,5 @@
 pub mod Lists
 pub mod All
 pub mod Rows
+pub mod Count
 pub mod Keep

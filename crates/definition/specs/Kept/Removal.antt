@@ -8,18 +8,18 @@ use mathlib.Core.Option.{Option, none, some}
 use lib.Dec.{eqb}
 use lib.ListN.{length}
 use Rattle.lists.specs.Lists.{Row, all, any, keep, first, until, onward, removeFirst, eqRow}
-use Rattle.lists.specs.All.{cond-case, all-append, all-map, all-until, all-onward, all-removeFirst}
-use Rattle.layout.specs.Address.{fitAddress, local}
+use Rattle.lists.specs.All.{cond-case, all-cons, all-head, all-keep, all-first, all-append, all-map, all-until, all-onward, all-removeFirst}
+use Rattle.layout.specs.Address.{fitAddress, local, secondary}
 use Rattle.layout.specs.Route as Route
 use Rattle.layout.specs.Event.{newAddr4, delAddr4}
 use Rattle.definition.specs.State.{State, Out, becomes, stays, also, through, withAddresses}
 use Rattle.definition.specs.Reference.Lookup.{localKind, mainTable, listed, local4}
 use Rattle.definition.specs.Reference.Insert.{kernelDel4}
-use Rattle.definition.specs.Reference.Addresses.{Outcome}
+use Rattle.definition.specs.Reference.Addresses.{Outcome, sameSubnet}
 use Rattle.definition.specs.Reference.Removal.{ofKind, unwanted, straysFrom, fall, disable, removeOne, goneWith, removeV4, deletes, deletedAt, delV4, due, fades, faded, fade, passes, expire}
 use Rattle.definition.specs.Kept.Fit.{Fit}
-use Rattle.definition.specs.Kept.Keeps.{Kept, Keeps, KeptOutcome, KeepsOutcome, fit-addresses, becomes-kept, stays-keeps, also-kept, through-each}
-use Rattle.definition.specs.Kept.Rows.{faded-fit}
+use Rattle.definition.specs.Kept.Keeps.{through-keeps, Kept, Keeps, KeptOutcome, KeepsOutcome, fit-addresses, becomes-kept, stays-keeps, also-kept, through-each}
+use Rattle.definition.specs.Kept.Rows.{faded-fit, newAddr4-told, delAddr4-told}
 use Rattle.definition.specs.Kept.Steps.{kernelDel4-keeps, dropped-kept}
 
 pub fall-keeps : (a : Row) (routes : List Row) → Keeps (fall a routes)
@@ -40,9 +40,9 @@ disable-keeps =
           cond-case Kept (eqb (length (st .addresses)) 0) (λ e. dropped-kept (λ r. not (eqb (Route.device r) 1)) st f) (λ e. stays-keeps .kept st f);
     }
 
-pub removeOne-keeps : (a : Row) → Keeps (removeOne a)
+pub removeOne-keeps : (a : Row) → fitAddress a ≡ true → Keeps (removeOne a)
 unfolding removeOne
-removeOne-keeps a =
+removeOne-keeps a h =
     record {
       kept = λ st f.
           let left : List Row = removeFirst (eqRow a) (st .addresses) in
@@ -50,25 +50,35 @@ removeOne-keeps a =
           also-kept _ disable
           (also-kept _ (fall a routes)
           (also-kept (becomes (withAddresses left st) (delAddr4 a ∷ [])) (through kernelDel4 routes)
-          (becomes-kept (withAddresses left st) (delAddr4 a ∷ []) (fit-addresses st left f (all-removeFirst fitAddress (eqRow a) (st .addresses) (f .ofAddresses))))
+          (becomes-kept (withAddresses left st) (delAddr4 a ∷ []) (delAddr4-told a h) (fit-addresses st left f (all-removeFirst fitAddress (eqRow a) (st .addresses) (f .ofAddresses))))
           (through-each kernelDel4 routes kernelDel4-keeps))
           (fall-keeps a routes))
           disable-keeps;
     }
 
-pub removeV4-keeps : (a : Row) → Keeps (removeV4 a)
+pub goneWith-fit : (l : List Row) (a : Row) → fitAddress a ≡ true → all fitAddress l ≡ true → all fitAddress (goneWith l a) ≡ true
+unfolding goneWith
+goneWith-fit l a g h =
+    let one : all fitAddress (a ∷ []) ≡ true = all-cons fitAddress a [] g refl in
+    cond-case (λ (m : List Row). all fitAddress m ≡ true) (secondary a) (λ e. one)
+    (λ e. all-append fitAddress (keep (λ b. secondary b && sameSubnet a b) l) (a ∷ []) (all-keep fitAddress (λ b. secondary b && sameSubnet a b) l h) one)
+
+pub removeV4-keeps : (a : Row) → fitAddress a ≡ true → Keeps (removeV4 a)
 unfolding removeV4
-removeV4-keeps a =
-    record { kept = λ st f. (through-each removeOne (goneWith (st .addresses) a) removeOne-keeps) .kept st f }
+removeV4-keeps a h =
+    record {
+      kept = λ st f.
+          (through-keeps removeOne fitAddress (goneWith (st .addresses) a) removeOne-keeps (goneWith-fit (st .addresses) a h (f .ofAddresses))) .kept st f;
+    }
 
 -- ---- del_v4
-deletedAt-kept : (o : Option Row) (st : State) → Fit st → KeptOutcome (deletedAt o st)
-deletedAt-kept none st f = f
-deletedAt-kept (some a) st f = (removeV4-keeps a) .kept st f
+deletedAt-kept : (o : Option Row) (st : State) → ((a : Row) → o ≡ some a → fitAddress a ≡ true) → Fit st → KeptOutcome (deletedAt o st)
+deletedAt-kept none st h f = f
+deletedAt-kept (some a) st h f = (removeV4-keeps a (h a refl)) .kept st f
 
 pub delV4-keeps : (q : Row) → KeepsOutcome (delV4 q)
 unfolding delV4
-delV4-keeps q = record { kept = λ st f. deletedAt-kept (first (deletes q) (st .addresses)) st f }
+delV4-keeps q = record { kept = λ st f. deletedAt-kept (first (deletes q) (st .addresses)) st (λ a e. all-first fitAddress (deletes q) (st .addresses) a (f .ofAddresses) e) f }
 
 -- ---- expire
 pub fade-keeps : (allowance now : ℕ) → Keeps (fade allowance now)
@@ -77,6 +87,9 @@ fade-keeps allowance now =
     record {
       kept = λ st f.
           becomes-kept _ _
+          (all-map fitAddress (λ r. eqb (length r) 34) (λ a. newAddr4 (faded a)) (keep (fades allowance now) (until (due allowance now) (st .addresses)))
+          (λ a h. all-head (λ r. eqb (length r) 34) (newAddr4 (faded a)) [] (newAddr4-told (faded a) (faded-fit a h)))
+          (all-keep fitAddress (fades allowance now) (until (due allowance now) (st .addresses)) (all-until fitAddress (due allowance now) (st .addresses) (f .ofAddresses))))
           (fit-addresses st _ f
           (all-append fitAddress (map (λ a. cond (fades allowance now a) (faded a) a) (until (due allowance now) (st .addresses))) (onward (due allowance now) (st .addresses))
           (all-map fitAddress fitAddress (λ a. cond (fades allowance now a) (faded a) a) (until (due allowance now) (st .addresses))
@@ -85,10 +98,10 @@ fade-keeps allowance now =
           (all-onward fitAddress (due allowance now) (st .addresses) (f .ofAddresses))));
     }
 
-option-case : {A : Type 0} {B : Type 0} (P : B → Type 0) (o : Option A) (x : B) (y : A → B) → P x → ((a : A) → P (y a))
+pub option-case : {A : Type 0} {B : Type 0} (P : B → Type 0) (o : Option A) (x : B) (y : A → B) → P x → ((a : A) → o ≡ some a → P (y a))
     → P (elim o as (λ (z : Option A). B) [ none ↦ x | some a ↦ y a ])
 option-case P none x y f g = f
-option-case P (some a) x y f g = g a
+option-case P (some a) x y f g = g a refl
 
 pub passes-keeps : (n allowance now : ℕ) → Keeps (passes n allowance now)
 unfolding passes
@@ -99,8 +112,8 @@ passes-keeps (suc n) allowance now =
           option-case Kept (first (due allowance now) (st .addresses)) (fade allowance now st)
           (λ a. also (also (fade allowance now st) (removeV4 a)) (passes n allowance now))
           ((fade-keeps allowance now) .kept st f)
-          (λ a. also-kept (also (fade allowance now st) (removeV4 a)) (passes n allowance now)
-          (also-kept (fade allowance now st) (removeV4 a) ((fade-keeps allowance now) .kept st f) (removeV4-keeps a))
+          (λ a e. also-kept (also (fade allowance now st) (removeV4 a)) (passes n allowance now)
+          (also-kept (fade allowance now st) (removeV4 a) ((fade-keeps allowance now) .kept st f) (removeV4-keeps a (all-first fitAddress (due allowance now) (st .addresses) a (f .ofAddresses) e)))
           (passes-keeps n allowance now));
     }
 

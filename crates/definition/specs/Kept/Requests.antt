@@ -9,7 +9,7 @@ use lib.Dec.{eqb}
 use lib.ListN.{length}
 use borrow.Author.Tests.{eqb-true}
 use Rattle.lists.specs.Lists.{Row, first, removeFirst}
-use Rattle.lists.specs.All.{cond-case}
+use Rattle.lists.specs.All.{cond-case, all-first}
 use Rattle.layout.specs.Route.{fitRoute, prefsrcPresent}
 use Rattle.layout.specs.Event.{newRoute4, delRoute4}
 use Rattle.layout.specs.Request.{fitAddRoute4, nlmFlags}
@@ -21,20 +21,21 @@ use Rattle.definition.specs.Reference.Routes.{addRoute4, routed, Reached
 use Rattle.definition.specs.Kept.Fit.{Fit}
 use Rattle.definition.specs.Kept.Routes.{removeFirst-fit, Puts, insert-fit}
 use Rattle.definition.specs.Kept.Keeps.{KeptOutcome, KeepsOutcome, fit-routes, becomes-kept, stays-keeps}
-use Rattle.definition.specs.Kept.Rows.{askedRoute-fit}
+use Rattle.definition.specs.Kept.Rows.{askedRoute-fit, newRoute4-told, delRoute4-told}
 use Rattle.definition.specs.Kept.Steps.{create4-fit}
 
-insertedAs-kept : (new : Row) (i : Inserted) (st : State) → Puts i → Fit st → KeptOutcome (insertedAs new i st)
-insertedAs-kept new (put rows flags) st p f = becomes-kept (withRoutes rows st) (newRoute4 new flags ∷ []) (fit-routes st rows f p)
-insertedAs-kept new nothing st p f = stays-keeps .kept st f
-insertedAs-kept new (Inserted.refused n) st p f = f
+insertedAs-kept : (new : Row) (i : Inserted) (st : State) → fitRoute new ≡ true → Puts i → Fit st → KeptOutcome (insertedAs new i st)
+insertedAs-kept new (put rows flags) st h p f =
+    becomes-kept (withRoutes rows st) (newRoute4 new flags ∷ []) (newRoute4-told new flags h) (fit-routes st rows f p)
+insertedAs-kept new nothing st h p f = stays-keeps .kept st f
+insertedAs-kept new (Inserted.refused n) st h p f = f
 
 routed-kept : (q : Row) (r : Reached) (st : State) → ((linked : Bool) → fitRoute (askedRoute q linked) ≡ true) → Fit st
     → KeptOutcome (routed q r st)
 routed-kept q (Reached.refused n) st h f = f
 routed-kept q (Reached.by linked) st h f =
     cond-case KeptOutcome (eqb (prefsrcPresent q) 1 && not (validPrefsrc4 q st)) (λ e. f)
-    (λ e. insertedAs-kept (askedRoute q linked) (insert4 (askedRoute q linked) (nlmFlags q) (st .routes)) st
+    (λ e. insertedAs-kept (askedRoute q linked) (insert4 (askedRoute q linked) (nlmFlags q) (st .routes)) st (h linked)
     (insert-fit (askedRoute q linked) (nlmFlags q) (st .routes) (h linked) (f .ofRoutes)) f)
 
 pub addRoute4-keeps : (q : Row) → length q ≡ 34 → fitAddRoute4 q ≡ true → KeepsOutcome (addRoute4 q)
@@ -49,10 +50,10 @@ addRoute4-keeps q long fit =
           (λ e. g);
     }
 
-deletedRoute-kept : (q : Row) (o : Option Row) (st : State) → Fit st → KeptOutcome (deletedRoute q o st)
-deletedRoute-kept q none st f = f
-deletedRoute-kept q (some r) st f =
-    becomes-kept (withRoutes (removeFirst (selects q) (st .routes)) st) (delRoute4 r ∷ [])
+deletedRoute-kept : (q : Row) (o : Option Row) (st : State) → ((r : Row) → o ≡ some r → fitRoute r ≡ true) → Fit st → KeptOutcome (deletedRoute q o st)
+deletedRoute-kept q none st h f = f
+deletedRoute-kept q (some r) st h f =
+    becomes-kept (withRoutes (removeFirst (selects q) (st .routes)) st) (delRoute4 r ∷ []) (delRoute4-told r (h r refl))
     (fit-routes st (removeFirst (selects q) (st .routes)) f (removeFirst-fit (selects q) (st .routes) (f .ofRoutes)))
 
 pub delRoute4-keeps : (q : Row) → KeepsOutcome (delRoute4Request q)
@@ -61,6 +62,6 @@ delRoute4-keeps q =
     record {
       kept = λ st f.
           cond-case KeptOutcome (listed (tableNamed q) st)
-          (λ e. cond-case KeptOutcome (badPrefix q) (λ d. f) (λ d. deletedRoute-kept q (first (selects q) (st .routes)) st f))
+          (λ e. cond-case KeptOutcome (badPrefix q) (λ d. f) (λ d. deletedRoute-kept q (first (selects q) (st .routes)) st (λ r k. all-first fitRoute (selects q) (st .routes) r (f .ofRoutes .each) k) f))
           (λ e. f);
     }

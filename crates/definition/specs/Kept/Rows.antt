@@ -7,24 +7,25 @@ use mathlib.Core.List.{List, [], _∷_, _++_}
 use native.Mathlib.Nat.{zero-add, zero-mod, add-mul-mod-self-right, mod-one}
 use native.Mathlib.Omega.{arith}
 use lib.Dec.{eqb, leb, ltb}
-use lib.ListN.{length, getD, take, drop, length-take, length-drop}
+use lib.ListN.{length, getD, take, drop, length-append, length-take, length-drop}
 use lib.Pow.{pow-pos}
 use borrow.Author.Tests.{eqb-true, eqb-false, eq-eqb, not-false}
 use Rattle.lists.specs.Lists.{Row, all, zeros}
 use Rattle.lists.specs.All.{and-iff, or-false, cond-case, all-append, all-cons}
-use Rattle.lists.specs.Rows.{length-zeros}
+use Rattle.lists.specs.Rows.{sized, length-zeros}
 use Rattle.prefix.specs.Mask.{network, hostBits, broadcast}
 use Rattle.kind.specs.Kind.{isKind, errorOf, leastScope}
 use Rattle.layout.specs.Address as Address
 use Rattle.layout.specs.Address.{fitAddress, optional, prefix}
 use Rattle.layout.specs.Route as Route
 use Rattle.layout.specs.Route.{fitRoute, dst, len, kind}
+use Rattle.layout.specs.Event.{newAddr4, delAddr4, newRoute4, delRoute4}
 use Rattle.layout.specs.Request.{validAsked, preferredAsked, fitAddV4, fitAddRoute4, metricsError}
 use Rattle.definition.specs.Reference.Lookup.{localKind, broadcastKind}
 use Rattle.definition.specs.Reference.Addresses.{namesBroadcast, ownNetwork, linkScope, hostScope, primaryOf, kernelRoute, localRoute, prefixRoute, upRoutes, candidates, only, rewritten, setLife, asked, asSecondary, changedTo, loopback}
 use Rattle.definition.specs.Reference.Removal.{faded}
 use Rattle.definition.specs.Reference.Routes.{formCheck, badPrefix, askedRoute, mark, then, refuse, deadFlags, unsupported, onlinkFlag}
-use Rattle.definition.specs.Kept.Fit.{FitFields, fields-address, fields-request, address-fields, length-address}
+use Rattle.definition.specs.Kept.Fit.{FitFields, fields-address, fields-request, address-fields, length-address, length-route}
 
 -- ---- addresses
 -- other flags, lifetimes and stamps, and a byte for the proto, leave a row fit
@@ -129,6 +130,26 @@ unfolding candidates
 candidates-fit addresses up a h =
     all-cons fitRoute (localRoute (primaryOf addresses a) a) (cond up (upRoutes (primaryOf addresses a) a) []) (localRoute-fit (primaryOf addresses a) a)
     (cond-case (λ (l : List Row). all fitRoute l ≡ true) up (λ e. upRoutes-fit (primaryOf addresses a) a h) (λ e. refl))
+
+-- ---- event rows
+told-words : (a : Row) → length a ≡ 20 → length (a ++ zeros 12) ≡ 32
+told-words a h = simp (length-append, length-zeros) (omega arith)
+
+pub newAddr4-told : (a : Row) → fitAddress a ≡ true → sized 34 (newAddr4 a ∷ []) ≡ true
+unfolding newAddr4
+newAddr4-told a h = rw (told-words a (length-address a h))
+
+pub delAddr4-told : (a : Row) → fitAddress a ≡ true → sized 34 (delAddr4 a ∷ []) ≡ true
+unfolding delAddr4
+delAddr4-told a h = rw (told-words a (length-address a h))
+
+pub newRoute4-told : (r : Row) (flags : ℕ) → fitRoute r ≡ true → sized 34 (newRoute4 r flags ∷ []) ≡ true
+unfolding newRoute4
+newRoute4-told r flags h = rw (length-route r h)
+
+pub delRoute4-told : (r : Row) → fitRoute r ≡ true → sized 34 (delRoute4 r ∷ []) ≡ true
+unfolding delRoute4
+delRoute4-told r h = rw (length-route r h)
 
 -- ---- the route that a request asks for
 then-zero : (a b : ℕ) → then a b ≡ 0 → (a ≡ 0) × (b ≡ 0)

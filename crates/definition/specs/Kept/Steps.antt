@@ -22,17 +22,18 @@ use Rattle.definition.specs.Reference.Addresses.{Outcome, candidates, ke
 use Rattle.definition.specs.Kept.Fit.{Fit, FitRoutes, fields-address}
 use Rattle.definition.specs.Kept.Routes.{keep-fit, removeFirst-fit, Puts, insert-fit, listTable-fit}
 use Rattle.definition.specs.Kept.Keeps.{Kept, Keeps, KeptOutcome, KeepsOutcome, fit-addresses, fit-routes, fit-tables, becomes-kept, stays-keeps, also-kept, through-keeps, through-each}
-use Rattle.definition.specs.Kept.Rows.{asked-fit, asSecondary-fit, faded-fit, changedTo-fit, candidates-fit, subnet-fit, askedRoute-fit}
+use Rattle.definition.specs.Kept.Rows.{newAddr4-told, newRoute4-told, delRoute4-told, asked-fit, asSecondary-fit, faded-fit, changedTo-fit, candidates-fit, subnet-fit, askedRoute-fit}
 
 -- ---- routes
 pub create4-fit : (t : ℕ) (st : State) → Fit st → Fit (create4 t st)
 unfolding create4
 create4-fit t st f = fit-tables st (listTable t (st .tables)) f (listTable-fit t (st .tables) (f .ofTables))
 
-inserted-kept : (new : Row) (i : Inserted) (st : State) → Puts i → Fit st → Kept (inserted new i st)
-inserted-kept new (put rows flags) st p f = becomes-kept (withRoutes rows st) (newRoute4 new flags ∷ []) (fit-routes st rows f p)
-inserted-kept new nothing st p f = stays-keeps .kept st f
-inserted-kept new (Inserted.refused n) st p f = stays-keeps .kept st f
+inserted-kept : (new : Row) (i : Inserted) (st : State) → fitRoute new ≡ true → Puts i → Fit st → Kept (inserted new i st)
+inserted-kept new (put rows flags) st h p f =
+    becomes-kept (withRoutes rows st) (newRoute4 new flags ∷ []) (newRoute4-told new flags h) (fit-routes st rows f p)
+inserted-kept new nothing st h p f = stays-keeps .kept st f
+inserted-kept new (Inserted.refused n) st h p f = stays-keeps .kept st f
 
 pub kernelAdd4-keeps : (new : Row) → fitRoute new ≡ true → Keeps (kernelAdd4 new)
 unfolding kernelAdd4
@@ -40,18 +41,18 @@ kernelAdd4-keeps new h =
     record {
       kept = λ st f.
           let g : Fit (create4 (table new) st) = create4-fit (table new) st f in
-          inserted-kept new (insert4 new 0xc00 ((create4 (table new) st) .routes)) (create4 (table new) st)
+          inserted-kept new (insert4 new 0xc00 ((create4 (table new) st) .routes)) (create4 (table new) st) h
           (insert-fit new 0xc00 ((create4 (table new) st) .routes) h (g .ofRoutes)) g;
     }
 
-removed-kept : (p : Row → Bool) (o : Option Row) (st : State) → Fit st → Kept (removed p o st)
-removed-kept p none st f = stays-keeps .kept st f
-removed-kept p (some r) st f =
-    becomes-kept (withRoutes (removeFirst p (st .routes)) st) (delRoute4 r ∷ []) (fit-routes st (removeFirst p (st .routes)) f (removeFirst-fit p (st .routes) (f .ofRoutes)))
+removed-kept : (p : Row → Bool) (o : Option Row) (st : State) → ((r : Row) → o ≡ some r → fitRoute r ≡ true) → Fit st → Kept (removed p o st)
+removed-kept p none st h f = stays-keeps .kept st f
+removed-kept p (some r) st h f =
+    becomes-kept (withRoutes (removeFirst p (st .routes)) st) (delRoute4 r ∷ []) (delRoute4-told r (h r refl)) (fit-routes st (removeFirst p (st .routes)) f (removeFirst-fit p (st .routes) (f .ofRoutes)))
 
 pub kernelDel4-keeps : (p : Row) → Keeps (kernelDel4 p)
 unfolding kernelDel4
-kernelDel4-keeps p = record { kept = λ st f. removed-kept (named p) (first (named p) (st .routes)) st f }
+kernelDel4-keeps p = record { kept = λ st f. removed-kept (named p) (first (named p) (st .routes)) st (λ r e. all-first fitRoute (named p) (st .routes) r (f .ofRoutes .each) e) f }
 
 -- some of the routes go
 pub dropped-kept : (p : Row → Bool) (st : State) → Fit st → Kept (stays (withRoutes (keep p (st .routes)) st))
@@ -81,7 +82,7 @@ newAddress-keeps new up h =
       kept = λ st f.
           let placed : State = withAddresses (place4 new (st .addresses)) st in
           also-kept (becomes placed (newAddr4 new ∷ [])) (bring (candidates (placed .addresses) up new))
-          (becomes-kept placed (newAddr4 new ∷ []) (fit-addresses st (place4 new (st .addresses)) f (place4-fit new (st .addresses) h (f .ofAddresses))))
+          (becomes-kept placed (newAddr4 new ∷ []) (newAddr4-told new h) (fit-addresses st (place4 new (st .addresses)) f (place4-fit new (st .addresses) h (f .ofAddresses))))
           (candidates-keep (placed .addresses) up new h);
     }
 
@@ -103,7 +104,7 @@ changeV4-keeps q old now g h =
     record {
       kept = λ st f.
           also-kept (moved q old st) _ ((moved-keeps q old h) .kept st f)
-          (record { kept = λ later k. becomes-kept _ _ (fit-addresses later _ k (all-replaceFirst fitAddress (sameAddress q) (changedTo q old now) (later .addresses) (changedTo-fit q old now g h) (k .ofAddresses))) });
+          (record { kept = λ later k. becomes-kept _ _ (newAddr4-told (changedTo q old now) (changedTo-fit q old now g h)) (fit-addresses later _ k (all-replaceFirst fitAddress (sameAddress q) (changedTo q old now) (later .addresses) (changedTo-fit q old now g h) (k .ofAddresses))) });
     }
 
 addedOver-kept : (q : Row) (now : ℕ) (o : Option Row) (st : State) → length q ≡ 18 → fitAddV4 q ≡ true
