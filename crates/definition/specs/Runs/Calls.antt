@@ -1,8 +1,8 @@
 -- The calls by what they do to a state, without limits: what a call on well-formed words replies and leaves, unless it answers 203.
 use Prim.Native.Nat.{ℕ}
-use mathlib.Core.Path.{_≡_, refl, sym, _∙_, ap}
+use mathlib.Core.Path.{_≡_, refl}
 use mathlib.Core.Bool.{Bool, true, false, cond, not, _&&_, false≢true}
-use mathlib.Core.List.{List, [], _∷_}
+use mathlib.Core.List.{List}
 use lib.Dec.{eqb, leb, ltb}
 use lib.ListN.{length}
 use borrow.Author.Tests.{eq-eqb}
@@ -12,8 +12,8 @@ use Rattle.layout.specs.Address.{optional}
 use Rattle.layout.specs.Route as Route
 use Rattle.layout.specs.Route.{fitRoute}
 use Rattle.layout.specs.Request.{addV4Size, fitAddV4, delV4Size, fitDelV4, addRoute4Size, fitAddRoute4, delRoute4Size, fitDelRoute4}
-use Rattle.definition.specs.State.{State, Out, sizes}
-use Rattle.definition.specs.Words.{within, stateSize, encode, decode, wellFormed}
+use Rattle.definition.specs.State.{State, sizes}
+use Rattle.definition.specs.Words.{within, stateSize, encode, decode}
 use Rattle.definition.specs.Call.{Call, Reply, refusal, valued, written, optionally, foundRow}
 use Rattle.definition.specs.Reference.Lookup.{lookup4, lookup4Flow, local4}
 use Rattle.definition.specs.Reference.Addresses.{Outcome, goes, refused, addV4, up, down}

@@ -1,10 +1,10 @@
 -- A run on words is a run on states, so what is computed on states holds of the words.
 use Prim.Native.Nat.{ℕ}
 use mathlib.Core.Path.{_≡_, refl, sym, _∙_, ap, ap₂}
-use mathlib.Core.Bool.{Bool, true, cond, not, _&&_}
+use mathlib.Core.Bool.{Bool, true, cond, _&&_}
 use mathlib.Core.List.{List, [], _∷_}
 use Rattle.definition.specs.State.{State, empty}
-use Rattle.definition.specs.Words.{decode, encode}
+use Rattle.definition.specs.Words.{decode}
 use Rattle.definition.specs.Call.{Call, Reply}
 use Rattle.definition.specs.Step.{step}
 use Rattle.definition.specs.Kept.Encode.{good-empty, encode-empty, decode-encode}
@@ -28,11 +28,6 @@ answers chosen (c ∷ cs) st =
 
 decode-empty : decode emptyWords ≡ empty
 decode-empty = rw (sym encode-empty) (decode-encode empty good-empty)
-
-held-after : (cs : List Call) (w : List ℕ) → Held w → Held (after cs w)
-unfolding after
-held-after [] w h = h
-held-after (c ∷ cs) w h = held-after cs (step c w .words) (step-follows c w h .held)
 
 after-left : (cs : List Call) (w : List ℕ) → Held w → decode (after cs w) ≡ left cs (decode w)
 unfolding after left
@@ -65,9 +60,3 @@ module _ (cs : List Call) where
 
   pub run-answers : (chosen : ℕ → Bool) → observed chosen cs emptyWords ≡ answers chosen cs empty
   run-answers chosen = observed-answers chosen cs emptyWords held-empty ∙ ap (answers chosen cs) decode-empty
-
-  -- what a call replies after the run
-  pub run-reply : (c : Call) → step c (after cs emptyWords) .reply ≡ bounded (deed c) (left cs empty) .reply
-  run-reply c =
-      step-follows c (after cs emptyWords) (held-after cs emptyWords held-empty) .reply
-      ∙ ap (λ st. bounded (deed c) st .reply) run-left

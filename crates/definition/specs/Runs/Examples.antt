@@ -5,8 +5,8 @@ use mathlib.Core.Path.{_≡_, refl, sym, _∙_, ap, ap₂}
 use mathlib.Core.Bool.{Bool, true, false, cond, not, _&&_}
 use mathlib.Core.List.{List, [], _∷_, _++_, map}
 use mathlib.Core.Option.{Option, none, some}
-use lib.Dec.{eqb, leb, ltb}
-use lib.ListN.{length, getD, take, drop}
+use lib.Dec.{eqb, ltb}
+use lib.ListN.{getD, take, drop}
 use borrow.Author.Tests.{not-true}
 use Rattle.lists.specs.Lists.{Row, all, keep, first, each, eqRow, zeros}
 use Rattle.lists.specs.All.{and-iff, all-head, all-tail, eqRow-true}
@@ -15,14 +15,13 @@ use Rattle.layout.specs.Route.{table, dst, len, kind, prefsrc}
 use Rattle.definition.specs.State.{State, empty}
 use Rattle.definition.specs.Words.{decode}
 use Rattle.definition.specs.Call.{Call, Reply}
-use Rattle.definition.specs.Step.{step}
 use Rattle.definition.specs.Reference.Lookup.{answer, flowTo}
 use Rattle.definition.specs.Reference.Source.{dump4}
 use Rattle.definition.specs.Computing.{computing}
-use Rattle.definition.specs.Runs.Statement.{Choice, unstruck, Agree, Alike, emptyWords, after, spacious, observed}
-use Rattle.definition.specs.Runs.Calls.{deed, freely, bounded}
+use Rattle.definition.specs.Runs.Statement.{Choice, unstruck, Agree, Alike, emptyWords, after, observed}
+use Rattle.definition.specs.Runs.Calls.{freely, bounded}
 use Rattle.definition.specs.Runs.Theorem.{two-runs}
-use Rattle.definition.specs.Runs.Computed.{left, ample, answers, run-left, run-ample, run-answers, run-reply}
+use Rattle.definition.specs.Runs.Computed.{left, ample, answers, run-left, run-ample, run-answers}
 
 abbrev private : ℕ → Bool
 private t = eqb t 7

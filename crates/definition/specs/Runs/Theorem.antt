@@ -1,23 +1,21 @@
 -- Two runs side by side: the proof. Both runs answer as the calls that aren't struck do without limits on the empty state.
 use Prim.Native.Nat.{ℕ}
 use mathlib.Core.Path.{_≡_, refl, sym, _∙_, ap, ap₂}
-use mathlib.Core.Bool.{Bool, true, false, cond, not, _&&_}
+use mathlib.Core.Bool.{Bool, true}
 use mathlib.Core.List.{List, [], _∷_}
-use lib.Dec.{eqb}
-use Rattle.lists.specs.Lists.{keep}
 use Rattle.lists.specs.All.{and-left, and-right}
 use Rattle.lists.specs.Keep.{byCase}
-use Rattle.definition.specs.State.{State, empty}
-use Rattle.definition.specs.Words.{decode, encode, ordered}
+use Rattle.definition.specs.State.{State}
+use Rattle.definition.specs.Words.{decode}
 use Rattle.definition.specs.Call.{Call, Reply}
 use Rattle.definition.specs.Step.{step}
 use Rattle.definition.specs.Kept.Fit.{fit-state}
 use Rattle.definition.specs.Kept.Encode.{good-decode}
 use Rattle.definition.specs.Kept.Step.{Held, held-empty}
-use Rattle.definition.specs.Runs.Statement.{Choice, struck, unstruck, Agree, emptyWords, after, spacious, compared, observed, View, view, Alike, TwoRuns}
+use Rattle.definition.specs.Runs.Statement.{Choice, struck, unstruck, emptyWords, after, spacious, compared, observed, View, TwoRuns}
 use Rattle.definition.specs.Runs.Projection.{without}
 use Rattle.definition.specs.Runs.Calls.{deed, freely, spaced, step-follows, bounded-freely}
-use Rattle.definition.specs.Runs.Apart.{Same, same, hidden}
+use Rattle.definition.specs.Runs.Apart.{same, hidden}
 
 -- ---- a run without limits, on states
 ideal : (ℕ → Bool) → List Call → State → List Reply
