@@ -73,6 +73,12 @@ pub cond-case {ℓ} : {A : Type ℓ} (P : A → Type 0) (b : Bool) {x y : A} →
 cond-case P true f g = f refl
 cond-case P false f g = g refl
 
+pub cond-true {ℓ} : {A : Type ℓ} (b : Bool) (x y : A) → b ≡ true → cond b x y ≡ x
+cond-true b x y h = ap (λ (t : Bool). cond t x y) h
+
+pub cond-false {ℓ} : {A : Type ℓ} (b : Bool) (x y : A) → b ≡ false → cond b x y ≡ y
+cond-false b x y h = ap (λ (t : Bool). cond t x y) h
+
 -- ---- all
 module _ {A : Type 0} where
   pub all-cons : (p : A → Bool) (x : A) (l : List A) → p x ≡ true → all p l ≡ true → all p (x ∷ l) ≡ true
