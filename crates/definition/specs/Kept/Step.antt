@@ -1,13 +1,13 @@
 -- Every call on well-formed words leaves well-formed words; of a changing call, what it tells and when it gives 203.
 -- Assumes nothing.
 use Prim.Native.Nat.{ℕ, _≤_}
-use mathlib.Core.Path.{_≡_, refl, sym, ap, _∙_}
-use mathlib.Core.Bool.{Bool, true, false, cond, _&&_}
+use mathlib.Core.Path.{_≡_, refl, _∙_}
+use mathlib.Core.Bool.{Bool, true, false, _&&_}
 use mathlib.Core.List.{List, []}
 use mathlib.Core.Logic.{_↔_}
 use mathlib.Core.Option.{Option, none, some}
 use native.Mathlib.Omega.{arith}
-use lib.Dec.{eqb, leb}
+use lib.Dec.{eqb}
 use lib.ListN.{length}
 use borrow.Author.Tests.{eqb-true, eq-eqb, leb-true, le-leb}
 use Rattle.lists.specs.Lists.{Row, zeros}
@@ -21,7 +21,6 @@ use Rattle.definition.specs.Step.{Result, checks, outcome, changing, ste
 use Rattle.definition.specs.Kept.Fit.{state-fit}
 use Rattle.definition.specs.Kept.Encode.{Good, length-encode, wellFormed-encode, good-decode, good-empty, encode-empty}
 use Rattle.definition.specs.Kept.Keeps.{Covers, Kept, KeptOutcome}
-use Rattle.definition.specs.Kept.Told.{BriefOutcome}
 use Rattle.definition.specs.Kept.Change.{Change, changeOf, change, step-change, step-reads, Sound, Sounds, sounds}
 
 -- ---- well-formed words
