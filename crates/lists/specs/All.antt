@@ -1,11 +1,11 @@
 -- Laws of tests joined by and, and of what passes a test all through a list.
 -- Assumes nothing.
 use Prim.Native.Nat.{ℕ}
-use mathlib.Core.Path.{_≡_, refl, sym, ap, _∙_}
+use mathlib.Core.Path.{_≡_, refl, sym, ap}
 use mathlib.Core.Bool.{Bool, true, false, cond, not, _&&_, _||_}
 use mathlib.Core.List.{List, [], _∷_, _++_, map}
 use mathlib.Core.Logic.{_↔_}
-use mathlib.Core.Option.{Option, none, some}
+use mathlib.Core.Option.{Option, some}
 use native.Mathlib.Omega.{arith}
 use lib.Dec.{eqb}
 use borrow.Author.Tests.{eqb-true, eqb-false, eq-eqb}
@@ -72,6 +72,12 @@ test-case false f g = g refl
 pub cond-case {ℓ} : {A : Type ℓ} (P : A → Type 0) (b : Bool) {x y : A} → (b ≡ true → P x) → (b ≡ false → P y) → P (cond b x y)
 cond-case P true f g = f refl
 cond-case P false f g = g refl
+
+pub cond-true {ℓ} : {A : Type ℓ} (b : Bool) (x y : A) → b ≡ true → cond b x y ≡ x
+cond-true b x y h = ap (λ (t : Bool). cond t x y) h
+
+pub cond-false {ℓ} : {A : Type ℓ} (b : Bool) (x y : A) → b ≡ false → cond b x y ≡ y
+cond-false b x y h = ap (λ (t : Bool). cond t x y) h
 
 -- ---- all
 module _ {A : Type 0} where

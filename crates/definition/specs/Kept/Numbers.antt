@@ -1,7 +1,7 @@
 -- The numbers with which the reference refuses: never 0, and none above Linux's errno list.
 -- Assumes nothing.
 use Prim.Native.Nat.{ℕ, _≤_, _<_}
-use mathlib.Core.Path.{_≡_, refl, sym, ap, _∙_}
+use mathlib.Core.Path.{_≡_}
 use mathlib.Core.Bool.{Bool, true, false, cond, not, _&&_, _||_}
 use mathlib.Core.List.{List}
 use mathlib.Core.Logic.{_≢_}
@@ -16,10 +16,10 @@ use Rattle.layout.specs.Route.{alike, kind, scope, gateway, gatewayPresent, pre
 use Rattle.layout.specs.Request.{fitAddRoute4, metricsError, oif, upAtAddRoute4, nlmFlags, replaceAsked}
 use Rattle.definition.specs.State.{State}
 use Rattle.definition.specs.Reference.Lookup.{Flow, Found, route, answer, together, lookupIn, ruling, settled, rejects, listed, addrType4, defaultTable, mainTable, localTable, unicastKind, localKind}
-use Rattle.definition.specs.Reference.Insert.{create4, insert4, Inserted, put, nothing, isRow, exclFlag, replaceFlag, createFlag, appendFlag, ahead, behind}
+use Rattle.definition.specs.Reference.Insert.{create4, insert4, Inserted, put, nothing, isRow, exclFlag, replaceFlag, createFlag, appendFlag}
 use Rattle.definition.specs.Reference.Addresses.{Outcome, goes, refused, addedOver, addV4, sameAddress, linkScope, hostScope}
 use Rattle.definition.specs.Reference.Removal.{deletes, deletedAt, delV4}
-use Rattle.definition.specs.Reference.Routes.{Reached, then, refuse, plain, badPrefix, deadFlags, unsupported, onlinkFlag, formCheck, onlinkCheck, toGateway, usable, foundOr, gatewayRoute, reachedBy, gateway4, reachCheck, askedRoute, validPrefsrc4, insertedAs, routed, addRoute4, tableNamed, selects, deletedRoute, delRoute4Request}
+use Rattle.definition.specs.Reference.Routes.{Reached, then, refuse, badPrefix, deadFlags, unsupported, onlinkFlag, formCheck, onlinkCheck, toGateway, usable, foundOr, gatewayRoute, reachedBy, gateway4, reachCheck, askedRoute, validPrefsrc4, insertedAs, routed, addRoute4, tableNamed, selects, deletedRoute, delRoute4Request}
 
 -- a number of the errno list
 pub record Errno (n : ℕ) : Type 0 where

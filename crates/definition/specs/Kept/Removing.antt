@@ -2,21 +2,21 @@
 -- Assumes nothing.
 use Prim.Native.Nat.{ℕ, zero, suc, _+_, _-_, _*_, _/_, _%_, _^_, _≤_}
 use mathlib.Core.Path.{_≡_, refl, sym, ap, _∙_}
-use mathlib.Core.Bool.{Bool, true, false, cond, not, _&&_}
+use mathlib.Core.Bool.{Bool, true, cond, not, _&&_}
 use mathlib.Core.List.{List, [], _∷_, _++_, map}
 use mathlib.Core.Option.{Option, none, some}
 use native.Mathlib.Omega.{arith}
 use lib.Dec.{eqb}
 use lib.ListN.{length, getD, take, length-append, length-map}
 use lib.Seq.{getD-at, length-take-le}
-use borrow.Author.Tests.{eq-eqb, not-true}
-use Rattle.lists.specs.Lists.{Row, all, any, keep, first, until, onward, removeFirst, eqRow}
-use Rattle.lists.specs.All.{and-iff, and-left, and-right, cond-case, test-case, true-false, all-first, all-until, first-passes, or-right, or-left}
+use borrow.Author.Tests.{eq-eqb}
+use Rattle.lists.specs.Lists.{Row, any, keep, first, until, onward, removeFirst, eqRow}
+use Rattle.lists.specs.All.{and-iff, cond-case, test-case, all-first, all-until}
 use Rattle.lists.specs.Count.{any-back, onward-first, tick, tick-one, tick-none, tick-most, count, length-keep, count-most, count-append, count-removeFirst, length-removeFirst, first-any, until-onward, count-map, Within, within-first, within-rest, within-one, within-keep}
 use Rattle.layout.specs.Flags.{hasBit, setBit, clearBit}
 use Rattle.layout.specs.Address.{fitAddress, deprecated, secondary, local, flags}
 use Rattle.layout.specs.Route as Route
-use Rattle.layout.specs.Event.{newAddr4, delAddr4, delRoute4}
+use Rattle.layout.specs.Event.{newAddr4, delAddr4}
 use Rattle.definition.specs.State.{State, Out, becomes, stays, also, through, withAddresses, withRoutes}
 use Rattle.definition.specs.Reference.Lookup.{mainTable, localKind, listed, local4}
 use Rattle.definition.specs.Reference.Insert.{kernelDel4, named, removed}

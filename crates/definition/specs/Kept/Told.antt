@@ -1,37 +1,30 @@
 -- What a changing call tells: at most 384 rows of 34 words, whatever words it is handed.
 -- Assumes nothing.
 use Prim.Native.Nat.{ℕ, _+_, _≤_}
-use mathlib.Core.Path.{_≡_, refl, sym, ap, _∙_}
-use mathlib.Core.Bool.{Bool, true, false, cond, not, _&&_}
-use mathlib.Core.List.{List, [], _∷_, _++_}
+use mathlib.Core.Path.{_≡_, refl}
+use mathlib.Core.Bool.{Bool, true, not, _&&_}
 use mathlib.Core.Option.{Option, none, some}
 use native.Mathlib.Omega.{arith}
-use lib.Dec.{eqb, leb}
+use lib.Dec.{eqb}
 use lib.ListN.{length, length-append}
-use borrow.Author.Tests.{eqb-true, leb-true}
+use borrow.Author.Tests.{leb-true}
 use Rattle.lists.specs.Lists.{Row, first}
-use Rattle.lists.specs.All.{and-left, and-right, and-iff, cond-case}
-use Rattle.lists.specs.Rows.{sized}
-use Rattle.lists.specs.Count.{count, count-most, first-there}
-use Rattle.life.specs.Life.{allowance}
+use Rattle.lists.specs.All.{and-iff, cond-case}
+use Rattle.lists.specs.Count.{count-most, first-there}
 use Rattle.layout.specs.Address as Address
-use Rattle.layout.specs.Request.{fitAddV4, fitDelV4, fitAddRoute4, fitDelRoute4, replaceAsked, nlmFlags}
+use Rattle.layout.specs.Request.{fitAddV4, replaceAsked, nlmFlags}
 use Rattle.layout.specs.Route.{table, prefsrcPresent}
-use Rattle.definition.specs.State.{State, Sizes, Out, sizes, stays, also, becomes, withAddresses}
-use Rattle.definition.specs.Words.{within, encode, decode, wellFormed}
-use Rattle.definition.specs.Call.{Call, Reply, refusal, written}
+use Rattle.definition.specs.State.{State, Sizes, Out, sizes, stays, also}
+use Rattle.definition.specs.Words.{within}
 use Rattle.definition.specs.Reference.Insert.{create4, insert4, Inserted, put, nothing, inserted, kernelAdd4, kernelDel4, named, removed}
-use Rattle.definition.specs.Reference.Addresses.{Outcome, goes, refused, prefixRoute, kernelRoute, moved, reroutes, changeV4, addedOver, addV4, sameAddress, newAddress, up, down}
+use Rattle.definition.specs.Reference.Addresses.{Outcome, goes, refused, prefixRoute, moved, reroutes, changeV4, addedOver, addV4, sameAddress, up, down}
 use Rattle.definition.specs.Reference.Removal.{deletes, deletedAt, removeV4, delV4, expire}
 use Rattle.definition.specs.Reference.Routes.{Reached, formCheck, reachCheck, tableNamed, badPrefix, askedRoute, validPrefsrc4, insertedAs, routed, addRoute4, selects, deletedRoute, delRoute4Request}
 use Rattle.definition.specs.Reference.Lookup.{listed}
-use Rattle.definition.specs.Step.{Result, checks, limited, outcome, changing, eventsFit, requestIs, clockLimit, step}
 use Rattle.definition.specs.Kept.Fit.{Fit, fit-state}
-use Rattle.definition.specs.Kept.Encode.{Good, good-decode}
-use Rattle.definition.specs.Kept.Keeps.{Covers, Kept, Keeps, KeptOutcome, KeepsOutcome}
-use Rattle.definition.specs.Kept.Steps.{addV4-keeps, up-keeps, down-keeps}
-use Rattle.definition.specs.Kept.Removal.{delV4-keeps, expire-keeps}
-use Rattle.definition.specs.Kept.Requests.{addRoute4-keeps, delRoute4-keeps}
+use Rattle.definition.specs.Kept.Encode.{Good}
+use Rattle.definition.specs.Kept.Keeps.{Kept, KeptOutcome}
+use Rattle.definition.specs.Kept.Steps.{addV4-keeps, up-keeps}
 use Rattle.definition.specs.Kept.Adding.{Adds, newAddress-adds, up-adds}
 use Rattle.definition.specs.Kept.Removing.{Drops, live, removeV4-drops, expire-drops}
 

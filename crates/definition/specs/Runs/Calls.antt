@@ -12,8 +12,8 @@ use Rattle.layout.specs.Address.{optional}
 use Rattle.layout.specs.Route as Route
 use Rattle.layout.specs.Route.{fitRoute}
 use Rattle.layout.specs.Request.{addV4Size, fitAddV4, delV4Size, fitDelV4, addRoute4Size, fitAddRoute4, delRoute4Size, fitDelRoute4}
-use Rattle.definition.specs.State.{State, sizes}
-use Rattle.definition.specs.Words.{within, stateSize, encode, decode}
+use Rattle.definition.specs.State.{State}
+use Rattle.definition.specs.Words.{stateSize, encode, decode}
 use Rattle.definition.specs.Call.{Call, Reply, refusal, valued, written, optionally, foundRow}
 use Rattle.definition.specs.Reference.Lookup.{lookup4, lookup4Flow, local4}
 use Rattle.definition.specs.Reference.Addresses.{Outcome, goes, refused, addV4, up, down}
@@ -21,13 +21,11 @@ use Rattle.definition.specs.Reference.Removal.{delV4, expire}
 use Rattle.definition.specs.Reference.Routes.{addRoute4, delRoute4Request}
 use Rattle.definition.specs.Reference.Source.{dump4, select4, source4, source, present}
 use Rattle.definition.specs.Step.{Result, checks, outcome, changing, reading, eventsFit, requestIs, listingRoom, clockLimit, upCall, downCall, addV4Call, delV4Call, expireCall, addRoute4Call, delRoute4Call, dump4Call, lookup4Call, lookup4FlowCall, local4Call, source4Call, sourceCall, select4Call, step}
-use Rattle.definition.specs.Kept.Fit.{fit-state, state-fit}
-use Rattle.definition.specs.Kept.Encode.{Good, decode-encode, good-decode}
-use Rattle.definition.specs.Kept.Keeps.{KeptOutcome, KeepsOutcome}
-use Rattle.definition.specs.Kept.Steps.{addV4-keeps, up-keeps, down-keeps}
-use Rattle.definition.specs.Kept.Removal.{delV4-keeps, expire-keeps}
-use Rattle.definition.specs.Kept.Requests.{addRoute4-keeps, delRoute4-keeps}
-use Rattle.definition.specs.Kept.Step.{Held, held-encode, good-kept, going, sized-request}
+use Rattle.definition.specs.Kept.Fit.{state-fit}
+use Rattle.definition.specs.Kept.Encode.{Good, decode-encode}
+use Rattle.definition.specs.Kept.Keeps.{KeptOutcome}
+use Rattle.definition.specs.Kept.Change.{Sounds, sounds}
+use Rattle.definition.specs.Kept.Step.{Held, held-encode, good-held, good-kept, roomy}
 use Rattle.definition.specs.Runs.Projection.{result}
 
 -- what a call does, with the tests of its buffers, of a row handed over and of its request
@@ -96,11 +94,7 @@ freely (reads buffers row request f) st =
     record { reply = cond (eqb n 0) (f st) (refusal n); state = st }
 
 -- ---- with limits
--- the lists keep to their limits all through
-abbrev pub roomy : Outcome → Bool
-roomy (goes o) = within (o .peak)
-roomy (refused n st) = within (sizes st)
-
+-- every list keeps to its limit at every moment
 abbrev pub fitting : Deed → State → Bool
 fitting (changes buffers request f) st = cond (buffers && request) (roomy (f st)) true
 fitting (reads buffers row request f) st = true
@@ -110,17 +104,17 @@ bounded d st = cond (fitting d st) (freely d st) (record { reply = refusal 203; 
 
 -- ---- what every deed keeps
 abbrev Keeping : Deed → Type 0
-Keeping (changes buffers request f) = buffers ≡ true → request ≡ true → KeepsOutcome f
+Keeping (changes buffers request f) = Sounds (record { buffers = buffers; request = request; does = f })
 Keeping (reads buffers row request f) = Unit {0}
 
 keeping : (c : Call) → Keeping (deed c)
-keeping (Call.up events now) = λ b r. going (up now) (up-keeps now)
-keeping (Call.down events) = λ b r. going down down-keeps
-keeping (Call.addV4 q events now) = λ b r. addV4-keeps q now (sized-request addV4Size events q b) r
-keeping (Call.delV4 q events) = λ b r. delV4-keeps q
-keeping (Call.expire events now) = λ b r. going (expire allowance now) (expire-keeps allowance now)
-keeping (Call.addRoute4 q events) = λ b r. addRoute4-keeps q (sized-request addRoute4Size events q b) r
-keeping (Call.delRoute4 q events) = λ b r. delRoute4-keeps q
+keeping (Call.up events now) = sounds (Call.up events now) _ refl
+keeping (Call.down events) = sounds (Call.down events) _ refl
+keeping (Call.addV4 q events now) = sounds (Call.addV4 q events now) _ refl
+keeping (Call.delV4 q events) = sounds (Call.delV4 q events) _ refl
+keeping (Call.expire events now) = sounds (Call.expire events now) _ refl
+keeping (Call.addRoute4 q events) = sounds (Call.addRoute4 q events) _ refl
+keeping (Call.delRoute4 q events) = sounds (Call.delRoute4 q events) _ refl
 keeping (Call.dump4 listing) = tt
 keeping (Call.lookup4 rowRoom ip) = tt
 keeping (Call.lookup4Flow rowRoom ip tos oif) = tt
@@ -160,7 +154,7 @@ follows-changes true true f k w s =
     rw (changing-held true true f w s, outcome-roomy o w)
     (byCase (roomy o)
     (λ room.
-    let g = good-result o (k refl refl .kept (decode w) (fit-state (decode w) (good-decode w (s .long) (s .well) .fits))) room in
+    let g = good-result o (k .sound (decode w) (good-held w s) refl refl .kept) room in
     record { held = rw room (held-encode (result o) g); reply = rw room; state = rw room (decode-encode (result o) g) })
     (λ full. record { held = rw full s; reply = rw full; state = rw full }))
 

@@ -10,8 +10,7 @@ use Rattle.definition.specs.Words.{decode}
 use Rattle.definition.specs.Call.{Call, Reply}
 use Rattle.definition.specs.Step.{step}
 use Rattle.definition.specs.Kept.Fit.{fit-state}
-use Rattle.definition.specs.Kept.Encode.{good-decode}
-use Rattle.definition.specs.Kept.Step.{Held, held-empty}
+use Rattle.definition.specs.Kept.Step.{Held, held-empty, good-held}
 use Rattle.definition.specs.Runs.Statement.{Choice, struck, unstruck, emptyWords, after, spacious, compared, observed, View, TwoRuns}
 use Rattle.definition.specs.Runs.Projection.{without}
 use Rattle.definition.specs.Runs.Calls.{deed, freely, spaced, step-follows, bounded-freely}
@@ -48,7 +47,7 @@ module _ (chosen : ℕ → Bool) (choice : Choice chosen) where
       let reply : step c w .reply ≡ freely (deed c) (decode w) .reply = f .reply ∙ ap (λ d. d .reply) free in
       let state : decode w′ ≡ freely (deed c) (decode w) .state = f .state ∙ ap (λ d. d .state) free in
       let later = projects cs w′ (f .held) (and-right (spaced (step c w .reply)) (spacious cs w′) h) in
-      let inOrder = fit-state (decode w) (good-decode w (s .long) (s .well) .fits) .ofRoutes .inOrder in
+      let inOrder = fit-state (decode w) (good-held w s .fits) .ofRoutes .inOrder in
       byCase (struck chosen c)
       (λ e.
       let unseen : without chosen (decode w′) ≡ without chosen (decode w) =
