@@ -24,6 +24,11 @@ pub and-both : (a b : Bool) → a ≡ true → b ≡ true → a && b ≡ true
 and-both true b g h = h
 and-both false b g h = g
 
+-- the second fails where the first passes and both don't
+pub and-rest : (a b : Bool) → a ≡ true → a && b ≡ false → b ≡ false
+and-rest true b g h = h
+and-rest false b g h = cc
+
 -- `simp and-iff at h` takes a chain of tests apart, and `simp and-iff` puts one together
 pub and-iff : (a b : Bool) → (a && b ≡ true) ↔ ((a ≡ true) × (b ≡ true))
 and-iff a b = ((λ h. (and-left a b h, and-right a b h)), (λ h. and-both a b (h .0) (h .1)))
