@@ -8,4 +8,9 @@ pub mod Rows
 pub mod Steps
 pub mod Removal
 pub mod Requests
+pub mod Adding
+pub mod Removing
+pub mod Numbers
+pub mod Told
+pub mod Change
 pub mod Step

@@ -8,3 +8,5 @@ pub mod Struck
 pub mod Calls
 pub mod Apart
 pub mod Theorem
+pub mod Computed
+pub mod Examples

@@ -1,10 +1,10 @@
 -- How many elements of a list pass a test, and how long the lists are that the definitions make.
 -- Assumes nothing.
-use Prim.Native.Nat.{ℕ, zero, suc, _+_, _≤_, _<_}
+use Prim.Native.Nat.{ℕ, suc, _+_, _≤_, _<_}
 use mathlib.Core.Path.{_≡_, refl, sym, ap, _∙_}
-use mathlib.Core.Bool.{Bool, true, false, cond, not, _&&_, _||_}
+use mathlib.Core.Bool.{Bool, true, false, cond, not, _||_}
 use mathlib.Core.List.{List, [], _∷_, _++_, map}
-use mathlib.Core.Option.{Option, none, some}
+use mathlib.Core.Option.{Option, some}
 use native.Mathlib.Omega.{arith}
 use lib.ListN.{length, length-append}
 use Rattle.lists.specs.Lists.{Row, all, any, keep, first, until, onward, removeFirst, replaceFirst, behindLast, eqRow}
@@ -141,6 +141,10 @@ count-map s q r p f [] g h = omega arith
 count-map s q r p f (x ∷ l) g h =
     omega (arith, g x (all-head s x l h), count-map s q r p f l g (all-tail s x l h))
 
+pub any-back : {A : Type 0} (p : A → Bool) (l m : List A) → any p m ≡ true → any p (l ++ m) ≡ true
+any-back p [] m h = h
+any-back p (x ∷ l) m h = or-right (p x) (any p (l ++ m)) (any-back p l m h)
+
 -- ---- rows that one list has as often as another at least
 abbrev pub times : Row → List Row → ℕ
 times x l = count (eqRow x) l
@@ -188,3 +192,20 @@ within-keep p a l n h =
           omega (arith, tick-most (eqRow y a)))
           (λ e. omega (arith, count-keep (eqRow y) p l, tick-none (eqRow y a) e));
     }
+
+-- the first that passes stands in the list, and in what stands from it onward
+pub first-there : (p : Row → Bool) (l : List Row) (a : Row) → first p l ≡ some a → any (eqRow a) l ≡ true
+first-there p [] a e = cc
+first-there p (x ∷ l) a e =
+    cond-case (λ (o : Option Row). o ≡ some a → eqRow a x || any (eqRow a) l ≡ true) (p x)
+    (λ c d. let same : a ≡ x = cc in or-left (eqRow a x) (any (eqRow a) l) (eq-eqRow a x same))
+    (λ c d. or-right (eqRow a x) (any (eqRow a) l) (first-there p l a d))
+    e
+
+pub onward-first : (p : Row → Bool) (l : List Row) (a : Row) → first p l ≡ some a → any (eqRow a) (onward p l) ≡ true
+onward-first p [] a e = cc
+onward-first p (x ∷ l) a e = go (p x) e (onward-first p l a)
+  where
+    go : (b : Bool) → cond b (some x) (first p l) ≡ some a → (first p l ≡ some a → any (eqRow a) (onward p l) ≡ true) → any (eqRow a) (cond b (x ∷ l) (onward p l)) ≡ true
+    go true d ih = let same : a ≡ x = cc in or-left (eqRow a x) (any (eqRow a) l) (eq-eqRow a x same)
+    go false d ih = ih d

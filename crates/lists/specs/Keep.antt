@@ -34,9 +34,6 @@ Implies {A} p q = (x : A) → p x ≡ true → q x ≡ true
 
 -- ---- what is kept
 module _ {A : Type 0} where
-  pub keep-true : (p : A → Bool) (x : A) (l : List A) → p x ≡ true → keep p (x ∷ l) ≡ x ∷ keep p l
-  keep-true p x l e = rw e
-
   pub keep-false : (p : A → Bool) (x : A) (l : List A) → p x ≡ false → keep p (x ∷ l) ≡ keep p l
   keep-false p x l e = rw e
 

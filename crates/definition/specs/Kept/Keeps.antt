@@ -1,6 +1,6 @@
 -- Steps that keep a state fit, tell of rows of an event's size, and never leave a list longer than the greatest length that they count.
 -- Assumes nothing.
-use Prim.Native.Nat.{ℕ, _≤_, max}
+use Prim.Native.Nat.{ℕ, _≤_}
 use mathlib.Core.Path.{_≡_, refl}
 use mathlib.Core.Bool.{Bool, true}
 use mathlib.Core.List.{List, [], _∷_}

@@ -1,22 +1,20 @@
 -- Call by call: one that isn't struck goes the same way without the chosen tables, one that is struck changes nothing outside them.
 use Prim.Native.Nat.{ℕ}
-use mathlib.Core.Path.{_≡_, refl, sym, _∙_, ap}
-use mathlib.Core.Bool.{Bool, true, false, cond, not, _&&_, false≢true}
-use mathlib.Core.List.{List, [], _∷_}
-use lib.Dec.{eqb, leb}
-use Rattle.lists.specs.Lists.{Row, keep}
+use mathlib.Core.Path.{_≡_, refl, ap}
+use mathlib.Core.Bool.{Bool, true, false, cond, false≢true}
+use lib.Dec.{leb}
 use Rattle.lists.specs.Keep.{byCase, keep-within}
 use Rattle.life.specs.Life.{allowance}
 use Rattle.definition.specs.State.{State, Out}
 use Rattle.definition.specs.Words.{ordered}
-use Rattle.definition.specs.Call.{Call, Reply, refusal, valued, written, foundRow}
+use Rattle.definition.specs.Call.{Call, Reply, valued, written, foundRow}
 use Rattle.definition.specs.Reference.Lookup.{lookup4, lookup4Flow, flowTo}
 use Rattle.definition.specs.Reference.Addresses.{Outcome, goes, addV4, up, down}
 use Rattle.definition.specs.Reference.Removal.{delV4, expire}
 use Rattle.definition.specs.Reference.Routes.{addRoute4, delRoute4Request}
 use Rattle.definition.specs.Reference.Source.{dump4, sourceFor, orValue, source}
-use Rattle.definition.specs.Step.{checks, listingRoom}
-use Rattle.definition.specs.Runs.Statement.{Choice, struck, outside, listing, compared}
+use Rattle.definition.specs.Step.{listingRoom}
+use Rattle.definition.specs.Runs.Statement.{Choice, struck, outside, compared}
 use Rattle.definition.specs.Runs.Projection.{without, result, Apart, Tandem, both-go, both-refuse}
 use Rattle.definition.specs.Runs.Tables.{lookupIn-apart, local4-apart}
 use Rattle.definition.specs.Runs.Addresses.{addV4-apart, up-apart, down-apart, delV4-apart, expire-apart}

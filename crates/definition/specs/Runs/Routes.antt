@@ -1,23 +1,22 @@
 -- Requests that name a table that isn't chosen, and the listing.
 use Prim.Native.Nat.{ℕ, _%_}
-use mathlib.Core.Path.{_≡_, refl, sym, _∙_, ap, ap₂}
-use mathlib.Core.Bool.{Bool, true, false, cond, not, _&&_, _||_, false≢true}
-use mathlib.Core.List.{List, [], _∷_, _++_, reverse}
+use mathlib.Core.Path.{_≡_, refl, sym, _∙_, ap}
+use mathlib.Core.Bool.{Bool, true, false, cond, not, _&&_, false≢true}
+use mathlib.Core.List.{List, reverse}
 use mathlib.Core.Option.{Option, none, some}
 use lib.Dec.{eqb}
-use borrow.Author.Tests.{eqb-true, not-true, not-false}
-use Rattle.lists.specs.Lists.{Row, keep, first, each, removeFirst}
+use borrow.Author.Tests.{eqb-true}
+use Rattle.lists.specs.Lists.{Row, keep, first}
 use Rattle.lists.specs.Keep.{Implies, byCase, keep-each, keep-reverse, keep-keep, keep-none, each-keep, each-same, first-within}
 use Rattle.layout.specs.Route.{table, prefsrc, prefsrcPresent}
 use Rattle.layout.specs.Request.{nlmFlags}
-use Rattle.definition.specs.State.{State, Out}
-use Rattle.definition.specs.Reference.Lookup.{mainTable, localTable, answer, together, lookupIn, addrType4, listed}
+use Rattle.definition.specs.State.{State}
+use Rattle.definition.specs.Reference.Lookup.{mainTable, localTable, together, listed}
 use Rattle.definition.specs.Reference.Insert.{Inserted, put, nothing, create4, insert4}
-use Rattle.definition.specs.Reference.Addresses.{Outcome}
 use Rattle.definition.specs.Reference.Routes.{Reached, by, refused, tableNamed, badPrefix, formCheck, onlinkCheck, toGateway, gatewayRoute, gateway4, reachCheck, validPrefsrc4, askedRoute, insertedAs, routed, addRoute4, selects, deletedRoute, delRoute4Request}
 use Rattle.definition.specs.Reference.Source.{below, tableOrder, dump4}
 use Rattle.definition.specs.Runs.Statement.{Choice, outside}
-use Rattle.definition.specs.Runs.Projection.{unchosen, without, unchosen-as, Mirrors, Tandem, both-go, both-refuse, tandem-cond}
+use Rattle.definition.specs.Runs.Projection.{unchosen, without, unchosen-as, Tandem, both-go, both-refuse, tandem-cond}
 use Rattle.definition.specs.Runs.Tables.{local-open, main-open, answer-apart, together-open, lookupIn-apart, addrType4-apart, listed-apart, create4-apart, keptIn, insert4-apart, removal-apart}
 
 module _ (chosen : ℕ → Bool) (choice : Choice chosen) where

@@ -2,20 +2,20 @@
 -- its place leaves the others where they were.
 use Prim.Native.Nat.{ℕ}
 use native.Mathlib.Omega.{arith}
-use mathlib.Core.Path.{_≡_, refl, sym, _∙_, ap, ap₂}
+use mathlib.Core.Path.{_≡_, refl, sym, _∙_, ap}
 use mathlib.Core.Bool.{Bool, true, false, cond, not, _&&_, _||_, true≢false, false≢true}
 use mathlib.Core.List.{List, [], _∷_, _++_, append-nil}
 use mathlib.Core.Option.{Option, none, some}
 use lib.Dec.{eqb, ltb}
 use borrow.Author.Tests.{eqb-true, eq-eqb, ltb-true, ltb-false, not-true, lt-ltb, le-ltb}
-use Rattle.lists.specs.Lists.{Row, keep, any, first, eqRow, removeFirst, replaceFirst, among}
+use Rattle.lists.specs.Lists.{Row, keep, any, first, eqRow, among}
 use Rattle.lists.specs.All.{and-left, and-right}
-use Rattle.lists.specs.Keep.{byCase, contrary, keep-false, not-not, keep-append, keep-split, keep-none, removeFirst-without, replaceFirst-without}
+use Rattle.lists.specs.Keep.{byCase, contrary, keep-false, not-not, keep-append, keep-split, removeFirst-without, replaceFirst-without}
 use Rattle.layout.specs.Route.{table, dst, len, tos, priority, before, alike, prefsrcPresent}
 use Rattle.layout.specs.Request.{nlmFlags}
 use Rattle.definition.specs.State.{State, withRoutes}
 use Rattle.definition.specs.Words.{ordered}
-use Rattle.definition.specs.Reference.Lookup.{localTable, mainTable, listed}
+use Rattle.definition.specs.Reference.Lookup.{localTable, listed}
 use Rattle.definition.specs.Reference.Insert.{Inserted, put, nothing, addTable, listTable, create4, ahead, behind, insert4, isRow, exclFlag, replaceFlag, createFlag, appendFlag}
 use Rattle.definition.specs.Reference.Addresses.{Outcome}
 use Rattle.definition.specs.Reference.Routes.{Reached, by, refused, tableNamed, badPrefix, formCheck, reachCheck, validPrefsrc4, askedRoute, insertedAs, routed, addRoute4, selects, deletedRoute, delRoute4Request}

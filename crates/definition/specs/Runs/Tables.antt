@@ -1,20 +1,19 @@
 -- Lookups, insertions and deletions that name a table that isn't chosen: no row or number of a chosen one is looked at.
 use Prim.Native.Nat.{ℕ}
-use mathlib.Core.Path.{_≡_, refl, sym, _∙_, ap, ap₂}
-use mathlib.Core.Bool.{Bool, true, false, cond, not, _&&_, _||_, false≢true}
-use mathlib.Core.List.{List, [], _∷_, _++_}
+use mathlib.Core.Path.{_≡_, refl, sym, ap}
+use mathlib.Core.Bool.{Bool, true, not, _&&_, _||_, false≢true}
+use mathlib.Core.List.{List, [], _∷_}
 use mathlib.Core.Option.{Option, none, some}
 use lib.Dec.{eqb}
-use borrow.Author.Tests.{eqb-true}
-use Rattle.lists.specs.Lists.{Row, keep, all, any, first, removeFirst, replaceFirst, eqRow, among}
+use Rattle.lists.specs.Lists.{Row, keep, first, removeFirst, eqRow, among}
 use Rattle.lists.specs.All.{and-left, and-right, or-case, eqRow-true}
 use Rattle.lists.specs.Keep.{Implies, byCase, cond-map, keep-append, keep-keep, keep-within, any-within, first-within, removeFirst-within, replaceFirst-within}
 use Rattle.layout.specs.Route.{table, before, alike}
-use Rattle.definition.specs.State.{State, Out, becomes, withRoutes}
-use Rattle.definition.specs.Reference.Lookup.{Flow, Found, longest, fits, answer, together, lookupIn, lookup4, lookup4Flow, typeSet, addrType4, local4, listed, settled, ruling, refused, kindFound, flowTo, netUnreachable, broadcastKind, localKind, mainTable, localTable, defaultTable}
-use Rattle.definition.specs.Reference.Insert.{Inserted, put, nothing, addTable, listTable, create4, ahead, behind, insert4, inserted, isRow, kernelAdd4, named, removed, kernelDel4, exclFlag, replaceFlag, createFlag, appendFlag}
+use Rattle.definition.specs.State.{State, withRoutes}
+use Rattle.definition.specs.Reference.Lookup.{Flow, longest, fits, answer, together, lookupIn, typeSet, addrType4, local4, listed, refused, flowTo, mainTable, localTable, defaultTable}
+use Rattle.definition.specs.Reference.Insert.{Inserted, put, nothing, addTable, listTable, create4, ahead, behind, insert4, inserted, kernelAdd4, named, removed, kernelDel4}
 use Rattle.definition.specs.Runs.Statement.{Choice, outside}
-use Rattle.definition.specs.Runs.Projection.{unchosen, without, unchosen-as, unchosen-like, Mirrors, Apart, mirrors-also}
+use Rattle.definition.specs.Runs.Projection.{unchosen, without, unchosen-as, unchosen-like, Mirrors, Apart}
 
 module _ (chosen : ℕ → Bool) (choice : Choice chosen) where
   pub default-open : unchosen chosen defaultTable ≡ true
