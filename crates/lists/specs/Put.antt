@@ -29,8 +29,8 @@ pub put-at : (p m q vs : List ℕ) (at : ℕ) → length p ≡ at → length m �
 unfolding put
 put-at p m q vs at e f =
     let behind : drop (at + length vs) (p ++ (m ++ q)) ≡ q =
-        ap (λ (l : List ℕ). drop (at + length vs) l) (sym (append-assoc p m q))
-        ∙ drop-at (p ++ m) q (at + length vs) (rw length-append (omega arith))
+    ap (λ (l : List ℕ). drop (at + length vs) l) (sym (append-assoc p m q))
+    ∙ drop-at (p ++ m) q (at + length vs) (rw length-append (omega arith))
     in
     rw (behind, take-at p (m ++ q) at e)
 
@@ -70,7 +70,7 @@ module _ (at : ℕ) (vs l : List ℕ) (h : at + length vs ≤ length l) where
       let d = drop (at + length vs) l in
       let p = take at l ++ vs in
       let there : put at vs l ≡ p ++ (take (length ws) d ++ drop (length ws) d) =
-          rw take-append-drop (sym (append-assoc (take at l) vs d))
+      rw take-append-drop (sym (append-assoc (take at l) vs d))
       in
       ap (λ (x : List ℕ). put (at + length vs) ws x) there
       ∙ put-at p (take (length ws) d) (drop (length ws) d) ws (at + length vs)
@@ -83,7 +83,7 @@ module _ (at : ℕ) (vs l : List ℕ) (h : at + length vs ≤ length l) where
       let m = take (length vs) (drop at l) in
       let q = ws ++ drop (at + length vs + length ws) l in
       let there : put (at + length vs) ws l ≡ take at l ++ (m ++ q) =
-          ap (λ (x : List ℕ). x ++ q) (take-add at (length vs) l) ∙ append-assoc (take at l) m q
+      ap (λ (x : List ℕ). x ++ q) (take-add at (length vs) l) ∙ append-assoc (take at l) m q
       in
       ap (λ (x : List ℕ). put at vs x) there
       ∙ put-at (take at l) m q vs at before-put (length-take-le (length vs) (drop at l) (rw length-drop (omega arith)))
@@ -130,7 +130,7 @@ put-more at vs v l h =
     let y = getD l (at + length vs) 0 in
     let ys = drop (suc (at + length vs)) l in
     let there : put at vs l ≡ p ++ (y ∷ ys) =
-        ap (λ (d : List ℕ). take at l ++ (vs ++ d)) (drop-cons l (at + length vs) 0 h) ∙ sym (append-assoc (take at l) vs (y ∷ ys))
+    ap (λ (d : List ℕ). take at l ++ (vs ++ d)) (drop-cons l (at + length vs) 0 h) ∙ sym (append-assoc (take at l) vs (y ∷ ys))
     in
     let one : at + length (vs ++ (v ∷ [])) ≡ suc (at + length vs) = rw length-append (omega arith) in
     ap (λ (x : List ℕ). set x (at + length vs) v) there
@@ -145,9 +145,73 @@ put-less at vs v l h =
     let y = getD l at 0 in
     let q = vs ++ drop (suc at + length vs) l in
     let there : put (suc at) vs l ≡ take at l ++ (y ∷ q) =
-        ap (λ (x : List ℕ). x ++ q) (take-suc l at 0 first) ∙ append-assoc (take at l) (y ∷ []) q
+    ap (λ (x : List ℕ). x ++ q) (take-suc l at 0 first) ∙ append-assoc (take at l) (y ∷ []) q
     in
     let one : at + suc (length vs) ≡ suc at + length vs = omega arith in
     ap (λ (x : List ℕ). set x at v) there
     ∙ set-at (take at l) y q v at (length-take-le at l (omega arith))
     ∙ sym (rw one)
+
+-- ---- a run laid word by word, from its front and from its end
+module _ (at : ℕ) (vs l : List ℕ) (i : ℕ) (h : at + length vs ≤ length l) (k : i < length vs) where
+  pub put-take : set (put at (take i vs) l) (at + i) (getD vs i 0) ≡ put at (take (i + 1) vs) l
+  put-take =
+      let long : length (take i vs) ≡ i = length-take-le i vs (omega arith) in
+      let room : at + length (take i vs) < length l = omega arith in
+      ap (λ (n : ℕ). set (put at (take i vs) l) (at + n) (getD vs i 0)) (sym long)
+      ∙ put-more at (take i vs) (getD vs i 0) l room
+      ∙ ap (λ (x : List ℕ). put at x l) (sym (rw (add-one, take-suc vs i 0)))
+
+  pub put-drop : set (put (at + (i + 1)) (drop (i + 1) vs) l) (at + i) (getD vs i 0) ≡ put (at + i) (drop i vs) l
+  put-drop =
+      let one : at + (i + 1) ≡ suc (at + i) = omega arith in
+      let room : at + i + suc (length (drop (suc i) vs)) ≤ length l = rw length-drop (omega arith) in
+      rw (one, add-one)
+      (put-less (at + i) (drop (suc i) vs) (getD vs i 0) l room
+      ∙ ap (λ (x : List ℕ). put (at + i) x l) (sym (drop-cons vs i 0 k)))
+
+pub getD-span : (at n : ℕ) (l : List ℕ) (i d : ℕ) → i < n → getD (span at n l) i d ≡ getD l (at + i) d
+unfolding span
+getD-span at n l i d h = getD-take n (drop at l) i d h ∙ getD-drop at l i d
+
+pub getD-zeros : (n i : ℕ) → getD (zeros n) i 0 ≡ 0
+unfolding zeros
+getD-zeros zero i = refl
+getD-zeros (suc n) zero = refl
+getD-zeros (suc n) (suc i) = getD-zeros n i
+
+-- one word more of n words copied down or up: the words that are read still stand
+module _ (from to n : ℕ) (l : List ℕ) (i : ℕ) (h : from + n ≤ length l) (t : to + n ≤ length l) (k : i < n) where
+  pub put-down : to ≤ from
+      → set (put to (take i (span from n l)) l) (to + i) (getD (put to (take i (span from n l)) l) (from + i) 0) ≡ put to (take (i + 1) (span from n l)) l
+  put-down below =
+      let long : length (span from n l) ≡ n = length-span from n l h in
+      let part : length (take i (span from n l)) ≡ i = length-take-le i (span from n l) (omega arith) in
+      let read : getD (put to (take i (span from n l)) l) (from + i) 0 ≡ getD (span from n l) i 0 =
+      getD-put-behind to (take i (span from n l)) l (omega arith) (from + i) 0 (omega arith) ∙ sym (getD-span from n l i 0 k)
+      in
+      rw read (put-take to (span from n l) l i (omega arith) (omega arith))
+
+  pub put-up : from ≤ to
+      → set (put (to + (i + 1)) (drop (i + 1) (span from n l)) l) (to + i) (getD (put (to + (i + 1)) (drop (i + 1) (span from n l)) l) (from + i) 0)
+      ≡ put (to + i) (drop i (span from n l)) l
+  put-up above =
+      let long : length (span from n l) ≡ n = length-span from n l h in
+      let rest : length (drop (i + 1) (span from n l)) ≡ n - (i + 1) = rw (length-drop, long) in
+      let read : getD (put (to + (i + 1)) (drop (i + 1) (span from n l)) l) (from + i) 0 ≡ getD (span from n l) i 0 =
+      getD-put-before (to + (i + 1)) (drop (i + 1) (span from n l)) l (omega arith) (from + i) 0 (omega arith) ∙ sym (getD-span from n l i 0 k)
+      in
+      rw read (put-drop to (span from n l) l i (omega arith) (omega arith))
+
+-- ---- words put in where n words behind the place are in use, and k words taken out
+pub put-in : (at n : ℕ) (vs l : List ℕ) → at + length vs + n ≤ length l → put at vs (put (at + length vs) (span at n l) l) ≡ put at (vs ++ span at n l) l
+put-in at n vs l h =
+    let long = length-span at n l (omega arith) in
+    put-ahead at vs l (omega arith) (span at n l) (omega arith)
+
+pub put-out : (at k n : ℕ) (l : List ℕ) → at + k + n ≤ length l → put (at + n) (zeros k) (put at (span (at + k) n l) l) ≡ put at (span (at + k) n l ++ zeros k) l
+put-out at k n l h =
+    let long = length-span (at + k) n l (omega arith) in
+    let none = length-zeros k in
+    ap (λ (m : ℕ). put (at + m) (zeros k) (put at (span (at + k) n l) l)) (sym long)
+    ∙ put-behind at (span (at + k) n l) l (omega arith) (zeros k) (omega arith)
