@@ -1,2 +1,4 @@
 pub mod Lists
+pub mod All
+pub mod Rows
 pub mod Put

@@ -9,20 +9,7 @@ use native.Mathlib.Omega.{arith}
 use lib.ListN.{length, getD, set, take, drop, length-append, length-take, length-drop, length-set, take-append-drop, drop-of-length-le, List·getD-append}
 use lib.Seq.{length-take-le, take-at, drop-at, set-at, getD-at, drop-cons, take-suc, take-all, drop-drop, take-add, take-append-le, drop-append-le, getD-take, getD-drop, getD-append-add, take-append-add, drop-append-add}
 use Rattle.lists.specs.Lists.{zeros, pad, span, put}
-
--- ---- lengths
-pub length-zeros : (n : ℕ) → length (zeros n) ≡ n
-unfolding zeros
-length-zeros zero = refl
-length-zeros (suc n) = ap suc (length-zeros n)
-
-pub length-span : (at n : ℕ) (l : List ℕ) → at + n ≤ length l → length (span at n l) ≡ n
-unfolding span
-length-span at n l h = length-take-le n (drop at l) (rw length-drop (omega arith))
-
-pub length-pad : (n : ℕ) (l : List ℕ) → length l ≤ n → length (pad n l) ≡ n
-unfolding pad
-length-pad n l h = rw (length-append, length-zeros) (omega arith)
+use Rattle.lists.specs.Rows.{length-zeros, length-span, length-put}
 
 -- ---- a list cut in three: what is before, the run, what is behind
 pub put-at : (p m q vs : List ℕ) (at : ℕ) → length p ≡ at → length m ≡ length vs → put at vs (p ++ (m ++ q)) ≡ p ++ (vs ++ q)
@@ -46,10 +33,6 @@ cut at n l = sym (rw (← drop-drop n at l, take-append-drop n (drop at l), take
 module _ (at : ℕ) (vs l : List ℕ) (h : at + length vs ≤ length l) where
   before-put : length (take at l) ≡ at
   before-put = length-take-le at l (omega arith)
-
-  pub length-put : length (put at vs l) ≡ length l
-  unfolding put
-  length-put = rw (length-append, length-append, before-put, length-drop) (omega arith)
 
   -- what was put is there
   pub span-put : span at (length vs) (put at vs l) ≡ vs

@@ -12,7 +12,8 @@ use lib.Dec.{eqb}
 use lib.ListN.{length, getD, take}
 use lib.Seq.{take-all}
 use borrow.Author.Tests.{eqb-true, eqb-false, eq-eqb, ne-eqb}
-use Rattle.lists.specs.Lists.{all, allZero, eqRow}
+use Rattle.lists.specs.Lists.{allZero, eqRow}
+use Rattle.lists.specs.All.{and-left, and-right, and-both, eqRow-true}
 
 -- two tests agree where each fact gives the other
 same-test : (a b : Bool) → (a ≡ true → b ≡ true) → (b ≡ true → a ≡ true) → a ≡ b
@@ -21,29 +22,16 @@ same-test true false f g = sym (f refl)
 same-test false true f g = g refl
 same-test false false f g = refl
 
-both : (a b : Bool) → a ≡ true → b ≡ true → a && b ≡ true
-both true true p q = refl
-both true false p q = q
-both false b p q = p
-
-one : (a b : Bool) → a && b ≡ true → a ≡ true
-one true b p = refl
-one false b p = p
-
-two : (a b : Bool) → a && b ≡ true → b ≡ true
-two true b p = p
-two false b p = cc
-
 -- the words so far and one more
 pub or-none : (x w : ℕ) → eqb (bitOr x w) 0 ≡ eqb x 0 && eqb 0 w
 or-none x w =
     same-test (eqb (bitOr x w) 0) (eqb x 0 && eqb 0 w)
     (λ e. let z = eqb-true (bitOr x w) 0 e in
-    both (eqb x 0) (eqb 0 w)
+    and-both (eqb x 0) (eqb 0 w)
     (eq-eqb x 0 (omega (arith, or-add-and x w, and-le-l x w, and-le-r x w)))
     (eq-eqb 0 w (omega (arith, or-add-and x w, and-le-l x w, and-le-r x w))))
-    (λ e. let p = eqb-true x 0 (one (eqb x 0) (eqb 0 w) e) in
-    let q = eqb-true 0 w (two (eqb x 0) (eqb 0 w) e) in
+    (λ e. let p = eqb-true x 0 (and-left (eqb x 0) (eqb 0 w) e) in
+    let q = eqb-true 0 w (and-right (eqb x 0) (eqb 0 w) e) in
     eq-eqb (bitOr x w) 0 (omega (arith, or-add-and x w)))
 
 xor-none : (x y : ℕ) → eqb 0 (bitXor x y) ≡ eqb x y
@@ -92,11 +80,5 @@ module _ (x : ℕ) where
       ∙ sym (rw (add-one, same-suc l m i h k))
 
 -- rows of other lengths are not the same
-pub same-long : (l m : List ℕ) → eqRow l m ≡ true → length l ≡ length m
-same-long [] [] e = refl
-same-long [] (y ∷ m) e = let z : _≡_ {A = ℕ} 0 1 = cc in absurd (omega arith)
-same-long (x ∷ l) [] e = let z : _≡_ {A = ℕ} 0 1 = cc in absurd (omega arith)
-same-long (x ∷ l) (y ∷ m) e = ap suc (same-long l m (two (eqb x y) (eqRow l m) e))
-
 pub other-long : (l m : List ℕ) → (length l ≡ length m → ⊥) → false ≡ eqRow l m
-other-long l m h = same-test false (eqRow l m) (λ e. cc) (λ e. absurd (h (same-long l m e)))
+other-long l m h = same-test false (eqRow l m) (λ e. cc) (λ e. absurd (h (ap length (eqRow-true l m e))))

@@ -8,7 +8,8 @@ use denote.Ref.{now}
 use lib.ListN.{length, take, set, length-set}
 use lib.Seq.{take-all}
 use Rattle.lists.specs.Lists.{put, zeros}
-use Rattle.lists.specs.Put.{put-none, put-take, length-zeros, getD-zeros}
+use Rattle.lists.specs.Rows.{length-zeros}
+use Rattle.lists.specs.Put.{put-none, put-take, getD-zeros}
 use borrow.Author.Needs.{needs}
 use Rattle.words.proofs.clear.Statement.{statement}
 use Rattle.words.proofs.clear.Tie as tie

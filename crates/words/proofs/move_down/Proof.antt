@@ -8,7 +8,8 @@ use denote.Ref.{now}
 use lib.ListN.{length, take, set, getD, length-set}
 use lib.Seq.{take-all}
 use Rattle.lists.specs.Lists.{put, span}
-use Rattle.lists.specs.Put.{put-none, put-down, length-span}
+use Rattle.lists.specs.Rows.{length-span}
+use Rattle.lists.specs.Put.{put-none, put-down}
 use borrow.Author.Needs.{needs}
 use Rattle.words.proofs.move_down.Statement.{statement}
 use Rattle.words.proofs.move_down.Tie as tie

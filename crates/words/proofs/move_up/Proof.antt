@@ -8,7 +8,8 @@ use denote.Ref.{now}
 use lib.ListN.{length, drop, set, getD, length-set, drop-of-length-le}
 use native.Mathlib.Nat.{add-zero}
 use Rattle.lists.specs.Lists.{put, span}
-use Rattle.lists.specs.Put.{put-none, put-up, length-span}
+use Rattle.lists.specs.Rows.{length-span}
+use Rattle.lists.specs.Put.{put-none, put-up}
 use borrow.Author.Needs.{needs}
 use Rattle.words.proofs.move_up.Statement.{statement}
 use Rattle.words.proofs.move_up.Tie as tie
