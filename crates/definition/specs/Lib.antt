@@ -4,3 +4,4 @@ pub mod Words
 pub mod Call
 pub mod Step
 pub mod Computing
+pub mod Kept

@@ -4,11 +4,11 @@ use Prim.Native.Nat.{ℕ, zero, suc, _+_, _-_, _*_, _≤_}
 use mathlib.Core.Path.{_≡_, refl, sym, ap, _∙_}
 use mathlib.Core.Bool.{Bool, true, false, _&&_}
 use mathlib.Core.List.{List, [], _∷_, _++_, append-assoc}
-use native.Mathlib.Nat.{mul-zero, mul-suc, add-comm}
+use native.Mathlib.Nat.{mul-zero, mul-suc, add-comm, zero-add, suc-add, sub-zero}
 use native.Mathlib.Omega.{arith}
 use lib.Dec.{eqb}
 use lib.ListN.{length, take, drop, length-append, length-take, length-drop}
-use lib.Seq.{take-at, drop-at, take-add, length-take-le, drop-append-seam}
+use lib.Seq.{take-at, drop-at, take-add, length-take-le, drop-drop}
 use borrow.Author.Tests.{eqb-true, eq-eqb}
 use Rattle.lists.specs.Lists.{Row, all, allZero, flat, zeros, pad, span, put, chop}
 use Rattle.lists.specs.All.{and-left, and-right, and-both}
@@ -36,7 +36,20 @@ zeros-allZero (x ∷ l) h =
     let e : l ≡ zeros (length l) = zeros-allZero l (and-right (eqb 0 x) (allZero l) h) in
     rw (← d, ← e)
 
+pub zeros-cons : (n : ℕ) → 0 ∷ zeros n ≡ zeros (suc n)
+unfolding zeros
+zeros-cons n = refl
+
+pub zeros-append : (m n : ℕ) → zeros m ++ zeros n ≡ zeros (m + n)
+unfolding zeros
+zeros-append zero n = ap zeros (sym (zero-add n))
+zeros-append (suc m) n = ap (λ (l : List ℕ). 0 ∷ l) (zeros-append m n) ∙ ap zeros (sym (suc-add m n))
+
 -- ---- pad
+pub pad-nil : (n : ℕ) → pad n [] ≡ zeros n
+unfolding pad
+pad-nil n = ap zeros (sub-zero n)
+
 pub length-pad : (n : ℕ) (l : List ℕ) → length l ≤ n → length (pad n l) ≡ n
 unfolding pad
 length-pad n l h = simp (length-append, length-zeros) (omega arith)
@@ -98,12 +111,17 @@ pub pad-chop : (size k n : ℕ) (l : List ℕ) → k * n ≤ size → size ≤ l
     → pad size (flat (chop k n l)) ≡ take size l
 pad-chop size k n l h g z = ap (pad size) (flat-chop k n l) ∙ pad-take size (k * n) l h g z
 
--- the zeros behind the rows in use
-pub allZero-pad : (n : ℕ) (l rest : List ℕ) → length l ≤ n → allZero (span (length l) (n - length l) (pad n l ++ rest)) ≡ true
+-- the zeros behind the m words in use
+pub allZero-pad : (n m : ℕ) (l rest : List ℕ) → length l ≡ m → allZero (span m (n - m) (pad n l ++ rest)) ≡ true
 unfolding pad span
-allZero-pad n l rest h =
-    rw (append-assoc l (zeros (n - length l)) rest, drop-append-seam l (zeros (n - length l) ++ rest), take-at (zeros (n - length l)) rest (n - length l) (length-zeros (n - length l)))
-    (allZero-zeros (n - length l))
+allZero-pad n m l rest h =
+    rw (h, append-assoc l (zeros (n - m)) rest, drop-at l (zeros (n - m) ++ rest) m h, take-at (zeros (n - m)) rest (n - m) (length-zeros (n - m)))
+    (allZero-zeros (n - m))
+
+-- at the very end
+pub allZero-end : (n m : ℕ) (l : List ℕ) → length l ≡ m → allZero (drop m (pad n l)) ≡ true
+unfolding pad
+allZero-end n m l h = rw (h, drop-at l (zeros (n - m)) m h) (allZero-zeros (n - m))
 
 pub chop-pad : (size k : ℕ) (rows : List Row) (rest : List ℕ) → sized k rows ≡ true → chop k (length rows) (pad size (flat rows) ++ rest) ≡ rows
 unfolding pad
@@ -111,6 +129,10 @@ chop-pad size k rows rest h =
     rw (append-assoc (flat rows) (zeros (size - length (flat rows))) rest) (chop-flat k rows (zeros (size - length (flat rows)) ++ rest) h)
 
 -- ---- put and span
+pub span-past : (a m n : ℕ) (l : List ℕ) → span (a + m) n l ≡ span m n (drop a l)
+unfolding span
+span-past a m n l = ap (take n) (sym (drop-drop m a l))
+
 pub length-put : (at : ℕ) (vs l : List ℕ) → at + length vs ≤ length l → length (put at vs l) ≡ length l
 unfolding put
 length-put at vs l h = simp (length-append, length-take, length-drop) (omega arith)
