@@ -1,19 +1,17 @@
 -- A list changed at a place, and what that is of the rows' words.
 -- Assumes nothing.
-use Prim.Native.Nat.{ℕ, zero, suc, _+_, _-_, _*_, _≤_, _<_}
+use Prim.Native.Nat.{ℕ, suc, _+_, _-_, _*_, _≤_, _<_}
 use mathlib.Core.Path.{_≡_, refl, sym, ap, _∙_}
-use mathlib.Core.Bool.{Bool, true, false}
+use mathlib.Core.Bool.{Bool, true}
 use mathlib.Core.List.{List, [], _∷_, _++_, append-assoc}
-use native.Mathlib.Nat.{mul-zero}
 use native.Mathlib.Omega.{arith}
 use lib.Dec.{eqb}
-use lib.ListN.{length, getD, set, take, drop, length-append, length-take, length-drop, length-set, take-append-drop}
-use lib.Seq.{length-take-le, take-at, drop-at, drop-cons, set-split}
+use lib.ListN.{length, getD, set, take, drop, length-append, length-take, length-drop, take-append-drop}
+use lib.Seq.{length-take-le, drop-cons, set-split}
 use borrow.Author.Tests.{eqb-true}
-use Rattle.lists.specs.Lists.{Row, all, keep, flat, span}
+use Rattle.lists.specs.Lists.{Row, all, flat}
 use Rattle.lists.specs.All.{all-head, all-front, all-back, all-cons, all-append}
 use Rattle.lists.specs.Rows.{sized, length-flat}
-use Rattle.lists.specs.Put.{span-at}
 
 module _ {A : Type 0} where
   -- with x before the element at i

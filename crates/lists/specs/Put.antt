@@ -2,14 +2,14 @@
 -- Assumes nothing.
 use Prim.Native.Nat.{ℕ, zero, suc, _+_, _-_, _≤_, _<_}
 use mathlib.Core.Path.{_≡_, refl, sym, ap, _∙_}
-use mathlib.Core.List.{List, [], _∷_, _++_, append-assoc, append-nil}
-use native.Mathlib.Nat.{add-zero, add-assoc, min-eq-left}
+use mathlib.Core.List.{List, [], _∷_, _++_, append-assoc}
+use native.Mathlib.Nat.{add-zero, add-assoc}
 use native.Mathlib.Numerals.{add-one}
 use native.Mathlib.Omega.{arith}
-use lib.ListN.{length, getD, set, take, drop, length-append, length-take, length-drop, length-set, take-append-drop, drop-of-length-le, List·getD-append}
-use lib.Seq.{length-take-le, take-at, drop-at, set-at, getD-at, drop-cons, take-suc, take-all, drop-drop, take-add, take-append-le, drop-append-le, getD-take, getD-drop, getD-append-add, take-append-add, drop-append-add}
-use Rattle.lists.specs.Lists.{zeros, pad, span, put}
-use Rattle.lists.specs.Rows.{length-zeros, length-span, length-put}
+use lib.ListN.{length, getD, set, take, drop, length-append, length-drop, take-append-drop, List·getD-append}
+use lib.Seq.{length-take-le, take-at, drop-at, set-at, drop-cons, take-suc, drop-drop, take-add, getD-take, getD-drop, getD-append-add}
+use Rattle.lists.specs.Lists.{zeros, span, put}
+use Rattle.lists.specs.Rows.{length-zeros, length-span}
 
 -- ---- a list cut in three: what is before, the run, what is behind
 pub put-at : (p m q vs : List ℕ) (at : ℕ) → length p ≡ at → length m ≡ length vs → put at vs (p ++ (m ++ q)) ≡ p ++ (vs ++ q)

@@ -1,26 +1,20 @@
 -- A region of words, base words into a list: rows of k words in use, and zeros behind them.
 -- Assumes nothing.
-use Prim.Native.Nat.{ℕ, zero, suc, _+_, _-_, _*_, _≤_, _<_}
+use Prim.Native.Nat.{ℕ, suc, _+_, _-_, _*_, _≤_, _<_}
 use mathlib.Core.Path.{_≡_, refl, sym, ap, _∙_}
-use mathlib.Core.Bool.{Bool, true, false}
+use mathlib.Core.Bool.{true}
 use mathlib.Core.List.{List, [], _∷_, _++_, append-assoc, append-nil}
-use native.Mathlib.Nat.{mul-suc, mul-add, add-zero, zero-add, suc-add}
+use native.Mathlib.Nat.{mul-suc, mul-add, add-zero}
 use native.Mathlib.Omega.{arith}
-use lib.Dec.{eqb}
-use lib.ListN.{length, getD, set, take, drop, length-append, length-take, length-drop}
+use lib.ListN.{length, getD, set, take, drop, length-append}
 use lib.Seq.{set-split}
 use Rattle.lists.specs.Lists.{Row, all, flat, zeros, pad, span, put}
-use Rattle.lists.specs.Rows.{sized, length-flat, length-zeros, length-pad}
+use Rattle.lists.specs.Rows.{sized, length-flat, length-zeros, zeros-append}
 use Rattle.lists.specs.Put.{put-at, span-at}
-use Rattle.lists.specs.At.{insertAt, removeAt, flat-append, flat-cons, sized-at, length-flat-take, length-flat-drop, flat-cut, flat-cut-at, all-take, all-drop}
-
-pub zeros-append : (m n : ℕ) → zeros (m + n) ≡ zeros m ++ zeros n
-unfolding zeros
-zeros-append zero n = ap zeros (zero-add n)
-zeros-append (suc m) n = ap zeros (suc-add m n) ∙ ap (λ (x : List ℕ). 0 ∷ x) (zeros-append m n)
+use Rattle.lists.specs.At.{insertAt, removeAt, flat-append, flat-cons, sized-at, length-flat-take, length-flat-drop, flat-cut, flat-cut-at}
 
 zeros-split : (n m : ℕ) → m ≤ n → zeros n ≡ zeros m ++ zeros (n - m)
-zeros-split n m h = let e : m + (n - m) ≡ n = omega arith in ap zeros (sym e) ∙ zeros-append m (n - m)
+zeros-split n m h = let e : m + (n - m) ≡ n = omega arith in ap zeros (sym e) ∙ sym (zeros-append m (n - m))
 
 -- ---- by words: a and m in use, then zeros
 module _ (p a q : List ℕ) (size base : ℕ) (e : length p ≡ base) where

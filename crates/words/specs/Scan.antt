@@ -1,17 +1,16 @@
 -- What a scan that ors has seen: no bit is set where no word had one.
 -- Assumes nothing.
-use Prim.Native.Nat.{ℕ, zero, suc, _+_, _≤_, _<_}
+use Prim.Native.Nat.{ℕ, zero, suc, _+_, _<_}
 use mathlib.Core.Path.{_≡_, refl, sym, ap, _∙_}
 use mathlib.Core.Bool.{Bool, true, false, _&&_}
-use mathlib.Core.List.{List, [], _∷_, _++_}
+use mathlib.Core.List.{List, [], _∷_}
 use native.Mathlib.Nat.{not-suc-le-zero, le-of-suc-le-suc}
 use native.Mathlib.Numerals.{add-one}
 use native.Mathlib.Omega.{arith}
-use lib.Bits.{bitAnd, bitOr, bitXor, or-add-and, and-le-l, and-le-r, xor-add-and, xor-self}
+use lib.Bits.{bitOr, bitXor, or-add-and, and-le-l, and-le-r, xor-add-and, xor-self}
 use lib.Dec.{eqb}
 use lib.ListN.{length, getD, take}
-use lib.Seq.{take-all}
-use borrow.Author.Tests.{eqb-true, eqb-false, eq-eqb, ne-eqb}
+use borrow.Author.Tests.{eqb-true, eq-eqb}
 use Rattle.lists.specs.Lists.{allZero, eqRow}
 use Rattle.lists.specs.All.{and-left, and-right, and-both, eqRow-true}
 

@@ -1,12 +1,10 @@
 -- `words::insert` meets its contract: a run ahead of the run that moved is one run.
 -- Assumes nothing.
 use Prim.Native.Nat.{ℕ}
-use mathlib.Core.Path.{_≡_, ap, _∙_}
+use mathlib.Core.Path.{ap, _∙_}
 use mathlib.Core.List.{List}
-use native.Mathlib.Omega.{arith}
-use lib.ListN.{length}
 use denote.Ref.{now}
-use Rattle.lists.specs.Lists.{put, zeros}
+use Rattle.lists.specs.Lists.{put}
 use Rattle.lists.specs.Put.{put-in}
 use borrow.Author.Needs.{needs}
 use Rattle.words.proofs.insert.Statement.{statement}

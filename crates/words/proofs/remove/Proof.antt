@@ -1,10 +1,8 @@
 -- `words::remove` meets its contract: zeros behind the run that moved are one run with it.
 -- Assumes nothing.
 use Prim.Native.Nat.{ℕ, _+_}
-use mathlib.Core.Path.{_≡_, ap, _∙_}
+use mathlib.Core.Path.{ap, _∙_}
 use mathlib.Core.List.{List}
-use native.Mathlib.Omega.{arith}
-use lib.ListN.{length}
 use denote.Ref.{now}
 use Rattle.lists.specs.Lists.{put, zeros}
 use Rattle.lists.specs.Put.{put-out}
