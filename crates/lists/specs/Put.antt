@@ -7,7 +7,7 @@ use native.Mathlib.Nat.{add-zero, add-assoc}
 use native.Mathlib.Numerals.{add-one}
 use native.Mathlib.Omega.{arith}
 use lib.ListN.{length, getD, set, take, drop, length-append, length-drop, take-append-drop, List·getD-append}
-use lib.Seq.{length-take-le, take-at, drop-at, set-at, drop-cons, take-suc, drop-drop, take-add, getD-take, getD-drop, getD-append-add}
+use lib.Seq.{length-take-le, take-at, drop-at, set-at, drop-cons, take-suc, set-split, drop-drop, take-add, getD-take, getD-drop, getD-append-add}
 use Rattle.lists.specs.Lists.{zeros, span, put}
 use Rattle.lists.specs.Rows.{length-zeros, length-span}
 
@@ -134,6 +134,11 @@ put-less at vs v l h =
     ap (λ (x : List ℕ). set x at v) there
     ∙ set-at (take at l) y q v at (length-take-le at l (omega arith))
     ∙ sym (rw one)
+
+-- a word is a run of one
+pub put-one : (at v : ℕ) (l : List ℕ) → at < length l → set l at v ≡ put at (v ∷ []) l
+unfolding put
+put-one at v l h = set-split l at v h ∙ ap (λ (n : ℕ). take at l ++ (v ∷ drop n l)) (sym (add-one at))
 
 -- ---- a run laid word by word, from its front and from its end
 module _ (at : ℕ) (vs l : List ℕ) (i : ℕ) (h : at + length vs ≤ length l) (k : i < length vs) where

@@ -3,19 +3,20 @@
 use Prim.Native.Nat.{ℕ, _+_, _-_, _*_, _≤_, _<_}
 use mathlib.Core.Path.{_≡_, refl, sym, ap, _∙_}
 use mathlib.Core.Bool.{Bool, true}
-use mathlib.Core.List.{List, [], _∷_, _++_, append-nil}
+use mathlib.Core.List.{List, [], _∷_, _++_, append-nil, append-assoc}
 use native.Mathlib.Omega.{arith}
-use lib.ListN.{length, getD, set, length-set}
+use lib.ListN.{length, getD, set, length-set, length-append}
 use Rattle.lists.specs.Lists.{Row, all, keep, flat, pad, span, put, zeros}
 use Rattle.lists.specs.All.{all-keep}
 use Rattle.lists.specs.At.{insertAt, removeAt, length-insertAt, length-removeAt, all-insertAt, all-removeAt, all-set, all-at}
-use Rattle.lists.specs.Region.{row-at, row-insert, row-remove, row-replace, row-retain, region-put}
+use Rattle.lists.specs.Put.{put-one}
+use Rattle.lists.specs.Region.{row-at, row-insert, row-remove, row-replace, row-retain, region-put, region-span}
 use Rattle.layout.specs.Address.{fitAddress}
 use Rattle.layout.specs.Route.{fitRoute}
-use Rattle.definition.specs.State.{State, withAddresses, withRoutes}
-use Rattle.definition.specs.Words.{encode, addressCount, routeCount}
+use Rattle.definition.specs.State.{State, withAddresses, withRoutes, withTables}
+use Rattle.definition.specs.Words.{encode, addressCount, routeCount, tableCount}
 use Rattle.definition.specs.Kept.Fit.{length-address, length-route, sized-routes}
-use Rattle.state.specs.Holds.{Holds, counts, beforeRoutes, beforeTables, behindAddresses, encode-addresses, encode-routes, encode-tables, sizedA, sizedR, atRoutes, atTables, count-addresses, count-routes}
+use Rattle.state.specs.Holds.{Holds, counts, beforeRoutes, beforeTables, behindAddresses, encode-addresses, encode-routes, encode-tables, sizedA, sizedR, atRoutes, atTables, count-addresses, count-routes, count-tables, holds-long}
 
 module _ {w : List ℕ} {st : State} (h : Holds w st) where
   -- ---- a list becomes another, with its count
@@ -164,8 +165,33 @@ module _ {w : List ℕ} {st : State} (h : Holds w st) where
       ∙ row-retain (beforeRoutes st) (pad 32 (st .tables)) 8192 1283 32 (st .routes) (atRoutes h) (sizedR h) roomR rows n (sized-routes rows f) e)
 
   -- ---- tables
-  tables-put : (vs : List ℕ) → length (st .tables) + length vs ≤ 32
-      → put (9475 + length (st .tables)) vs w ≡ beforeTables st ++ (pad 32 (st .tables ++ vs) ++ [])
-  tables-put vs room =
-      ap (put (9475 + length (st .tables)) vs) (h .words ∙ encode-tables st ∙ ap (λ (x : List ℕ). beforeTables st ++ (pad 32 x ++ [])) (sym (append-nil (st .tables))))
-      ∙ region-put (beforeTables st) (st .tables) [] 32 9475 (atTables h) [] vs room (omega arith)
+  pub tables-at : span 9475 (tableCount w) w ≡ st .tables
+  tables-at =
+      rw (count-tables h)
+      (ap (span 9475 (length (st .tables))) (h .words ∙ encode-tables st ∙ ap (λ (x : List ℕ). beforeTables st ++ (pad 32 x ++ [])) (sym (append-nil (st .tables))))
+      ∙ region-span (beforeTables st) [] [] 32 9475 (atTables h) (st .tables) [] (omega (arith, h .tablesWithin)))
+
+  -- one more at the end
+  pub append-table : (t : ℕ) → length (st .tables) < 32
+      → Holds (set (set w (9475 + tableCount w) t) 2 (tableCount w + 1)) (withTables (st .tables ++ (t ∷ [])) st)
+  unfolding encode
+  append-table t room =
+      let long : length (st .tables ++ (t ∷ [])) ≡ tableCount w + 1 = length-append (st .tables) (t ∷ []) ∙ omega (arith, count-tables h) in
+      let there : set w (9475 + tableCount w) t ≡ beforeTables st ++ (pad 32 (st .tables ++ (t ∷ [])) ++ []) =
+      rw (count-tables h)
+      (put-one (9475 + length (st .tables)) t w (omega (arith, holds-long h))
+      ∙ ap (put (9475 + length (st .tables)) (t ∷ [])) (h .words ∙ encode-tables st ∙ ap (λ (x : List ℕ). beforeTables st ++ (pad 32 x ++ [])) (sym (append-nil (st .tables))))
+      ∙ region-put (beforeTables st) (st .tables) [] 32 9475 (atTables h) [] (t ∷ []) (omega arith) (omega arith))
+      in
+      record {
+        words =
+            ap (λ (y : List ℕ). set y 2 (tableCount w + 1)) there
+            ∙ ap (λ (x : List ℕ). length (st .addresses) ∷ length (st .routes) ∷ (tableCount w + 1) ∷ x)
+            (rw append-nil (append-assoc (pad 1280 (flat (st .addresses))) (pad 8192 (flat (st .routes))) (pad 32 (st .tables ++ (t ∷ [])))))
+            ∙ ap (λ (n : ℕ). length (st .addresses) ∷ length (st .routes) ∷ n ∷ (pad 1280 (flat (st .addresses)) ++ (pad 8192 (flat (st .routes)) ++ pad 32 (st .tables ++ (t ∷ []))))) (sym long);
+        addressesWithin = h .addressesWithin;
+        routesWithin = h .routesWithin;
+        tablesWithin = omega (arith, count-tables h);
+        addressesFit = h .addressesFit;
+        routesFit = h .routesFit;
+      }

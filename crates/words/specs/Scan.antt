@@ -2,16 +2,17 @@
 -- Assumes nothing.
 use Prim.Native.Nat.{ℕ, zero, suc, _+_, _<_}
 use mathlib.Core.Path.{_≡_, refl, sym, ap, _∙_}
-use mathlib.Core.Bool.{Bool, true, false, _&&_}
+use mathlib.Core.Bool.{Bool, true, false, _&&_, _||_}
 use mathlib.Core.List.{List, [], _∷_}
 use native.Mathlib.Nat.{not-suc-le-zero, le-of-suc-le-suc}
 use native.Mathlib.Numerals.{add-one}
 use native.Mathlib.Omega.{arith}
 use lib.Bits.{bitOr, bitXor, or-add-and, and-le-l, and-le-r, xor-add-and, xor-self}
 use lib.Dec.{eqb}
-use lib.ListN.{length, getD, take}
+use lib.ListN.{length, getD, take, drop}
+use lib.Seq.{drop-cons}
 use borrow.Author.Tests.{eqb-true, eq-eqb}
-use Rattle.lists.specs.Lists.{allZero, eqRow}
+use Rattle.lists.specs.Lists.{any, allZero, eqRow}
 use Rattle.lists.specs.All.{and-left, and-right, and-both, eqRow-true}
 
 -- two tests agree where each fact gives the other
@@ -81,3 +82,7 @@ module _ (x : ℕ) where
 -- rows of other lengths are not the same
 pub other-long : (l m : List ℕ) → (length l ≡ length m → ⊥) → false ≡ eqRow l m
 other-long l m h = same-test false (eqRow l m) (λ e. cc) (λ e. absurd (h (ap length (eqRow-true l m e))))
+
+-- what is left to look at, one word on
+pub any-next : (p : ℕ → Bool) (l : List ℕ) (i : ℕ) → i < length l → any p (drop i l) ≡ p (getD l i 0) || any p (drop (i + 1) l)
+any-next p l i h = rw (drop-cons l i 0 h, add-one i)

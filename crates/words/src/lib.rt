@@ -3,7 +3,7 @@ ghost use mathlib.Core.Path.{_≡_};
 ghost use mathlib.Core.List.{_++_};
 ghost use Prim.Native.Nat.{_+_, _≤_};
 ghost use lib.ListN.{length};
-ghost use Rattle.lists.specs.Lists.{put, span, zeros, allZero, eqRow};
+ghost use Rattle.lists.specs.Lists.{put, span, zeros, allZero, eqRow, among};
 
 // The words vs from the place at on.
 pub fn store(s: &mut [u32], at: usize, vs: &[u32])
@@ -98,4 +98,18 @@ pub fn same_words(a: &[u32], b: &[u32]) -> bool
         i += 1;
     }
     some == 0
+}
+
+// The number is one of the words.
+pub fn among(l: &[u32], n: u32) -> bool
+    ensures { λ r. ⌜ r ≡ among n (now (l .entry)) ⌝ }
+{
+    let mut i = 0usize;
+    while i < l.len() {
+        if l[i] == n {
+            return true;
+        }
+        i += 1;
+    }
+    false
 }
