@@ -6,3 +6,6 @@ pub mod Parts
 pub mod Laid
 pub mod Count
 pub mod Keep
+pub mod Put
+pub mod At
+pub mod Region

@@ -1,0 +1,31 @@
+-- `state::replace_address` meets its contract: the words with another row in the place hold the list with it.
+-- Assumes nothing.
+use Prim.Native.Nat.{_-_}
+use native.Mathlib.Omega.{arith}
+use denote.Ref.{now}
+use Rattle.definition.specs.Kept.Fit.{length-address}
+use Rattle.state.specs.Holds.{sizes-valid, count-addresses}
+use Rattle.state.specs.Change.{replace-address}
+use borrow.Author.Needs.{needs}
+use Rattle.state.proofs.replace_address.Statement.{statement}
+use Rattle.state.proofs.replace_address.Tie as tie
+
+mul-store : tie.Need-mul-store
+mul-store c = omega (arith, sizes-valid (c .before .before .before .pre .0))
+
+add-store : tie.Need-add-store
+add-store c = omega (arith, sizes-valid (c .before .before .before .pre .0))
+
+store-requires : tie.Need-store-requires
+store-requires c κs = omega (arith, sizes-valid (c .before .before .before .pre .0), length-address (now (c .before .before .before .args .row)) (c .before .before .before .pre .1 .1))
+
+same-length : tie.Need-same-length
+same-length c = search needs
+
+returns : tie.Need-returns
+returns c = λ st h.
+    let a = c .before .before .before .before .before .before .args in
+    rw (c .before .before .store .ensures) (replace-address h (a .i) (now (a .row)) (omega (arith, count-addresses h, c .before .before .before .before .before .before .pre .1 .0)) (c .before .before .before .before .before .before .pre .1 .1))
+
+pub replace-address-spec : {M : Type 1} → statement M
+replace-address-spec = tie.close (tie.spec mul-store add-store store-requires same-length returns)

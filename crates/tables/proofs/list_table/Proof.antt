@@ -1,0 +1,48 @@
+-- `tables::list_table` meets its contract: 254 is added first where 255 asks for it.
+-- Assumes nothing.
+use Prim.Native.Nat.{_-_}
+use denote.Ref.{now}
+use Rattle.definition.specs.State.{withTables}
+use Rattle.definition.specs.Reference.Insert.{addTable}
+use Rattle.tables.specs.Listed.{tablesOf, list-other, main-first, create-one, create-two, local-next}
+use borrow.Author.Needs.{needs}
+use Rattle.tables.proofs.list_table.Statement.{statement}
+use Rattle.tables.proofs.list_table.Tie as tie
+
+add-table-requires : tie.Need-add-table-requires
+add-table-requires c κs =
+    (c .before .before .before .pre .0, rw (list-other (c .before .before .before .args .t) (tablesOf (now (c .before .before .before .args .s))) (c .before .if1 .taken)) at (c .before .before .before .pre .1))
+
+same-length : tie.Need-same-length
+same-length c = search needs
+
+returns : tie.Need-returns
+returns c = λ st h. create-one st (c .before .before .before .before .before .before .args .t) (c .before .before .before .before .if1 .taken) (c .before .before .add-table .ensures st h)
+
+add-table-requires-2 : tie.Need-add-table-requires-2
+add-table-requires-2 c κs =
+    (c .before .before .before .pre .0, main-first (c .before .before .before .args .t) (tablesOf (now (c .before .before .before .args .s))) (c .before .if1 .left) (c .before .before .before .pre .1))
+
+add-table-requires-3 : tie.Need-add-table-requires-3
+add-table-requires-3 c κs =
+    let v = c .before .before .before .before .before .before .before .pre .0 in
+    let k = c .before .before .before .add-table2 .ensures (v .state) (v .holds) in
+    (record { state = withTables (addTable 254 (v .state .tables)) (v .state); holds = k }, local-next (c .before .before .before .before .before .before .before .args .t) (v .holds) k (c .before .before .before .before .before .if1 .left) (c .before .before .before .before .before .before .before .pre .1))
+
+same-length-2 : tie.Need-same-length-2
+same-length-2 c = search needs
+
+returns-2 : tie.Need-returns-2
+returns-2 c = λ st h. create-two st (c .before .before .before .before .before .before .before .before .before .before .args .t) (c .before .before .before .before .before .before .before .before .if1 .left) (c .before .before .add-table3 .ensures (withTables (addTable 254 (st .tables)) st) (c .before .before .before .before .before .before .add-table2 .ensures st h))
+
+pub list-table-spec : {M : Type 1} → statement M
+list-table-spec =
+    tie.close
+    (tie.spec
+    add-table-requires
+    same-length
+    returns
+    add-table-requires-2
+    add-table-requires-3
+    same-length-2
+    returns-2)

@@ -1,0 +1,88 @@
+-- What a scan that ors has seen: no bit is set where no word had one.
+-- Assumes nothing.
+use Prim.Native.Nat.{ℕ, zero, suc, _+_, _<_}
+use mathlib.Core.Path.{_≡_, refl, sym, ap, _∙_}
+use mathlib.Core.Bool.{Bool, true, false, _&&_, _||_}
+use mathlib.Core.List.{List, [], _∷_}
+use native.Mathlib.Nat.{not-suc-le-zero, le-of-suc-le-suc}
+use native.Mathlib.Numerals.{add-one}
+use native.Mathlib.Omega.{arith}
+use lib.Bits.{bitOr, bitXor, or-add-and, and-le-l, and-le-r, xor-add-and, xor-self}
+use lib.Dec.{eqb}
+use lib.ListN.{length, getD, take, drop}
+use lib.Seq.{drop-cons}
+use borrow.Author.Tests.{eqb-true, eq-eqb}
+use Rattle.lists.specs.Lists.{any, allZero, eqRow}
+use Rattle.lists.specs.All.{and-left, and-right, and-both, eqRow-true}
+
+-- two tests agree where each fact gives the other
+same-test : (a b : Bool) → (a ≡ true → b ≡ true) → (b ≡ true → a ≡ true) → a ≡ b
+same-test true true f g = refl
+same-test true false f g = sym (f refl)
+same-test false true f g = g refl
+same-test false false f g = refl
+
+-- the words so far and one more
+pub or-none : (x w : ℕ) → eqb (bitOr x w) 0 ≡ eqb x 0 && eqb 0 w
+or-none x w =
+    same-test (eqb (bitOr x w) 0) (eqb x 0 && eqb 0 w)
+    (λ e. let z = eqb-true (bitOr x w) 0 e in
+    and-both (eqb x 0) (eqb 0 w)
+    (eq-eqb x 0 (omega (arith, or-add-and x w, and-le-l x w, and-le-r x w)))
+    (eq-eqb 0 w (omega (arith, or-add-and x w, and-le-l x w, and-le-r x w))))
+    (λ e. let p = eqb-true x 0 (and-left (eqb x 0) (eqb 0 w) e) in
+    let q = eqb-true 0 w (and-right (eqb x 0) (eqb 0 w) e) in
+    eq-eqb (bitOr x w) 0 (omega (arith, or-add-and x w)))
+
+xor-none : (x y : ℕ) → eqb 0 (bitXor x y) ≡ eqb x y
+xor-none x y =
+    same-test (eqb 0 (bitXor x y)) (eqb x y)
+    (λ e. let z = eqb-true 0 (bitXor x y) e in eq-eqb x y (omega (arith, xor-add-and x y, and-le-l x y, and-le-r x y)))
+    (λ e. let p = eqb-true x y e in eq-eqb 0 (bitXor x y) (sym (rw p (xor-self y))))
+
+and-shift : (a b c : Bool) → a && (b && c) ≡ a && b && c
+and-shift true b c = refl
+and-shift false b c = refl
+
+module _ (x : ℕ) where
+  zero-suc : (l : List ℕ) (i : ℕ) → i < length l → allZero (take (suc i) l) ≡ allZero (take i l) && eqb 0 (getD l i 0)
+  zero-suc [] i h = absurd (not-suc-le-zero h)
+  zero-suc (w ∷ l) zero h = and-true (eqb 0 w)
+    where
+      and-true : (a : Bool) → a && true ≡ a
+      and-true true = refl
+      and-true false = refl
+  zero-suc (w ∷ l) (suc i) h =
+      ap (λ (b : Bool). eqb 0 w && b) (zero-suc l i (le-of-suc-le-suc h)) ∙ and-shift (eqb 0 w) (allZero (take i l)) (eqb 0 (getD l i 0))
+
+  pub zero-more : (l : List ℕ) (i : ℕ) → i < length l → eqb x 0 ≡ allZero (take i l) → eqb (bitOr x (getD l i 0)) 0 ≡ allZero (take (i + 1) l)
+  zero-more l i h e =
+      or-none x (getD l i 0) ∙ ap (λ (b : Bool). b && eqb 0 (getD l i 0)) e ∙ sym (rw (add-one, zero-suc l i))
+
+  same-suc : (l m : List ℕ) (i : ℕ) → i < length l → i < length m → eqRow (take (suc i) l) (take (suc i) m) ≡ eqRow (take i l) (take i m) && eqb (getD l i 0) (getD m i 0)
+  same-suc [] m i h k = absurd (not-suc-le-zero h)
+  same-suc (w ∷ l) [] i h k = absurd (not-suc-le-zero k)
+  same-suc (w ∷ l) (v ∷ m) zero h k = and-true (eqb w v)
+    where
+      and-true : (a : Bool) → a && true ≡ a
+      and-true true = refl
+      and-true false = refl
+  same-suc (w ∷ l) (v ∷ m) (suc i) h k =
+      ap (λ (b : Bool). eqb w v && b) (same-suc l m i (le-of-suc-le-suc h) (le-of-suc-le-suc k))
+      ∙ and-shift (eqb w v) (eqRow (take i l) (take i m)) (eqb (getD l i 0) (getD m i 0))
+
+  pub same-more : (l m : List ℕ) (i : ℕ) → i < length l → i < length m → eqb x 0 ≡ eqRow (take i l) (take i m)
+      → eqb (bitOr x (bitXor (getD l i 0) (getD m i 0))) 0 ≡ eqRow (take (i + 1) l) (take (i + 1) m)
+  same-more l m i h k e =
+      or-none x (bitXor (getD l i 0) (getD m i 0))
+      ∙ ap (λ (b : Bool). b && eqb 0 (bitXor (getD l i 0) (getD m i 0))) e
+      ∙ ap (λ (b : Bool). eqRow (take i l) (take i m) && b) (xor-none (getD l i 0) (getD m i 0))
+      ∙ sym (rw (add-one, same-suc l m i h k))
+
+-- rows of other lengths are not the same
+pub other-long : (l m : List ℕ) → (length l ≡ length m → ⊥) → false ≡ eqRow l m
+other-long l m h = same-test false (eqRow l m) (λ e. cc) (λ e. absurd (h (ap length (eqRow-true l m e))))
+
+-- what is left to look at, one word on
+pub any-next : (p : ℕ → Bool) (l : List ℕ) (i : ℕ) → i < length l → any p (drop i l) ≡ p (getD l i 0) || any p (drop (i + 1) l)
+any-next p l i h = rw (drop-cons l i 0 h, add-one i)
