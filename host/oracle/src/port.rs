@@ -108,7 +108,11 @@ pub fn words(bytes: &[u8]) -> Vec<u32> {
 }
 
 pub fn bytes(words: &[u32]) -> Vec<u8> {
-    words.iter().flat_map(|w| w.to_le_bytes()).collect()
+    let mut bytes = Vec::with_capacity(4 * words.len());
+    for word in words {
+        bytes.extend_from_slice(&word.to_le_bytes());
+    }
+    bytes
 }
 
 /// The words of a slice whose size must be exact. One that isn't whole
