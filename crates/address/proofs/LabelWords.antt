@@ -1,6 +1,6 @@
 -- A label's bytes as one number are below 256 to its length where each of its four words ends in time.
 -- Assumes nothing.
-use mathlib.Core.Path.{_≡_, refl}
+use mathlib.Core.Path.{_≡_, refl, sym, ap, _∙_}
 use mathlib.Core.Bool.{Bool, true, false, _&&_}
 use Prim.Native.Nat.{ℕ, zero, suc, _+_, _-_, _*_, _/_, _^_, _<_}
 use native.Mathlib.Nat.{div-lt-iff-lt-mul, div-eq-of-lt}
@@ -54,7 +54,11 @@ module _ (n a b c d : ℕ) (ha : a < 2 ^ 32) (hb : b < 2 ^ 32) (hc : c < 2 ^ 32)
 
   by-length : (q : Bool) → leb n 15 ≡ q → q && wordEnds a n && wordEnds b (n - 4) && wordEnds c (n - 8) && wordEnds d (n - 12)
       ≡ q && ltb (a + b * 2 ^ 32 + c * 2 ^ 64 + d * 2 ^ 96) (2 ^ (8 * n))
-  by-length true e = rw (last e, words, and-assoc, and-assoc)
+  by-length true e =
+      ap (λ (t : Bool). wordEnds a n && wordEnds b (n - 4) && wordEnds c (n - 8) && t) (last e)
+      ∙ and-assoc (wordEnds a n && wordEnds b (n - 4)) (wordEnds c (n - 8)) (ltb d (2 ^ (8 * (n - 12))))
+      ∙ and-assoc (wordEnds a n) (wordEnds b (n - 4)) (wordEnds c (n - 8) && ltb d (2 ^ (8 * (n - 12))))
+      ∙ sym words
   by-length false e = refl
 
   pub fits-by-words : leb n 15 && wordEnds a n && wordEnds b (n - 4) && wordEnds c (n - 8) && wordEnds d (n - 12)

@@ -110,7 +110,7 @@ impl V4 {
     }
 }
 
-fn optional_of(present: u32, value: u32) -> Optional
+pub fn optional_of(present: u32, value: u32) -> Optional
     ensures { λ r. ⌜ r ≡ optionalOf present value ⌝ }
 {
     if present == 1 {
@@ -119,7 +119,7 @@ fn optional_of(present: u32, value: u32) -> Optional
     Optional::Absent
 }
 
-fn label_of(row: &[u32]) -> Label
+pub fn label_of(row: &[u32]) -> Label
     requires { ⌜ length (now row) ≡ 20 ⌝ }
     ensures { λ r. ⌜ r ≡ labelOf (now (row .entry)) ⌝ }
 {
@@ -129,7 +129,7 @@ fn label_of(row: &[u32]) -> Label
     }
 }
 
-fn life_of(row: &[u32]) -> Life
+pub fn life_of(row: &[u32]) -> Life
     requires { ⌜ length (now row) ≡ 20 ⌝ }
     ensures { λ r. ⌜ r ≡ lifeOf (now (row .entry)) ⌝ }
 {
