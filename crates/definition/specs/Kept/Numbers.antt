@@ -11,7 +11,7 @@ use lib.Dec.{eqb, leb, ltb}
 use borrow.Author.Tests.{leb-true, eqb-false, not-true}
 use Rattle.lists.specs.Lists.{Row, any, first, eqRow}
 use Rattle.lists.specs.All.{and-iff, cond-case}
-use Rattle.kind.specs.Kind.{pick, isKind, errorOf, leastScope}
+use Rattle.kind.specs.Kind.{isKind, errorOf, leastScope}
 use Rattle.layout.specs.Route.{alike, kind, scope, gateway, gatewayPresent, prefsrcPresent}
 use Rattle.layout.specs.Request.{fitAddRoute4, metricsError, oif, upAtAddRoute4, nlmFlags, replaceAsked}
 use Rattle.definition.specs.State.{State}
@@ -40,7 +40,7 @@ not-zero : (n : ℕ) → eqb n 0 ≡ false → 0 < n
 not-zero n e = let f : n ≢ 0 = eqb-false n 0 e in omega arith
 
 -- ---- lookups
-pick-most : (b : Bool) (m n : ℕ) → m ≤ 133 → n ≤ 133 → pick b m n ≤ 133
+pick-most : (b : Bool) (m n : ℕ) → m ≤ 133 → n ≤ 133 → cond b m n ≤ 133
 pick-most true m n h k = h
 pick-most false m n h k = k
 
