@@ -14,3 +14,4 @@ pub mod Numbers
 pub mod Told
 pub mod Change
 pub mod Step
+pub mod Reading
