@@ -90,7 +90,7 @@ check e =
     && eqRow (e .look (answers private (e .calls) empty)) (e .finds)
     && not (eqRow (e .leak (left (e .calls) empty)) (e .leak (left (plain e) empty)))
 
--- then of the words: both runs have room and are alike, the answers are as found, and the leak would part them
+-- then of the words: the two runs are alike, the answers are as found, and the leak would part them
 record Shown (e : Example) : Type 0 where
   alike : Alike private (e .calls) (plain e)
   found : e .look (observed private (e .calls) emptyWords) ≡ e .finds
@@ -113,7 +113,7 @@ shown e h =
     }
 
 -- ---- the examples
--- what the reply before i others from the last wrote, row by row
+-- of the answer with i before it: a number for each row that it wrote, or its value
 abbrev wrote : (Row → ℕ) → ℕ → List Reply → List ℕ
 wrote f i rs = each (λ r. map f (r .rows)) (take 1 (drop i rs))
 
@@ -244,8 +244,9 @@ crowded = crowd 32 ++ (addRoute 100 0 33 1 0 ∷ [])
 abbrev number : List Reply → List ℕ
 number rs = map (λ r. r .number) rs
 
--- the two runs agree, and would be alike if 203 counted for nothing
+-- the two runs agree, and their last request is answered differently
 record Parted (cs ds : List Call) : Type 0 where
+  lawful : Choice chosen
   agree : Agree chosen cs ds
   full : number (observed chosen cs emptyWords) ≡ 203 ∷ []
   spare : number (observed chosen ds emptyWords) ≡ 22 ∷ []
@@ -254,6 +255,7 @@ space-parts : Parted crowded (addRoute 100 0 33 1 0 ∷ [])
 unfolding computing crowd answers bounded freely
 space-parts =
     record {
+      lawful = record { not-0 = refl; not-253 = refl; not-254 = refl; not-255 = refl };
       agree = refl;
       full = ap number (run-answers crowded chosen);
       spare = ap number (run-answers (addRoute 100 0 33 1 0 ∷ []) chosen);
