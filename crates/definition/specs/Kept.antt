@@ -15,3 +15,4 @@ pub mod Told
 pub mod Change
 pub mod Step
 pub mod Reading
+pub mod Peaks

@@ -96,6 +96,11 @@ module _ {A : Type 0} where
       cond-case (λ (m : List A). suc (length m) ≡ suc (length l)) (q x) (λ e. refl)
       (λ e. ap suc (length-removeFirst q l (or-case (q x) (any q l) h (λ d. absurd (true-false (q x) d e)) (λ d. d))))
 
+  pub length-removeFirst-most : (q : A → Bool) (l : List A) → length (removeFirst q l) ≤ length l
+  length-removeFirst-most q [] = omega arith
+  length-removeFirst-most q (x ∷ l) =
+      cond-case (λ (m : List A). length m ≤ suc (length l)) (q x) (λ e. omega arith) (λ e. omega (arith, length-removeFirst-most q l))
+
   pub length-replaceFirst : (q : A → Bool) (y : A) (l : List A) → length (replaceFirst q y l) ≡ length l
   length-replaceFirst q y [] = refl
   length-replaceFirst q y (x ∷ l) =
