@@ -221,3 +221,24 @@ put-out at k n l h =
     let none = length-zeros k in
     ap (λ (m : ℕ). put (at + m) (zeros k) (put at (span (at + k) n l) l)) (sym long)
     ∙ put-behind at (span (at + k) n l) l (omega arith) (zeros k) (omega arith)
+
+-- a run put in a part of k words from a on is a run put in the whole
+pub put-part : (a k at : ℕ) (vs l : List ℕ) → a + k ≤ length l → at + length vs ≤ k
+    → take a l ++ (put at vs (take k (drop a l)) ++ drop k (drop a l)) ≡ put (a + at) vs l
+put-part a k at vs l h g =
+    let m = take k (drop a l) in
+    let q = drop k (drop a l) in
+    let p = take a l ++ take at m in
+    let lm : length m ≡ k = length-take-le k (drop a l) (rw length-drop (omega arith)) in
+    let lp : length p ≡ a + at = rw (length-append, length-take-le a l (omega arith), length-take-le at m (omega arith)) in
+    let there : l ≡ p ++ (span at (length vs) m ++ (drop (at + length vs) m ++ q)) =
+    sym (take-append-drop a l)
+    ∙ ap (λ (x : List ℕ). take a l ++ x) (sym (take-append-drop k (drop a l)) ∙ ap (λ (x : List ℕ). x ++ q) (cut at (length vs) m))
+    ∙ simp append-assoc
+    in
+    let part : put at vs m ≡ take at m ++ (vs ++ drop (at + length vs) m) = unfold put in refl in
+    let regrouped : take a l ++ (take at m ++ (vs ++ drop (at + length vs) m) ++ q) ≡ p ++ (vs ++ (drop (at + length vs) m ++ q)) = simp append-assoc in
+    ap (λ (x : List ℕ). take a l ++ (x ++ q)) part
+    ∙ regrouped
+    ∙ sym (put-at p (span at (length vs) m) (drop (at + length vs) m ++ q) vs (a + at) lp (length-span at (length vs) m (omega arith)))
+    ∙ ap (put (a + at) vs) (sym there)
