@@ -4,4 +4,6 @@ pub mod Words
 pub mod Call
 pub mod Step
 pub mod Computing
+pub mod Laws
 pub mod Kept
+pub mod Runs

@@ -1,7 +1,7 @@
 -- What a route is: the seven kinds, their codes and errors (document 01, port order 3), and the least scopes (port order 7).
 -- Assumes nothing.
 use Prim.Native.Nat.{ℕ}
-use mathlib.Core.Bool.{Bool, true, false}
+use mathlib.Core.Bool.{Bool, cond, _||_}
 use lib.Dec.{eqb}
 use Rattle.kind.specs.declared.Kind.{Kind}
 use Rattle.kind.specs.declared.Kind.the-variants.{Unicast, Local, Broadcast, Blackhole, Unreachable, Prohibit, Throw}
@@ -17,36 +17,20 @@ codeOf Unreachable = 7
 codeOf Prohibit = 8
 codeOf Throw = 9
 
-abbrev pub pickKind : Bool → FoundKind → FoundKind → FoundKind
-pickKind true a b = a
-pickKind false a b = b
-
 unfoldable pub kindOf : ℕ → FoundKind
-kindOf code =
-    pickKind (eqb code 1) (Is Unicast) (pickKind (eqb code 2) (Is Local) (pickKind (eqb code 3) (Is Broadcast)
-    (pickKind (eqb code 6) (Is Blackhole) (pickKind (eqb code 7) (Is Unreachable) (pickKind (eqb code 8) (Is Prohibit)
-    (pickKind (eqb code 9) (Is Throw) Unknown))))))
-
-abbrev pub either : Bool → Bool → Bool
-either true b = true
-either false b = b
+kindOf c =
+    cond (eqb c 1) (Is Unicast) (cond (eqb c 2) (Is Local) (cond (eqb c 3) (Is Broadcast)
+    (cond (eqb c 6) (Is Blackhole) (cond (eqb c 7) (Is Unreachable) (cond (eqb c 8) (Is Prohibit)
+    (cond (eqb c 9) (Is Throw) Unknown))))))
 
 -- the code of one of the seven
 unfoldable pub isKind : ℕ → Bool
-isKind code =
-    either (eqb code 1) (either (eqb code 2) (either (eqb code 3)
-    (either (eqb code 6) (either (eqb code 7) (either (eqb code 8) (eqb code 9))))))
-
-abbrev pub pick : Bool → ℕ → ℕ → ℕ
-pick true a b = a
-pick false a b = b
+isKind c = eqb c 1 || eqb c 2 || eqb c 3 || eqb c 6 || eqb c 7 || eqb c 8 || eqb c 9
 
 -- what a lookup that ends at a route of this code gives, 0 for none
 unfoldable pub errorOf : ℕ → ℕ
-errorOf code = pick (eqb code 6) 22 (pick (eqb code 7) 113 (pick (eqb code 8) 13 (pick (eqb code 9) 11 0)))
+errorOf c = cond (eqb c 6) 22 (cond (eqb c 7) 113 (cond (eqb c 8) 13 (cond (eqb c 9) 11 0)))
 
 -- the least scope that a request for a route of this code may have, as the reference matches on it
 unfoldable pub leastScope : ℕ → ℕ
-leastScope code =
-    pick (either (eqb code 0) (either (eqb code 10) (eqb code 11))) 255
-    (pick (eqb code 2) 254 (pick (either (eqb code 3) (eqb code 4)) 253 0))
+leastScope c = cond (eqb c 0 || eqb c 10 || eqb c 11) 255 (cond (eqb c 2) 254 (cond (eqb c 3 || eqb c 4) 253 0))

@@ -1,7 +1,7 @@
 -- A kind and its code say the same.
 -- Assumes nothing.
 use mathlib.Core.Path.{_≡_, refl, sym, ap, _∙_}
-use mathlib.Core.Bool.{Bool, true, false}
+use mathlib.Core.Bool.{Bool, true, false, cond, _||_}
 use Prim.Native.Nat.{ℕ}
 use lib.Dec.{eqb}
 use borrow.Author.Tests.{eqb-true}
@@ -9,7 +9,7 @@ use Rattle.kind.specs.declared.Kind.{Kind}
 use Rattle.kind.specs.declared.Kind.the-variants.{Unicast, Local, Broadcast, Blackhole, Unreachable, Prohibit, Throw}
 use Rattle.kind.specs.declared.FoundKind.{FoundKind}
 use Rattle.kind.specs.declared.FoundKind.the-variants.{Is, Unknown}
-use Rattle.kind.specs.Kind.{codeOf, pickKind, kindOf, either, isKind}
+use Rattle.kind.specs.Kind.{codeOf, kindOf, isKind}
 
 pub kind-code : (k : Kind) → kindOf (codeOf k) ≡ Is k
 unfolding kindOf
@@ -22,7 +22,7 @@ kind-code Prohibit = refl
 kind-code Throw = refl
 
 step : (n : ℕ) (K k : Kind) (rest : FoundKind) (b : Bool) → eqb n (codeOf K) ≡ b
-    → (rest ≡ Is k → codeOf k ≡ n) → pickKind b (Is K) rest ≡ Is k → codeOf k ≡ n
+    → (rest ≡ Is k → codeOf k ≡ n) → cond b (Is K) rest ≡ Is k → codeOf k ≡ n
 step n K k rest true e f q = let same : K ≡ k = cc in ap codeOf (sym same) ∙ sym (eqb-true n (codeOf K) e)
 step n K k rest false e f q = f q
 
@@ -41,19 +41,23 @@ abbrev pub isFound : FoundKind → Bool
 isFound (Is k) = true
 isFound Unknown = false
 
-found : (b : Bool) (k : Kind) (rest : FoundKind) (r : Bool) → isFound rest ≡ r → isFound (pickKind b (Is k) rest) ≡ either b r
-found true k rest r e = refl
-found false k rest r e = e
+-- one test more before the rest
+found : (a b : Bool) (k : Kind) (rest : FoundKind) → a || isFound (cond b (Is k) rest) ≡ (a || b) || isFound rest
+found true b k rest = refl
+found false true k rest = refl
+found false false k rest = refl
 
-last : (b : Bool) → isFound (pickKind b (Is Throw) Unknown) ≡ b
-last true = refl
-last false = refl
+first : (b : Bool) (k : Kind) (rest : FoundKind) → isFound (cond b (Is k) rest) ≡ b || isFound rest
+first true k rest = refl
+first false k rest = refl
+
+none-found : (b : Bool) → b || false ≡ b
+none-found true = refl
+none-found false = refl
 
 pub is-kind-found : (n : ℕ) → isFound (kindOf n) ≡ isKind n
 unfolding kindOf isKind
-is-kind-found n =
-    found (eqb n 1) Unicast _ _ (found (eqb n 2) Local _ _ (found (eqb n 3) Broadcast _ _
-    (found (eqb n 6) Blackhole _ _ (found (eqb n 7) Unreachable _ _ (found (eqb n 8) Prohibit _ _ (last (eqb n 9)))))))
+is-kind-found n = rw (first, found, found, found, found, found, found, none-found)
 
 pub code-is-kind : (k : Kind) → isKind (codeOf k) ≡ true
 unfolding isKind

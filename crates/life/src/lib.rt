@@ -1,7 +1,7 @@
 // Lifetimes in seconds and the clock in nanoseconds. Only this crate converts.
 ghost use mathlib.Core.Path.{_≡_};
 ghost use Prim.Native.Nat.{_-_};
-ghost use Rattle.life.specs.Life.{reached, age, leftOf, seconds, nanoseconds, clock, lowWord, highWord};
+ghost use Rattle.life.specs.Life.{reached, age, leftOf, storedSeconds, lifeSet, seconds, nanoseconds, clock, lowWord, highWord};
 
 pub struct Seconds(pub u32);
 
@@ -73,7 +73,30 @@ fn less(lifetime: u32, age: u32) -> u32
     lifetime - age
 }
 
+// The seconds to store where `asked` is asked for: one that never ends is not kept.
+fn stored(asked: u32, stored: u32) -> u32
+    ensures { λ r. ⌜ r ≡ storedSeconds asked stored ⌝ }
+{
+    if asked == FOREVER {
+        return stored;
+    }
+    asked
+}
+
 impl Life {
+    // It is given `lifetimes` at `now`.
+    pub fn set(self, lifetimes: Lifetimes, now: Nanoseconds) -> Life
+        ensures { λ r. ⌜ r ≡ lifeSet lifetimes (now .0) self ⌝ }
+    {
+        let created = self.created;
+        Life {
+            valid: Seconds(stored(lifetimes.valid.0, self.valid.0)),
+            preferred: Seconds(stored(lifetimes.preferred.0, self.preferred.0)),
+            created: created,
+            changed: now,
+        }
+    }
+
     // The whole seconds since its lifetimes were set.
     pub fn age(self, now: Nanoseconds) -> Seconds
         ensures { λ r. ⌜ r ≡ seconds (age (self .changed .0) (now .0)) ⌝ }
@@ -98,7 +121,7 @@ impl Life {
         let valid = self.valid.0;
         if preferred == FOREVER {
             return Left {
-                preferred: Seconds(preferred),
+                preferred: Seconds(FOREVER),
                 valid: Seconds(valid),
             };
         }
@@ -108,7 +131,7 @@ impl Life {
         if valid == FOREVER {
             return Left {
                 preferred: Seconds(rest),
-                valid: Seconds(valid),
+                valid: Seconds(FOREVER),
             };
         }
         Left {

@@ -44,7 +44,7 @@ pub or-right : (a b : Bool) → b ≡ true → a || b ≡ true
 or-right true b h = refl
 or-right false b h = h
 
--- a test that can't pass fails, and one that can't fail passes
+-- a test that can't pass fails
 pub fails : (b : Bool) → (b ≡ true → ⊥) → b ≡ false
 fails true h = absurd (h refl)
 fails false h = refl
@@ -59,6 +59,14 @@ not-so false h = refl
 
 pub false-not : (b : Bool) → b ≡ false → not b ≡ true
 false-not b h = ap not h
+
+pub true-false : (b : Bool) → b ≡ true → b ≡ false → ⊥
+true-false b g h = let z : _≡_ {A = ℕ} 0 1 = cc in omega arith
+
+-- a test passes or fails
+pub test-case : (b : Bool) {C : Type 0} → (b ≡ true → C) → (b ≡ false → C) → C
+test-case true f g = f refl
+test-case false f g = g refl
 
 -- what holds of both arms, each where its test says so, holds of the choice
 pub cond-case {ℓ} : {A : Type ℓ} (P : A → Type 0) (b : Bool) {x y : A} → (b ≡ true → P x) → (b ≡ false → P y) → P (cond b x y)
@@ -140,6 +148,9 @@ module _ {A : Type 0} where
   any-mono p q [] f h = h
   any-mono p q (x ∷ l) f h =
       or-case (p x) (any p l) h (λ e. or-left (q x) (any q l) (f x e)) (λ e. or-right (q x) (any q l) (any-mono p q l f e))
+
+  pub any-none : (p q : A → Bool) (l : List A) → ((x : A) → q x ≡ true → p x ≡ true) → any p l ≡ false → any q l ≡ false
+  any-none p q l f h = fails (any q l) (λ e. true-false (any p l) (any-mono q p l f e) h)
 
   pub all-removeFirst : (p q : A → Bool) (l : List A) → all p l ≡ true → all p (removeFirst q l) ≡ true
   all-removeFirst p q [] h = refl

@@ -1,17 +1,17 @@
 -- What it is for a state's lists to be fit, part by part.
 -- Assumes nothing.
-use Prim.Native.Nat.{ℕ}
+use Prim.Native.Nat.{ℕ, _≤_}
 use mathlib.Core.Path.{_≡_}
 use mathlib.Core.Bool.{Bool, true, _&&_}
 use mathlib.Core.List.{List}
 use lib.Dec.{eqb, leb, ltb}
 use lib.ListN.{length}
-use borrow.Author.Tests.{eqb-true, eq-eqb}
+use borrow.Author.Tests.{eqb-true, eq-eqb, leb-true}
 use Rattle.lists.specs.Lists.{Row, all}
 use Rattle.lists.specs.All.{and-iff, all-mono}
 use Rattle.lists.specs.Rows.{sized}
 use Rattle.layout.specs.Address.{fitAddress, fitLabel, optional, prefix, broadcastPresent, broadcast, scope, proto, labelLength, label}
-use Rattle.layout.specs.Route.{fitRoute}
+use Rattle.layout.specs.Route.{fitRoute, len}
 use Rattle.layout.specs.Request.{fitAddV4}
 use Rattle.definition.specs.State.{State}
 use Rattle.definition.specs.Words.{fitState, ordered, distinct, noneTwice}
@@ -19,7 +19,7 @@ use Rattle.definition.specs.Words.{fitState, ordered, distinct, noneTwic
 -- the fields that an address row and a request for one share
 pub record FitFields (a : Row) : Type 0 where
   pub short : leb (prefix a) 32 ≡ true
-  pub «named» : optional (broadcastPresent a) (broadcast a) ≡ true
+  pub named : optional (broadcastPresent a) (broadcast a) ≡ true
   pub wide : ltb (scope a) 256 ≡ true
   pub by : ltb (proto a) 256 ≡ true
   pub labelled : fitLabel (labelLength a) (label a) ≡ true
@@ -28,7 +28,7 @@ pub fields-address : (a : Row) → fitAddress a ≡ true → FitFields a
 unfolding fitAddress
 fields-address a h =
     let k = simp and-iff at h in
-    record { short = k .0 .0 .0 .0 .1; «named» = simp and-iff (k .0 .0 .0 .1); wide = k .0 .0 .1; by = k .0 .1; labelled = simp and-iff (k .1) }
+    record { short = k .0 .0 .0 .0 .1; named = simp and-iff (k .0 .0 .0 .1); wide = k .0 .0 .1; by = k .0 .1; labelled = simp and-iff (k .1) }
 
 pub length-address : (a : Row) → fitAddress a ≡ true → length a ≡ 20
 unfolding fitAddress
@@ -37,17 +37,21 @@ length-address a h = eqb-true (length a) 20 ((simp and-iff at h) .0 .0 .0 .0 .0)
 pub address-fields : (a : Row) → length a ≡ 20 → FitFields a → fitAddress a ≡ true
 unfolding fitAddress
 address-fields a e f =
-    simp and-iff (((((eq-eqb (length a) 20 e, f .short), simp and-iff at (f .«named»)), f .wide), f .by), simp and-iff at (f .labelled))
+    simp and-iff (((((eq-eqb (length a) 20 e, f .short), simp and-iff at (f .named)), f .wide), f .by), simp and-iff at (f .labelled))
 
 pub fields-request : (q : Row) → fitAddV4 q ≡ true → FitFields q
 unfolding fitAddV4
 fields-request q h =
     let k = simp and-iff at h in
-    record { short = k .0 .0 .0 .0 .0 .0; «named» = simp and-iff (k .0 .0 .0 .0 .0 .1); wide = k .0 .0 .0 .0 .1; by = k .0 .0 .0 .1; labelled = simp and-iff (k .0 .0 .1) }
+    record { short = k .0 .0 .0 .0 .0 .0; named = simp and-iff (k .0 .0 .0 .0 .0 .1); wide = k .0 .0 .0 .0 .1; by = k .0 .0 .0 .1; labelled = simp and-iff (k .0 .0 .1) }
 
 pub length-route : (r : Row) → fitRoute r ≡ true → length r ≡ 32
 unfolding fitRoute
 length-route r h = eqb-true (length r) 32 ((simp and-iff at h) .0 .0 .0 .0 .0 .0 .0 .0 .0 .0 .0)
+
+pub route-len : (r : Row) → fitRoute r ≡ true → len r ≤ 32
+unfolding fitRoute
+route-len r h = leb-true (len r) 32 ((simp and-iff at h) .0 .0 .0 .0 .0 .0 .0 .0 .0 .0 .1)
 
 pub sized-addresses : (l : List Row) → all fitAddress l ≡ true → sized 20 l ≡ true
 sized-addresses l h = all-mono fitAddress (λ r. eqb (length r) 20) l (λ r e. eq-eqb (length r) 20 (length-address r e)) h

@@ -50,19 +50,25 @@ unwanted addresses left a = keep (λ r. not (wanted left r)) (leaving addresses 
 abbrev pub straysFrom : ℕ → Row → Bool
 straysFrom ip r = eqb (table r) mainTable && eqb (Route.prefsrcPresent r) 1 && eqb (Route.prefsrc r) ip
 
--- where a /32 of a local route went and the address is local no more, the main rows from it fall, in listed order
+-- a /32 of a local route went, and the address is local no more
+abbrev pub falls : Row → List Row → State → Bool
+falls a routes st = any (λ r. ofKind localKind r && eqb (len r) 32) routes && not (local4 st (local a))
+
+-- the main rows from it, in listed order
+abbrev pub strays : Row → State → List Row
+strays a st = cond (listed mainTable st) (keep (straysFrom (local a)) (st .routes)) []
+
+-- then these fall
 unfoldable pub fall : Row → List Row → State → Out
-fall a routes st =
-    cond (any (λ r. ofKind localKind r && eqb (len r) 32) routes && not (local4 st (local a)))
-    (through kernelDel4 (cond (listed mainTable st) (keep (straysFrom (local a)) (st .routes)) []) st)
-    (stays st)
+fall a routes st = cond (falls a routes st) (through kernelDel4 (strays a st) st) (stays st)
+
+-- the routes that go through no device
+abbrev pub deviceless : State → State
+deviceless st = withRoutes (keep (λ r. not (eqb (Route.device r) 1)) (st .routes)) st
 
 -- the last address takes every route through the device with it, without a word
 unfoldable pub disable : State → Out
-disable st =
-    cond (eqb (length (st .addresses)) 0)
-    (stays (withRoutes (keep (λ r. not (eqb (Route.device r) 1)) (st .routes)) st))
-    (stays st)
+disable st = cond (eqb (length (st .addresses)) 0) (stays (deviceless st)) (stays st)
 
 -- one address goes: the first row equal to it, told; then its routes that none wants; then what falls with it
 unfoldable pub removeOne : Row → State → Out
@@ -112,12 +118,15 @@ unfoldable pub faded : Row → Row
 faded a =
     rewritten a (setBit deprecatedBit (flags a)) (Address.proto a) (Address.priority a) (valid a) (preferred a) (created a) (changed a)
 
+-- the address, marked if it fades
+abbrev pub marked : ℕ → ℕ → Row → Row
+marked allowance now a = cond (fades allowance now a) (faded a) a
+
 -- the addresses before the first that is due are marked, and those newly marked are told
 unfoldable pub fade : ℕ → ℕ → State → Out
 fade allowance now st =
     let spared = until (due allowance now) (st .addresses) in
-    let marked = map (λ a. cond (fades allowance now a) (faded a) a) spared in
-    becomes (withAddresses (marked ++ onward (due allowance now) (st .addresses)) st)
+    becomes (withAddresses (map (marked allowance now) spared ++ onward (due allowance now) (st .addresses)) st)
     (map (λ a. newAddr4 (faded a)) (keep (fades allowance now) spared))
 
 -- a pass marks, removes the first address that is due, and then all begins again; each pass but the last removes an

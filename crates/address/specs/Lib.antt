@@ -1,0 +1,4 @@
+pub mod Bits
+pub mod V4
+pub mod Row
+pub mod Laws

@@ -1,0 +1,3 @@
+-- What a reader may want to know of the definitions before trusting them.
+pub mod Lookup
+pub mod Expire

@@ -1,0 +1,10 @@
+-- Demand 3: whatever two runs ask of their private tables, the rest comes out alike.
+pub mod Statement
+pub mod Projection
+pub mod Tables
+pub mod Addresses
+pub mod Routes
+pub mod Struck
+pub mod Calls
+pub mod Apart
+pub mod Theorem

@@ -1,0 +1,75 @@
+-- Two runs side by side: the proof. Both runs answer as the calls that aren't struck do without limits on the empty state.
+use Prim.Native.Nat.{ℕ}
+use mathlib.Core.Path.{_≡_, refl, sym, _∙_, ap, ap₂}
+use mathlib.Core.Bool.{Bool, true, false, cond, not, _&&_}
+use mathlib.Core.List.{List, [], _∷_}
+use lib.Dec.{eqb}
+use Rattle.lists.specs.Lists.{keep}
+use Rattle.lists.specs.All.{and-left, and-right}
+use Rattle.lists.specs.Keep.{byCase}
+use Rattle.definition.specs.State.{State, empty}
+use Rattle.definition.specs.Words.{decode, encode, ordered}
+use Rattle.definition.specs.Call.{Call, Reply}
+use Rattle.definition.specs.Step.{step}
+use Rattle.definition.specs.Kept.Fit.{fit-state}
+use Rattle.definition.specs.Kept.Encode.{good-decode}
+use Rattle.definition.specs.Kept.Step.{Held, held-empty}
+use Rattle.definition.specs.Runs.Statement.{Choice, struck, unstruck, Agree, emptyWords, after, spacious, compared, observed, View, view, Alike, TwoRuns}
+use Rattle.definition.specs.Runs.Projection.{without}
+use Rattle.definition.specs.Runs.Calls.{deed, freely, spaced, step-follows}
+use Rattle.definition.specs.Runs.Apart.{Same, same, hidden}
+
+-- ---- a run without limits, on states
+ideal : (ℕ → Bool) → List Call → State → List Reply
+ideal chosen [] st = []
+ideal chosen (c ∷ cs) st =
+    compared chosen c (freely (deed c) st .reply) ∷ ideal chosen cs (freely (deed c) st .state)
+
+last : List Call → State → State
+last [] st = st
+last (c ∷ cs) st = last cs (freely (deed c) st .state)
+
+-- what is compared afterwards of the state without the chosen tables
+seen : State → View
+seen st = record { addresses = st .addresses; routes = st .routes }
+
+module _ (chosen : ℕ → Bool) (choice : Choice chosen) where
+  -- the run on words answers, and ends, as what isn't struck does without the chosen tables
+  record Projects (cs : List Call) (w : List ℕ) : Type 0 where
+    answers : observed chosen cs w ≡ ideal chosen (unstruck chosen cs) (without chosen (decode w))
+    ends : without chosen (decode (after cs w)) ≡ last (unstruck chosen cs) (without chosen (decode w))
+
+  projects : (cs : List Call) (w : List ℕ) → Held w → spacious cs w ≡ true → Projects cs w
+  unfolding observed after spacious ideal last
+  projects [] w s h = record { answers = refl; ends = refl }
+  projects (c ∷ cs) w s h =
+      let w′ = step c w .words in
+      let f = step-follows c w s (and-left (spaced (step c w)) (spacious cs w′) h) in
+      let later = projects cs w′ (f .held) (and-right (spaced (step c w)) (spacious cs w′) h) in
+      let inOrder = fit-state (decode w) (good-decode w (s .long) (s .well) .fits) .ofRoutes .inOrder in
+      byCase (struck chosen c)
+      (λ e.
+      let unseen : without chosen (decode w′) ≡ without chosen (decode w) =
+      ap (without chosen) (f .state) ∙ hidden chosen choice c e (decode w) inOrder
+      in
+      record { answers = rw e (later .answers ∙ ap (ideal chosen (unstruck chosen cs)) unseen); ends = rw e (later .ends ∙ ap (last (unstruck chosen cs)) unseen) })
+      (λ e.
+      let m = same chosen choice c e (decode w) in
+      let moved : without chosen (decode w′) ≡ freely (deed c) (without chosen (decode w)) .state =
+      ap (without chosen) (f .state) ∙ sym (m .state)
+      in
+      record {
+        answers = rw e (ap₂ _∷_ (ap (compared chosen c) (f .reply) ∙ sym (m .reply)) (later .answers ∙ ap (ideal chosen (unstruck chosen cs)) moved));
+        ends = rw e (later .ends ∙ ap (last (unstruck chosen cs)) moved);
+      })
+
+-- ---- the claim
+pub two-runs : TwoRuns
+unfolding seen
+two-runs chosen choice cs ds agree h k =
+    let p = projects chosen choice cs emptyWords held-empty h in
+    let q = projects chosen choice ds emptyWords held-empty k in
+    record {
+      answers = p .answers ∙ ap (λ l. ideal chosen l (without chosen (decode emptyWords))) agree ∙ sym (q .answers);
+      afterwards = ap seen (p .ends ∙ ap (λ l. last l (without chosen (decode emptyWords))) agree ∙ sym (q .ends));
+    }

@@ -1,0 +1,124 @@
+//! A port held against the model: all that is written by hand, then
+//! generated cases, then pairs of runs. This is what a port behind the C
+//! ABI is handed to.
+use crate::call::NAMES;
+use crate::checks::Checks;
+use crate::compare::{Case, Difference, compare};
+use crate::generate::cases::{Cases, Origin, USUAL};
+use crate::pairs;
+use crate::port::{Port, Words};
+use crate::rng::Rng;
+use crate::words::{self, STATE_WORDS};
+use crate::{examples, facts, json, linux, rfc, script, well_formed};
+use std::collections::BTreeMap;
+
+/// How much to compare.
+#[derive(Clone, Copy, Debug)]
+pub struct Amount {
+    pub cases: usize,
+    pub pairs: usize,
+    pub seed: u64,
+}
+
+/// What was compared.
+#[derive(Clone, Debug, Default)]
+pub struct Summary {
+    pub by_hand: usize,
+    pub cases: usize,
+    pub pairs: usize,
+    /// How often each call gave each number.
+    pub answers: BTreeMap<(&'static str, u32), usize>,
+}
+
+/// The calls of all examples and differences, with their states.
+pub fn by_hand() -> Vec<Case> {
+    script::collect(|| {
+        let mut checks = Checks {
+            quiet: true,
+            ..Checks::default()
+        };
+        for check in [examples::check, linux::check, rfc::check, facts::check] {
+            check(&mut checks);
+        }
+        assert_eq!(checks.failed, 0, "the Rust gives the examples");
+    })
+}
+
+/// Compares `port` with the model. Gives the first difference with the
+/// smallest case found for it, as text.
+pub fn run(port: &mut dyn Port, amount: Amount) -> Result<Summary, String> {
+    let mut summary = Summary::default();
+    for case in by_hand() {
+        one(port, &case, &mut summary)?;
+        summary.by_hand += 1;
+    }
+    let mut cases = Cases::new(amount.seed, USUAL);
+    for _ in 0..amount.cases {
+        let (origin, case) = cases.next_case();
+        one(port, &case, &mut summary).map_err(|what| from(origin, amount.seed, &what))?;
+        summary.cases += 1;
+    }
+    let mut rng = Rng::new(amount.seed);
+    for i in 0..amount.pairs {
+        let pair = pairs::pair(&mut rng);
+        if let pairs::Result::Apart(what) = pairs::try_pair(&mut Words(&mut *port), &pair) {
+            return Err(format!("pair {i} of seed {} parts: {what}", amount.seed));
+        }
+        summary.pairs += 1;
+    }
+    Ok(summary)
+}
+
+fn from(origin: Origin, seed: u64, what: &str) -> String {
+    format!("{what}\n(of {origin:?}, seed {seed})")
+}
+
+fn one(port: &mut dyn Port, case: &Case, summary: &mut Summary) -> Result<(), String> {
+    match compare(port, case) {
+        Ok(effect) => {
+            let name = NAMES[case.call.code() as usize - 1];
+            *summary
+                .answers
+                .entry((name, effect.reply.number))
+                .or_default() += 1;
+            Ok(())
+        }
+        Err(difference) => {
+            let (small, difference) = shrink(port, case.clone(), difference);
+            Err(format!("{difference}\n{}", json::line(&small)))
+        }
+    }
+}
+
+/// Takes rows out of the state as long as the port and the model part.
+pub fn shrink(port: &mut dyn Port, case: Case, found: Difference) -> (Case, Difference) {
+    let (mut case, mut found) = (case, found);
+    if case.state.len() != STATE_WORDS || !well_formed::state(&case.state) {
+        return (case, found);
+    }
+    loop {
+        let lists = words::decode(&case.state);
+        let lengths = [
+            lists.addresses.len(),
+            lists.routes.len(),
+            lists.tables.len(),
+        ];
+        let mut smaller = (0..3).flat_map(|which| (0..lengths[which]).map(move |at| (which, at)));
+        let next = smaller.find_map(|(which, at)| {
+            let mut fewer = lists.clone();
+            match which {
+                0 => drop(fewer.addresses.remove(at)),
+                1 => drop(fewer.routes.remove(at)),
+                _ => drop(fewer.tables.remove(at)),
+            }
+            let mut candidate = case.clone();
+            candidate.state = words::encode(&fewer);
+            let difference = compare(port, &candidate).err()?;
+            Some((candidate, difference))
+        });
+        match next {
+            Some(smaller) => (case, found) = smaller,
+            None => return (case, found),
+        }
+    }
+}

@@ -1,0 +1,386 @@
+//! What else the Rust does that its comments would let one miss.
+use crate::call::{Call, Reply};
+use crate::checks::{Checks, lines};
+use crate::script::{NewAddress, Route, Script, address, ip, route};
+use crate::words::{self, encode};
+use reference::{Lists, RouteRow};
+
+pub fn check(checks: &mut Checks) {
+    refusal_order(checks);
+    gateways(checks);
+    changes(checks);
+    strays(checks);
+    no_events(checks);
+    space(checks);
+    most_events(checks);
+}
+
+fn refusal_order(checks: &mut Checks) {
+    let mut number = |name: &str, ask: Route, expected: u32| {
+        checks.same(
+            name,
+            Script::default().add_route(ask).reply.number,
+            expected,
+        );
+    };
+    let up = route("10.2.0.0/24").up();
+    for kind in [10, 11] {
+        let name = format!("D2 kind {kind} below scope 255 is 22");
+        number(
+            &name,
+            Route {
+                kind,
+                scope: 254,
+                ..up
+            },
+            22,
+        );
+    }
+    number(
+        "D2 kind 4 below scope 253 is 22",
+        Route {
+            kind: 4,
+            scope: 252,
+            ..up
+        },
+        22,
+    );
+    number(
+        "D2 the metrics error comes before 95",
+        Route {
+            kind: 5,
+            error: 7,
+            ..up
+        },
+        7,
+    );
+    number(
+        "D2 and before an unknown kind's 22",
+        Route {
+            kind: 12,
+            error: 7,
+            ..up
+        },
+        7,
+    );
+    number(
+        "D3 a rejecting kind with a device is 22",
+        Route {
+            kind: 6,
+            oif: 2,
+            ..up
+        },
+        22,
+    );
+}
+
+fn gateways(checks: &mut Checks) {
+    let via = |to: &str| Route {
+        scope: 0,
+        gateway: Some(ip(to)),
+        ..route("10.2.0.0/24").up()
+    };
+    let mut s = Script::default();
+    s.up(0);
+    let told = s.add_route(Route {
+        oif: 2,
+        ..via("127.0.0.1")
+    });
+    checks.same("D3 a gateway with oif 2 is 101", told.reply.number, 101);
+    let onlink = Route {
+        flags: 4,
+        ..via("10.9.0.1")
+    };
+    let told = Script::default().add_route(onlink);
+    checks.same(
+        "C1 an on-link gateway while 255 is unlisted is 22",
+        told.reply.number,
+        22,
+    );
+    s.add_route(route("10.9.0.0/16").rejecting(6));
+    checks.same(
+        "C1 under a rejecting row it is taken",
+        s.add_route(onlink).reply,
+        Reply::value(1),
+    );
+}
+
+/// An address replaced with another priority.
+fn changes(checks: &mut Checks) {
+    let old = NewAddress {
+        broadcast: Some(ip("10.1.0.77")),
+        scope: 7,
+        ..address("10.1.0.5/24")
+    };
+    let mut s = Script::default();
+    s.add(old);
+    let told = s.add(NewAddress {
+        priority: 5,
+        replace: true,
+        broadcast: None,
+        scope: 9,
+        flags: 0x200,
+        ..old.up()
+    });
+    checks.same(
+        "C2 a change of priority without the old prefix route",
+        told.text,
+        lines(&[
+            "NewRoute4 0x600 255 10.1.0.0/24 kind 2 priority 5 from 10.1.0.5",
+            "DelRoute4 255 10.1.0.0/24 kind 2 priority 5 from 10.1.0.5",
+            "NewAddr4 10.1.0.5/24",
+        ]),
+    );
+    let row = words::address_at(&s.state, 0);
+    checks.same(
+        "C3 a change leaves broadcast, scope and other flags",
+        (row[4], row[5], row[6]),
+        (ip("10.1.0.77"), 7, 0x80),
+    );
+    // valid forever leaves the stored seconds
+    let mut s = Script::default();
+    s.add(NewAddress {
+        valid: 10,
+        preferred: 5,
+        ..address("10.1.0.5/24")
+    });
+    s.add(NewAddress {
+        replace: true,
+        ..address("10.1.0.5/24")
+    });
+    let row = words::address_at(&s.state, 0);
+    checks.same(
+        "C4 valid forever leaves the stored seconds",
+        (row[14], row[15], row[6]),
+        (10, 5, 0x80),
+    );
+}
+
+/// A peer's /32 prefix route counts as the local one.
+fn strays(checks: &mut Checks) {
+    let mut s = Script::default();
+    s.up(0);
+    s.add(address("10.1.0.5/32").up());
+    s.add(NewAddress {
+        address: ip("10.1.0.9"),
+        ..address("10.1.0.5/32").up()
+    });
+    s.add_route(Route {
+        prefsrc: Some(ip("10.1.0.5")),
+        ..route("10.2.0.0/24").up()
+    });
+    s.del_route(Route {
+        table: 255,
+        kind: 2,
+        scope: 254,
+        oif: 0,
+        ..route("10.1.0.5/32")
+    });
+    let mut request = vec![0; 11];
+    request[2..5].copy_from_slice(&[1, ip("10.1.0.9"), 32]);
+    checks.same(
+        "C5 main routes fall while another address has the same local",
+        s.call(Call::DelV4 { request }).text,
+        lines(&[
+            "DelAddr4 10.1.0.5/32",
+            "DelRoute4 255 10.1.0.9/32 kind 2 from 10.1.0.5",
+            "DelRoute4 254 10.2.0.0/24 kind 1 from 10.1.0.5",
+        ]),
+    );
+}
+
+fn no_events(checks: &mut Checks) {
+    let mut s = Script::default();
+    let twice = Route {
+        request: 0x500,
+        ..route("10.2.0.0/24").up()
+    };
+    s.add_route(twice);
+    checks.same(
+        "C6 a row replaced by itself",
+        s.add_route(twice).reply,
+        Reply::default(),
+    );
+    let mut s = Script::default();
+    s.up(0);
+    let mut lists = words::decode(&s.state);
+    lists.tables.clear();
+    s.state = encode(&lists);
+    let found = (s.up(0).reply, s.tables());
+    checks.same(
+        "C7 up lists tables without an event",
+        found,
+        (Reply::default(), vec![254, 255]),
+    );
+    let mut s = Script::default();
+    s.add(address("10.1.0.5/24"));
+    checks.same(
+        "an address added while down lists both",
+        s.tables(),
+        vec![254, 255],
+    );
+}
+
+/// A state with `routes` rows that no address wants.
+fn filled(addresses: usize, routes: usize, tables: Vec<u32>) -> Lists {
+    let mut lists = Lists {
+        tables,
+        ..Lists::default()
+    };
+    for i in 0..routes as u32 {
+        let mut row: RouteRow = [0; 32];
+        row[..3].copy_from_slice(&[100, ip("11.0.0.0") + (i << 8), 24]);
+        row[5] = 6;
+        lists.routes.push(row);
+    }
+    for i in 0..addresses as u32 {
+        let mut row = [0; 20];
+        row[..3].copy_from_slice(&[ip("12.0.0.1") + (i << 8), ip("12.0.0.1") + (i << 8), 24]);
+        lists.addresses.push(row);
+    }
+    lists
+}
+
+fn script(lists: &Lists) -> Script {
+    Script {
+        state: encode(lists),
+    }
+}
+
+fn space(checks: &mut Checks) {
+    let usual = || vec![254, 255];
+    let changed = NewAddress {
+        priority: 5,
+        replace: true,
+        ..address("12.0.0.1/24").up()
+    };
+    let mut s = script(&filled(1, 256, usual()));
+    checks.same(
+        "a change of priority at 256 routes",
+        s.add(changed).reply,
+        Reply::refused(203),
+    );
+    let mut lists = filled(1, 255, usual());
+    let mut s = script(&lists);
+    s.add(changed);
+    checks.same("the same at 255", s.routes().len(), 255);
+    let mut there: RouteRow = [0; 32];
+    there[..10].copy_from_slice(&[255, ip("12.0.0.0"), 24, 0, 5, 2, 2, 254, 1, ip("12.0.0.1")]);
+    there[12] = 1;
+    lists.routes.push(there);
+    let told = script(&lists).add(changed);
+    checks.same(
+        "at 256 with the new row there already",
+        told.reply,
+        Reply::value(2),
+    );
+    let bad = |table| Route {
+        table,
+        len: 33,
+        ..route("10.2.0.0/24")
+    };
+    let full: Vec<u32> = (1000..1032).collect();
+    let mut s = script(&filled(0, 0, full.clone()));
+    let told = s.add_route(bad(7));
+    checks.same(
+        "a bad request that names a 33rd table",
+        told.reply,
+        Reply::refused(203),
+    );
+    let told = s.add_route(bad(1000));
+    checks.same(
+        "a bad request that names a listed one",
+        told.reply,
+        Reply::refused(22),
+    );
+    let mut s = script(&filled(0, 0, full[..31].to_vec()));
+    checks.same(
+        "255 at 31 tables without 254",
+        s.add_route(bad(255)).reply,
+        Reply::refused(203),
+    );
+    checks.same(
+        "254 at 31 tables",
+        s.add_route(bad(254)).reply,
+        Reply::refused(22),
+    );
+    let mut s = script(&filled(64, 0, usual()));
+    let told = s.add(address("12.0.0.1/24"));
+    checks.same(
+        "a duplicate at 64 addresses",
+        told.reply,
+        Reply::refused(17),
+    );
+    let mut s = script(&filled(0, 256, vec![100]));
+    let again = Route {
+        table: 100,
+        request: 0x600,
+        scope: 0,
+        ..route("11.0.0.0/24").rejecting(6)
+    };
+    checks.same(
+        "a duplicate at 256 routes",
+        s.add_route(again).reply,
+        Reply::refused(17),
+    );
+    let other = Route {
+        dst: ip("13.0.0.0"),
+        request: 0,
+        ..again
+    };
+    checks.same(
+        "no create flag at 256 routes",
+        s.add_route(other).reply,
+        Reply::refused(2),
+    );
+    let other = Route {
+        request: 0x400,
+        ..other
+    };
+    checks.same(
+        "a new row at 256 routes",
+        s.add_route(other).reply,
+        Reply::refused(203),
+    );
+}
+
+/// 63 NewAddr4, 64 DelAddr4 and 256 DelRoute4 in one `expire`.
+fn most_events(checks: &mut Checks) {
+    let mut lists = filled(64, 0, vec![254, 255]);
+    for (i, a) in lists.addresses.iter_mut().enumerate() {
+        // all are marked on the way to the last, which is due; it takes its
+        // secondaries along, and main rows fall with it
+        a[..3].copy_from_slice(&[ip("12.0.0.1") + i as u32, ip("12.0.0.1"), 24]);
+        a[6] = u32::from(i < 63);
+        a[14] = if i < 63 { 100 } else { 1 };
+        a[15] = if i < 63 { 1 } else { 100 };
+    }
+    lists.addresses[63][1] = ip("12.0.0.1");
+    for i in 0..255 {
+        let mut row: RouteRow = [0; 32];
+        row[..3].copy_from_slice(&[254, ip("11.0.0.0") + (i << 8), 24]);
+        row[5..10].copy_from_slice(&[1, 3, 253, 1, ip("12.0.0.1") + 63]);
+        row[12] = 1;
+        lists.routes.push(row);
+    }
+    let mut local: RouteRow = [0; 32];
+    local[..10].copy_from_slice(&[
+        255,
+        ip("12.0.0.64"),
+        32,
+        0,
+        0,
+        2,
+        2,
+        254,
+        1,
+        ip("12.0.0.64"),
+    ]);
+    local[12] = 1;
+    lists.routes.push(local);
+    let mut s = script(&lists);
+    let told = s.expire(2_000_000_000).text;
+    let of = |name: &str| told.iter().filter(|t| t.starts_with(name)).count();
+    let counts = (of("NewAddr4"), of("DelAddr4"), of("DelRoute4"), told.len());
+    checks.same("383 event rows in one expire", counts, (63, 64, 256, 383));
+}

@@ -1,0 +1,112 @@
+//! Planted faults: ports that go wrong in one way each. The comparison
+//! must find every one of them.
+mod answers;
+mod effects;
+mod refusals;
+
+use crate::call::{Call, Reply};
+use crate::campaign::shrink;
+use crate::campaign::{self, Amount, Summary};
+use crate::compare::compare;
+use crate::generate::cases::{Cases, USUAL};
+use crate::pairs;
+use crate::port::{Bytes, Model, WordPort};
+use crate::rng::Rng;
+
+/// A port that does `run` in place of the model.
+#[derive(Clone, Copy)]
+pub struct Fault {
+    pub name: &'static str,
+    pub run: fn(&Call, &mut [u32], &mut [u32]) -> Reply,
+}
+
+impl WordPort for Fault {
+    fn name(&self) -> String {
+        self.name.to_string()
+    }
+    fn call(&mut self, call: &Call, state: &mut [u32], buffer: &mut [u32]) -> Reply {
+        (self.run)(call, state, buffer)
+    }
+}
+
+/// How many cases, and how many pairs, a fault may go unfound.
+const CASES: usize = 20_000;
+const PAIRS: usize = 2_000;
+/// How many cases a port without a fault is compared on.
+const SOUND: usize = 5_000;
+
+/// Runs every fault through the comparison, and those that break the claim
+/// about two runs through the pairs.
+pub fn selftest(seed: u64) -> bool {
+    let all: Vec<Fault> = [answers::FAULTS, effects::FAULTS, refusals::FAULTS].concat();
+    let mut found = 0;
+    for fault in &all {
+        match cases_to_find(*fault, seed) {
+            Some((cases, what)) => {
+                found += 1;
+                println!("found   {} (case {cases}: {what})", fault.name);
+            }
+            None => println!("MISSED  {} in {CASES} cases", fault.name),
+        }
+    }
+    let parting = answers::PARTING;
+    let mut parted = 0;
+    for fault in parting {
+        match pairs_to_find(*fault, seed) {
+            Some(pair) => {
+                parted += 1;
+                println!("found   {} (pair {pair} parts)", fault.name);
+            }
+            None => println!("MISSED  {} in {PAIRS} pairs", fault.name),
+        }
+    }
+    let sound = sound(seed);
+    println!(
+        "selftest: {found} of {} faults found by the comparison, {parted} of {} by the pairs; \
+         without a fault {}",
+        all.len(),
+        parting.len(),
+        sound.as_ref().map_or_else(String::clone, said)
+    );
+    found == all.len() && parted == parting.len() && sound.is_ok()
+}
+
+/// The model met through bytes: nothing may be found.
+fn sound(seed: u64) -> Result<Summary, String> {
+    let amount = Amount {
+        cases: SOUND,
+        pairs: SOUND / 50,
+        seed,
+    };
+    campaign::run(&mut Bytes(Model), amount)
+}
+
+fn said(summary: &Summary) -> String {
+    format!(
+        "{} calls by hand, {} cases and {} pairs alike",
+        summary.by_hand, summary.cases, summary.pairs
+    )
+}
+
+fn cases_to_find(fault: Fault, seed: u64) -> Option<(usize, String)> {
+    let mut cases = Cases::new(seed, USUAL);
+    let mut port = Bytes(fault);
+    (1..=CASES).find_map(|i| {
+        let (_, case) = cases.next_case();
+        let other = compare(&mut port, &case).err()?;
+        let rows = |state: &[u32]| state.iter().take(3).sum::<u32>();
+        let before = rows(&case.state);
+        let (small, other) = shrink(&mut port, case, other);
+        let after = rows(&small.state);
+        let what = format!("{}: {}", other.call.name(), other.what);
+        Some((i, format!("{before} rows cut to {after}: {what}")))
+    })
+}
+
+fn pairs_to_find(mut fault: Fault, seed: u64) -> Option<usize> {
+    let mut rng = Rng::new(seed);
+    (1..=PAIRS).find(|_| {
+        let pair = pairs::pair(&mut rng);
+        matches!(pairs::try_pair(&mut fault, &pair), pairs::Result::Apart(_))
+    })
+}

@@ -1,0 +1,7 @@
+//! The generator: calls, states and whole cases, all from a seed.
+pub mod calls;
+pub mod cases;
+pub mod damage;
+pub mod limits;
+pub mod pools;
+pub mod states;

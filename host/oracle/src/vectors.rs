@@ -1,0 +1,313 @@
+//! The fixed list of answers: a file of little-endian words that a program
+//! without Rust at hand can replay. host/README.md describes its format.
+use crate::call::Call;
+use crate::compare::{Case, filled};
+use crate::generate::calls::{self, Host};
+use crate::generate::cases::{Cases, Weights};
+use crate::generate::states::Sizes;
+use crate::generate::{damage, limits, states};
+use crate::model::model;
+use crate::port::bytes;
+use crate::rng::Rng;
+use crate::script::written;
+use crate::words::{self, STATE_WORDS};
+use std::collections::BTreeMap;
+use std::fs;
+
+/// "NKV1" in the file's first four bytes.
+const MAGIC: u32 = u32::from_le_bytes(*b"NKV1");
+pub const SEED: u64 = 1;
+/// The replayer's state has one word more than a state, so that it can lend
+/// one that is too long.
+pub const HELD_WORDS: usize = STATE_WORDS + 1;
+/// What each part of the list may take, in words.
+const SEQUENCES: usize = 56_000;
+const DIRECT: usize = 14_000;
+const LIMITS: usize = 16_000;
+
+/// The list in the making.
+struct Writer {
+    words: Vec<u32>,
+    records: u32,
+    held: Vec<u32>,
+    counts: BTreeMap<u32, usize>,
+}
+
+/// Writes the list to `path`.
+pub fn write(path: &str, seed: u64) -> Result<(), String> {
+    let (data, counts) = vectors(seed);
+    fs::write(path, bytes(&data)).map_err(|e| format!("{path}: {e}"))?;
+    let text: Vec<String> = counts.iter().map(|(n, k)| format!("{n}: {k}")).collect();
+    println!(
+        "vectors: {} records in {} bytes, seed {seed}; answers by number: {}",
+        data[3],
+        data.len() * 4,
+        text.join(", ")
+    );
+    Ok(())
+}
+
+/// The words of the list, and how often each number is answered.
+pub fn vectors(seed: u64) -> (Vec<u32>, BTreeMap<u32, usize>) {
+    let mut w = Writer {
+        words: vec![MAGIC, seed as u32, (seed >> 32) as u32, 0, 0],
+        records: 0,
+        held: vec![0; HELD_WORDS],
+        counts: BTreeMap::new(),
+    };
+    let mut rng = Rng::new(seed);
+    w.by_hand();
+    w.part(SEQUENCES, &mut rng, [1, 0, 0, 0, 0, 0, 0]);
+    w.part(DIRECT, &mut rng, [0, 1, 0, 0, 0, 0, 0]);
+    w.unfit(&mut rng);
+    w.limits(LIMITS, &mut rng);
+    w.words[3] = w.records;
+    w.words[4] = w.words.len() as u32;
+    (w.words, w.counts)
+}
+
+impl Writer {
+    /// Document 01's first example begins the list.
+    fn by_hand(&mut self) {
+        let mut state = words::empty();
+        for call in [Call::Up { now: 0 }, Call::Up { now: 1 }, Call::Dump4] {
+            let case = Case::new(call, state);
+            self.record(&case);
+            state = self.held[..STATE_WORDS].to_vec();
+        }
+    }
+
+    /// Cases of some origins until `size` words are written.
+    fn part(&mut self, size: usize, rng: &mut Rng, weights: Weights) {
+        let mut cases = Cases::new(rng.draw(), weights);
+        let end = self.words.len() + size;
+        while self.words.len() < end {
+            let (_, mut case) = cases.next_case();
+            if case.cut != Default::default() {
+                // bytes are the host's affair; this list is about words
+                continue;
+            }
+            case.buffer.truncate(case.call.buffer().least());
+            self.record(&case);
+        }
+    }
+
+    /// Each clause and each kind of request damaged, and wrong lengths, all
+    /// on one state.
+    fn unfit(&mut self, rng: &mut Rng) {
+        let sizes = Sizes {
+            addresses: 3,
+            routes: 4,
+            tables: 3,
+        };
+        let lists = states::direct(rng, sizes);
+        let state = states::encoded(&lists);
+        let mut host = Host::default();
+        for clause in 0..damage::CLAUSES {
+            let code = 1 + clause as u32 % 14;
+            let call = calls::of_kind(rng, code, &lists, &mut host);
+            let (_, unfit) = damage::of_lists(rng, clause, &lists);
+            self.record(&Case::new(call, unfit));
+        }
+        for i in 0..90 {
+            let mut call = calls::of_kind(rng, 1 + i % 15, &lists, &mut host);
+            if damage::request(rng, &mut call) || damage::handed_row(rng, &mut call) {
+                self.record(&Case::new(call, state.clone()));
+            }
+        }
+        for code in 1..=15 {
+            let call = calls::of_kind(rng, code, &lists, &mut host);
+            for length in [STATE_WORDS - 1, HELD_WORDS] {
+                let mut case = Case::new(call.clone(), state.clone());
+                case.state.resize(length, 0);
+                self.record(&case);
+            }
+            let mut case = Case::new(call, state.clone());
+            case.buffer.pop();
+            self.record(&case);
+            if let Some(lent) = case.call.lent_mut() {
+                lent.pop();
+                self.record(&case);
+            }
+        }
+    }
+
+    /// Several calls on each of a few states at the limits.
+    fn limits(&mut self, size: usize, rng: &mut Rng) {
+        let end = self.words.len() + size;
+        while self.words.len() < end {
+            let (lists, mut host) = limits::full(rng);
+            let mut state = states::encoded(&lists);
+            for _ in 0..40 {
+                let call = self.limit_call(rng, &state, &mut host);
+                self.record(&Case::new(call, state));
+                state = self.held[..STATE_WORDS].to_vec();
+            }
+        }
+    }
+
+    /// A call at the limits that doesn't tell or list many rows.
+    fn limit_call(&self, rng: &mut Rng, state: &[u32], host: &mut Host) -> Call {
+        loop {
+            let call = if rng.one_in(6) {
+                calls::any(rng, &words::decode(state), host)
+            } else {
+                limits::call_on(rng, &words::decode(state), host)
+            };
+            let mut after = state.to_vec();
+            let mut buffer = filled(call.buffer().least());
+            let reply = model(&call, &mut after, &mut buffer);
+            if written(&call, &reply) <= 400 && changed(state, &after).len() < 300 {
+                return call;
+            }
+        }
+    }
+
+    fn record(&mut self, case: &Case) {
+        let mut wanted = case.state.clone();
+        wanted.resize(HELD_WORDS, 0);
+        let from_here = changed(&self.held, &wanted);
+        let from_zero = changed(&vec![0; HELD_WORDS], &wanted);
+        let fresh = from_zero.len() < from_here.len();
+        let sets = if fresh { from_zero } else { from_here };
+        let mut state = case.state.clone();
+        let mut buffer = case.buffer.clone();
+        let reply = model(&case.call, &mut state, &mut buffer);
+        let changes = changed(&case.state, &state);
+        let rows = &buffer[..written(&case.call, &reply)];
+        let mut arguments = case.call.lent().unwrap_or(&[]).to_vec();
+        arguments.extend(case.call.numbers());
+        let length = 13 + 2 * sets.len() + arguments.len() + 2 * changes.len() + rows.len();
+        self.words.extend([
+            length as u32,
+            case.call.code(),
+            u32::from(fresh),
+            case.state.len() as u32,
+            case.buffer.len() as u32,
+        ]);
+        self.words
+            .extend([reply.number, reply.present, reply.value, reply.second]);
+        for count in [sets.len(), arguments.len(), changes.len(), rows.len()] {
+            self.words.push(count as u32);
+        }
+        self.words.extend(sets.iter().flatten());
+        self.words.extend(arguments);
+        self.words.extend(changes.iter().flatten());
+        self.words.extend(rows);
+        self.held = wanted;
+        self.held[..state.len()].copy_from_slice(&state);
+        self.records += 1;
+        *self.counts.entry(reply.number).or_default() += 1;
+    }
+}
+
+/// The words of `after` that aren't as in `before`, with their places.
+fn changed(before: &[u32], after: &[u32]) -> Vec<[u32; 2]> {
+    let pairs = before.iter().zip(after).zip(0..);
+    pairs
+        .filter(|((b, a), _)| b != a)
+        .map(|((_, a), i)| [i, *a])
+        .collect()
+}
+
+/// Replays a list against the model, as another program would replay it
+/// against a port. Gives how many records there are.
+pub fn replay(data: &[u32]) -> Result<usize, String> {
+    let [MAGIC, _, _, records, length, rest @ ..] = data else {
+        return Err("not a list of answers".to_string());
+    };
+    if *length as usize != data.len() {
+        return Err("the list is cut short".to_string());
+    }
+    let mut rest = rest;
+    let mut held = vec![0; HELD_WORDS];
+    for i in 0..*records {
+        let (record, after) = rest.split_at(rest[0] as usize);
+        rest = after;
+        replay_one(record, &mut held).map_err(|what| format!("record {i}: {what}"))?;
+    }
+    if rest.is_empty() {
+        Ok(*records as usize)
+    } else {
+        Err("words after the last record".to_string())
+    }
+}
+
+/// How many of a call's arguments are numbers, by its code; the others are
+/// its request or row.
+const NUMBERS: [usize; 15] = [2, 0, 2, 0, 2, 0, 0, 0, 1, 3, 1, 1, 1, 3, 2];
+
+fn replay_one(record: &[u32], held: &mut [u32]) -> Result<(), String> {
+    let [sets, arguments, changes, rows] = [9, 10, 11, 12].map(|i| record[i] as usize);
+    let (set, rest) = record[13..].split_at(2 * sets);
+    let (arguments, rest) = rest.split_at(arguments);
+    let (change, row) = rest.split_at(2 * changes);
+    if record[2] == 1 {
+        held.fill(0);
+    }
+    apply(held, set);
+    let call = call(record[1], arguments)?;
+    let state = &mut held[..record[3] as usize];
+    let mut expected = state.to_vec();
+    apply(&mut expected, change);
+    let mut buffer = filled(record[4] as usize);
+    let mut expected_buffer = buffer.clone();
+    expected_buffer[..rows].copy_from_slice(row);
+    let reply = model(&call, state, &mut buffer);
+    if [reply.number, reply.present, reply.value, reply.second] != record[5..9] {
+        return Err(format!("{call}: {reply:?}"));
+    }
+    if *state != *expected || buffer != expected_buffer {
+        return Err(format!("{call}: other words"));
+    }
+    Ok(())
+}
+
+fn apply(words: &mut [u32], pairs: &[u32]) {
+    for pair in pairs.chunks_exact(2) {
+        words[pair[0] as usize] = pair[1];
+    }
+}
+
+fn call(code: u32, arguments: &[u32]) -> Result<Call, String> {
+    let numbers = NUMBERS
+        .get(code.wrapping_sub(1) as usize)
+        .ok_or("no such call")?;
+    let (lent, n) = arguments.split_at(arguments.len() - numbers);
+    let lent = lent.to_vec();
+    let now = || u64::from(n[0]) | u64::from(n[1]) << 32;
+    Ok(match code {
+        1 => Call::Up { now: now() },
+        2 => Call::Down,
+        3 => Call::AddV4 {
+            request: lent,
+            now: now(),
+        },
+        4 => Call::DelV4 { request: lent },
+        5 => Call::Expire { now: now() },
+        6 => Call::AddRoute4 { request: lent },
+        7 => Call::DelRoute4 { request: lent },
+        8 => Call::Dump4,
+        9 => Call::Lookup4 { ip: n[0] },
+        10 => Call::Lookup4Flow {
+            ip: n[0],
+            tos: n[1],
+            oif: n[2],
+        },
+        11 => Call::Local4 { ip: n[0] },
+        12 => Call::Source4 {
+            row: lent,
+            ip: n[0],
+        },
+        13 => Call::Source { ip: n[0] },
+        14 => Call::Select4 {
+            present: n[0],
+            dst: n[1],
+            scope: n[2],
+        },
+        _ => Call::Left {
+            row: lent,
+            now: now(),
+        },
+    })
+}
