@@ -1,11 +1,11 @@
 -- Laws of tests joined by and, and of what passes a test all through a list.
 -- Assumes nothing.
 use Prim.Native.Nat.{ℕ}
-use mathlib.Core.Path.{_≡_, refl, sym, ap, _∙_}
+use mathlib.Core.Path.{_≡_, refl, sym, ap}
 use mathlib.Core.Bool.{Bool, true, false, cond, not, _&&_, _||_}
 use mathlib.Core.List.{List, [], _∷_, _++_, map}
 use mathlib.Core.Logic.{_↔_}
-use mathlib.Core.Option.{Option, none, some}
+use mathlib.Core.Option.{Option, some}
 use native.Mathlib.Omega.{arith}
 use lib.Dec.{eqb}
 use borrow.Author.Tests.{eqb-true, eqb-false, eq-eqb}
@@ -23,6 +23,11 @@ and-right false b h = cc
 pub and-both : (a b : Bool) → a ≡ true → b ≡ true → a && b ≡ true
 and-both true b g h = h
 and-both false b g h = g
+
+-- the second fails where the first passes and both don't
+pub and-rest : (a b : Bool) → a ≡ true → a && b ≡ false → b ≡ false
+and-rest true b g h = h
+and-rest false b g h = cc
 
 -- `simp and-iff at h` takes a chain of tests apart, and `simp and-iff` puts one together
 pub and-iff : (a b : Bool) → (a && b ≡ true) ↔ ((a ≡ true) × (b ≡ true))
@@ -72,6 +77,12 @@ test-case false f g = g refl
 pub cond-case {ℓ} : {A : Type ℓ} (P : A → Type 0) (b : Bool) {x y : A} → (b ≡ true → P x) → (b ≡ false → P y) → P (cond b x y)
 cond-case P true f g = f refl
 cond-case P false f g = g refl
+
+pub cond-true {ℓ} : {A : Type ℓ} (b : Bool) (x y : A) → b ≡ true → cond b x y ≡ x
+cond-true b x y h = ap (λ (t : Bool). cond t x y) h
+
+pub cond-false {ℓ} : {A : Type ℓ} (b : Bool) (x y : A) → b ≡ false → cond b x y ≡ y
+cond-false b x y h = ap (λ (t : Bool). cond t x y) h
 
 -- ---- all
 module _ {A : Type 0} where

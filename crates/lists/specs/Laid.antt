@@ -3,10 +3,11 @@ use Prim.Native.Nat.{ℕ, _+_, _-_, _*_, _≤_, _<_}
 use lib.Dec.{eqb}
 use borrow.Author.Tests.{eqb-true}
 use native.Mathlib.Omega.{arith}
-use mathlib.Core.Path.{_≡_, ap, _∙_}
+use mathlib.Core.Path.{_≡_, sym, ap, _∙_}
 use mathlib.Core.Bool.{Bool, true}
 use mathlib.Core.List.{List, []}
 use lib.ListN.{length, getD, take, drop}
+use lib.Seq.{getD-take, getD-drop}
 use Rattle.lists.specs.Lists.{Row, all, flat}
 use Rattle.lists.specs.Rows.{sized, length-flat}
 use Rattle.lists.specs.Parts.{part-row, all-at}
@@ -40,3 +41,8 @@ module _ {k : ℕ} {fit : Row → Bool} {w : List ℕ} {l : List Row} (h : Laid 
 
   pub laid-width : (i : ℕ) → i < length l → length (getD l i []) ≡ k
   laid-width i b = eqb-true (length (getD l i [])) k (all-at (λ r. eqb (length r) k) l i (h .width) b)
+
+  -- word j of row i
+  pub laid-word : (i j : ℕ) → i < length l → j < k → getD w (k * i + j) 0 ≡ getD (getD l i []) j 0
+  laid-word i j b c =
+      sym (ap (λ (r : Row). getD r j 0) (sym (laid-row i b)) ∙ getD-take k (drop (k * i) w) j 0 c ∙ getD-drop (k * i) w j 0)

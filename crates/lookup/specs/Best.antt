@@ -1,6 +1,6 @@
 -- The best row so far, as a pass over the rows keeps it: one row more at the end.
 use Prim.Native.Nat.{ℕ, zero, suc, _+_, _≤_, _<_}
-use native.Mathlib.Nat.{not-suc-le-zero, le-of-suc-le-suc}
+use native.Mathlib.Nat.{le-refl, not-suc-le-zero, le-of-suc-le-suc}
 use native.Mathlib.Numerals.{add-one}
 use native.Mathlib.Omega.{arith}
 use mathlib.Core.Path.{_≡_, refl, sym, ap, _∙_}
@@ -58,11 +58,12 @@ bar-test (some s) r = rw add-one (go (ltb (len s) (len r)))
     go true = refl
     go false = refl
 
-nothing-past : (l : List Row) → getElem? l (length l) ≡ none
-nothing-past [] = refl
-nothing-past (x ∷ l) = nothing-past l
+pub nothing-from : (l : List Row) (i : ℕ) → length l ≤ i → getElem? l i ≡ none
+nothing-from [] i h = refl
+nothing-from (x ∷ l) zero h = absurd (not-suc-le-zero h)
+nothing-from (x ∷ l) (suc i) h = nothing-from l i (le-of-suc-le-suc h)
 
-something-at : (l : List Row) (i : ℕ) (d : Row) → i < length l → getElem? l i ≡ some (getD l i d)
+pub something-at : (l : List Row) (i : ℕ) (d : Row) → i < length l → getElem? l i ≡ some (getD l i d)
 something-at [] i d h = absurd (not-suc-le-zero h)
 something-at (x ∷ l) zero d h = refl
 something-at (x ∷ l) (suc i) d h = something-at l i d (le-of-suc-le-suc h)
@@ -93,7 +94,7 @@ module _ (p : Row → Bool) where
   pub best-start : (l : List Row) → Best l 0 (length l) 0
   unfolding longest
   best-start l =
-      let past : getElem? l (length l) ≡ none = nothing-past l in
+      let past : getElem? l (length l) ≡ none = nothing-from l (length l) (le-refl (length l)) in
       record { row = sym past; reach = rw past refl }
 
   module _ (l : List Row) (i best least : ℕ) (h : Best l i best least) (b : i < length l) (d : Row) where

@@ -10,6 +10,8 @@ ghost use Rattle.lists.specs.Laid.{Laid, Lays};
 ghost use Rattle.layout.specs.Route.{table, len, fitRoute};
 ghost use Rattle.definition.specs.Reference.Lookup.{fits, answer};
 ghost use Rattle.lookup.specs.Flow.{flowOf, setOf};
+ghost use Rattle.lookup.specs.Answer.{rulingOf, foundBy, lookupRows, placed};
+ghost use Rattle.lookup.specs.AddrType.{typeRows, localRows};
 
 // What a lookup asks for: a destination, and the tos, scope and device (0 for any) of the flow.
 pub struct Flow {
@@ -67,4 +69,137 @@ pub fn table_lookup4(rows: &[u32], n: usize, set: Tables, f: Flow) -> usize
         i += 1;
     }
     best
+}
+
+// What the row at a place comes to as an answer; none and a throw alike lead on.
+pub enum Ruling {
+    Route,
+    Refuse(u32),
+    Again,
+}
+
+// A lookup's answer: the place of its row, or a refusal's number.
+pub enum Looked {
+    At(usize),
+    Refused(u32),
+}
+
+const AGAIN: u32 = 11;
+
+const NET_UNREACHABLE: u32 = 101;
+
+const TABLE_DEFAULT: u32 = 253;
+
+const TABLE_MAIN: u32 = 254;
+
+const TABLE_LOCAL: u32 = 255;
+
+fn judge(rows: &[u32], n: usize, place: usize) -> Ruling
+    requires { ⌜ (length (now rows) ≡ 32 * n) ⌝ }
+    ensures { λ r. ⌜ ((l : List Row) → Laid 32 fitRoute (now (rows .entry)) l → r ≡ rulingOf (getElem? l place)) ⌝ }
+{
+    if n <= place {
+        return Ruling::Again;
+    }
+    let error = kind::error_of(rows[32 * place + 5]);
+    if error == 0 {
+        return Ruling::Route;
+    }
+    if error == AGAIN {
+        return Ruling::Again;
+    }
+    Ruling::Refuse(error)
+}
+
+// 255 and 254 together, then 253 if it is listed; none and a throw alike lead on, and at the end there is no route.
+pub fn lookup4_in(rows: &[u32], n: usize, default_listed: bool, f: Flow) -> Looked
+    requires { ⌜ (length (now rows) ≡ 32 * n) × Lays 32 fitRoute (now rows) ⌝ }
+    ensures { λ r. ⌜ (placed n r) × ((l : List Row) → Laid 32 fitRoute (now (rows .entry)) l → foundBy l r ≡ lookupRows «default_listed» l (flowOf f)) ⌝ }
+{
+    let upper = table_lookup4(
+        rows,
+        n,
+        Tables {
+            one: TABLE_LOCAL,
+            other: TABLE_MAIN,
+        },
+        f,
+    );
+    let first = judge(rows, n, upper);
+    match first {
+        Ruling::Route => return Looked::At(upper),
+        Ruling::Refuse(error) => return Looked::Refused(error),
+        Ruling::Again => {}
+    }
+    if !default_listed {
+        return Looked::Refused(NET_UNREACHABLE);
+    }
+    let lower = table_lookup4(
+        rows,
+        n,
+        Tables {
+            one: TABLE_DEFAULT,
+            other: TABLE_DEFAULT,
+        },
+        f,
+    );
+    let second = judge(rows, n, lower);
+    match second {
+        Ruling::Route => Looked::At(lower),
+        Ruling::Refuse(error) => Looked::Refused(error),
+        Ruling::Again => Looked::Refused(NET_UNREACHABLE),
+    }
+}
+
+const KIND_UNICAST: u32 = 1;
+
+const KIND_LOCAL: u32 = 2;
+
+const KIND_BROADCAST: u32 = 3;
+
+// The kind of the row that the set answers with; unicast where none does or it rejects, broadcast while the table isn't listed.
+pub fn addr_type4(rows: &[u32], n: usize, listed: bool, set: Tables, ip: u32) -> u32
+    requires { ⌜ (length (now rows) ≡ 32 * n) × Lays 32 fitRoute (now rows) ⌝ }
+    ensures { λ r. ⌜ ((l : List Row) → Laid 32 fitRoute (now (rows .entry)) l → r ≡ typeRows listed (setOf set) l ip) ⌝ }
+{
+    if !listed {
+        return KIND_BROADCAST;
+    }
+    let place = table_lookup4(
+        rows,
+        n,
+        set,
+        Flow {
+            ip: ip,
+            tos: 0,
+            scope: 0,
+            oif: 0,
+        },
+    );
+    if n <= place {
+        return KIND_UNICAST;
+    }
+    let kind = rows[32 * place + 5];
+    if kind::error_of(kind) != 0 {
+        return KIND_UNICAST;
+    }
+    kind
+}
+
+// Whether an address is the loopback's, as a local route gives it.
+pub fn local4(rows: &[u32], n: usize, local_listed: bool, ip: u32) -> bool
+    requires { ⌜ (length (now rows) ≡ 32 * n) × Lays 32 fitRoute (now rows) ⌝ }
+    ensures { λ r. ⌜ ((l : List Row) → Laid 32 fitRoute (now (rows .entry)) l → r ≡ localRows «local_listed» l ip) ⌝ }
+{
+    let kind = addr_type4(
+        rows,
+        n,
+        local_listed,
+        Tables {
+            one: TABLE_LOCAL,
+            other: TABLE_MAIN,
+        },
+        ip,
+    );
+    local_listed & (kind == KIND_LOCAL)
 }

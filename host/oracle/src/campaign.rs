@@ -3,7 +3,7 @@
 //! ABI is handed to.
 use crate::call::NAMES;
 use crate::checks::Checks;
-use crate::compare::{Case, Difference, compare};
+use crate::compare::{Case, Cut, Difference, compare};
 use crate::generate::cases::{Cases, Origin, USUAL};
 use crate::pairs;
 use crate::port::{Port, Words};
@@ -26,6 +26,8 @@ pub struct Summary {
     pub by_hand: usize,
     pub cases: usize,
     pub pairs: usize,
+    /// Pairs left out, since a call was refused for want of space.
+    pub no_space: usize,
     /// How often each call gave each number.
     pub answers: BTreeMap<(&'static str, u32), usize>,
 }
@@ -61,10 +63,13 @@ pub fn run(port: &mut dyn Port, amount: Amount) -> Result<Summary, String> {
     let mut rng = Rng::new(amount.seed);
     for i in 0..amount.pairs {
         let pair = pairs::pair(&mut rng);
-        if let pairs::Result::Apart(what) = pairs::try_pair(&mut Words(&mut *port), &pair) {
-            return Err(format!("pair {i} of seed {} parts: {what}", amount.seed));
+        match pairs::try_pair(&mut Words(&mut *port), &pair) {
+            pairs::Result::Alike { .. } => summary.pairs += 1,
+            pairs::Result::NoSpace => summary.no_space += 1,
+            pairs::Result::Apart(what) => {
+                return Err(format!("pair {i} of seed {} parts: {what}", amount.seed));
+            }
         }
-        summary.pairs += 1;
     }
     Ok(summary)
 }
@@ -85,7 +90,11 @@ fn one(port: &mut dyn Port, case: &Case, summary: &mut Summary) -> Result<(), St
         }
         Err(difference) => {
             let (small, difference) = shrink(port, case.clone(), difference);
-            Err(format!("{difference}\n{}", json::line(&small)))
+            let cut = match small.cut {
+                cut if cut == Cut::default() => String::new(),
+                cut => format!(" with bytes cut off: {cut:?}"),
+            };
+            Err(format!("{difference}{cut}\n{}", json::line(&small)))
         }
     }
 }

@@ -62,6 +62,7 @@ struct Seen {
 pub enum Result {
     Alike {
         compared: usize,
+        accepted: usize,
     },
     /// A call of either run was refused for want of space.
     NoSpace,
@@ -80,7 +81,7 @@ pub fn pair(rng: &mut Rng) -> Pair {
         tables,
         inverted: rng.one_in(4),
     };
-    let busy = rng.pick(&[0, 1, 2, 2, 6, 6, 6, 30]);
+    let busy = rng.pick(&[0, 1, 2, 2, 6, 12]);
     let mut run = Run::new(rng, &chosen);
     for _ in 0..8 + run.rng.below(50) {
         run.struck(busy);
@@ -199,8 +200,10 @@ pub fn try_pair(port: &mut dyn WordPort, pair: &Pair) -> Result {
     if first.routes != second.routes {
         return Result::Apart("the route rows afterwards".to_string());
     }
+    let accepted = first.calls.iter().filter(|(r, _)| r.number == 0);
     Result::Alike {
         compared: first.calls.len(),
+        accepted: accepted.count(),
     }
 }
 
@@ -239,13 +242,14 @@ fn seen(port: &mut dyn WordPort, chosen: &Chosen, steps: &[Step]) -> Option<Seen
 /// Tries `count` pairs on the Rust. Stops at the first that parts.
 pub fn run(count: usize, seed: u64) -> bool {
     let mut rng = Rng::new(seed);
-    let (mut alike, mut no_space, mut calls, mut struck) = (0, 0, 0, 0);
+    let (mut alike, mut no_space, mut calls, mut taken, mut struck) = (0, 0, 0, 0, 0);
     for i in 0..count {
         let pair = pair(&mut rng);
         match try_pair(&mut crate::port::Model, &pair) {
-            Result::Alike { compared } => {
+            Result::Alike { compared, accepted } => {
                 alike += 1;
                 calls += compared;
+                taken += accepted;
                 struck += pair.lists[0].len() + pair.lists[1].len() - 2 * compared;
             }
             Result::NoSpace => no_space += 1,
@@ -257,7 +261,8 @@ pub fn run(count: usize, seed: u64) -> bool {
         }
     }
     println!(
-        "pairs: {count} tried, {alike} alike ({calls} calls compared, {struck} struck), \
+        "pairs: {count} tried, {alike} alike ({calls} calls compared, {taken} of them not \
+         refused; {struck} struck), \
          {no_space} left out for want of space"
     );
     alike > 0

@@ -61,6 +61,10 @@ pub fn make(
 pub trait WordPort {
     fn name(&self) -> String;
     fn call(&mut self, call: &Call, state: &mut [u32], buffer: &mut [u32]) -> Reply;
+    /// A planted fault: bytes after the last whole word are overlooked.
+    fn overlooks_part_words(&self) -> bool {
+        false
+    }
 }
 
 /// The model as a port over words.
@@ -79,19 +83,28 @@ impl WordPort for Model {
 pub struct Bytes<W>(pub W);
 
 impl<W: WordPort> Bytes<W> {
+    /// The words of a slice whose size must be exact. One that isn't whole
+    /// words cannot be, and no words at all stand for it.
+    fn exact(&self, bytes: &[u8]) -> Vec<u32> {
+        if bytes.len().is_multiple_of(4) || self.0.overlooks_part_words() {
+            words(bytes)
+        } else {
+            Vec::new()
+        }
+    }
     /// A call that may write its state: what it did is written back.
     fn changing(&mut self, call: &Call, state: &mut [u8], buffer: &mut [u8]) -> Reply {
-        let mut state_words = exact(state);
+        let mut state_words = self.exact(state);
         let mut buffer_words = words(buffer);
         let reply = self.0.call(call, &mut state_words, &mut buffer_words);
-        if state.len() == 4 * state_words.len() {
+        if state.len() / 4 == state_words.len() {
             write_back(&state_words, state);
         }
         write_back(&buffer_words, buffer);
         reply
     }
     fn reading(&mut self, call: &Call, state: &[u8], buffer: &mut [u8]) -> Reply {
-        let mut state_words = exact(state);
+        let mut state_words = self.exact(state);
         let mut buffer_words = words(buffer);
         let reply = self.0.call(call, &mut state_words, &mut buffer_words);
         write_back(&buffer_words, buffer);
@@ -108,17 +121,11 @@ pub fn words(bytes: &[u8]) -> Vec<u32> {
 }
 
 pub fn bytes(words: &[u32]) -> Vec<u8> {
-    words.iter().flat_map(|w| w.to_le_bytes()).collect()
-}
-
-/// The words of a slice whose size must be exact. One that isn't whole
-/// words cannot be, and no words at all stand for it.
-fn exact(bytes: &[u8]) -> Vec<u32> {
-    if bytes.len().is_multiple_of(4) {
-        words(bytes)
-    } else {
-        Vec::new()
+    let mut bytes = Vec::with_capacity(4 * words.len());
+    for word in words {
+        bytes.extend_from_slice(&word.to_le_bytes());
     }
+    bytes
 }
 
 fn write_back(words: &[u32], bytes: &mut [u8]) {
@@ -138,22 +145,22 @@ impl<W: WordPort> Port for Bytes<W> {
         self.changing(&Call::Down, state, events)
     }
     fn add_v4(&mut self, state: &mut [u8], request: &[u8], events: &mut [u8], now: u64) -> Reply {
-        let request = exact(request);
+        let request = self.exact(request);
         self.changing(&Call::AddV4 { request, now }, state, events)
     }
     fn del_v4(&mut self, state: &mut [u8], request: &[u8], events: &mut [u8]) -> Reply {
-        let request = exact(request);
+        let request = self.exact(request);
         self.changing(&Call::DelV4 { request }, state, events)
     }
     fn expire(&mut self, state: &mut [u8], events: &mut [u8], now: u64) -> Reply {
         self.changing(&Call::Expire { now }, state, events)
     }
     fn add_route4(&mut self, state: &mut [u8], request: &[u8], events: &mut [u8]) -> Reply {
-        let request = exact(request);
+        let request = self.exact(request);
         self.changing(&Call::AddRoute4 { request }, state, events)
     }
     fn del_route4(&mut self, state: &mut [u8], request: &[u8], events: &mut [u8]) -> Reply {
-        let request = exact(request);
+        let request = self.exact(request);
         self.changing(&Call::DelRoute4 { request }, state, events)
     }
     fn dump4(&mut self, state: &[u8], listing: &mut [u8]) -> Reply {
@@ -169,7 +176,7 @@ impl<W: WordPort> Port for Bytes<W> {
         self.reading(&Call::Local4 { ip }, state, &mut [])
     }
     fn source4(&mut self, state: &[u8], row: &[u8], ip: u32) -> Reply {
-        let row = exact(row);
+        let row = self.exact(row);
         self.reading(&Call::Source4 { row, ip }, state, &mut [])
     }
     fn source(&mut self, state: &[u8], ip: u32) -> Reply {
@@ -184,7 +191,7 @@ impl<W: WordPort> Port for Bytes<W> {
         self.reading(&call, state, &mut [])
     }
     fn left(&mut self, row: &[u8], now: u64) -> Reply {
-        let row = exact(row);
+        let row = self.exact(row);
         self.reading(&Call::Left { row, now }, &[], &mut [])
     }
 }

@@ -1,21 +1,19 @@
 -- A state within its limits and its words say the same.
 -- Assumes nothing.
-use Prim.Native.Nat.{ℕ, suc, _+_, _-_, _*_, _≤_}
+use Prim.Native.Nat.{ℕ, _+_, _-_, _*_, _≤_}
 use mathlib.Core.Path.{_≡_, refl, sym, ap, _∙_}
-use mathlib.Core.Bool.{Bool, true, false, _&&_}
+use mathlib.Core.Bool.{true, _&&_}
 use mathlib.Core.List.{List, [], _∷_, _++_, append-assoc}
 use native.Mathlib.Omega.{arith}
-use lib.Dec.{eqb, leb}
+use lib.Dec.{leb}
 use lib.ListN.{length, getD, take, drop, length-append, length-drop, take-append-drop}
 use lib.Seq.{drop-at, take-at, drop-drop, take-all}
 use borrow.Author.Tests.{leb-true, le-leb}
-use Rattle.lists.specs.Lists.{Row, all, allZero, flat, zeros, pad, span, chop}
+use Rattle.lists.specs.Lists.{allZero, flat, zeros, pad, span, chop}
 use Rattle.lists.specs.All.{and-both, and-iff}
-use Rattle.lists.specs.Rows.{sized, length-pad, length-flat, chop-pad, allZero-pad, allZero-end, span-past, pad-chop, pad-take, length-chop, length-span, pad-nil, zeros-append, zeros-cons}
-use Rattle.layout.specs.Address.{fitAddress}
-use Rattle.layout.specs.Route.{fitRoute}
+use Rattle.lists.specs.Rows.{length-pad, length-flat, chop-pad, allZero-pad, allZero-end, span-past, pad-chop, pad-take, length-chop, length-span, pad-nil, zeros-append, zeros-cons}
 use Rattle.definition.specs.State.{State, sizes, empty}
-use Rattle.definition.specs.Kept.Fit.{Fit, FitRoutes, fit-state, sized-addresses, sized-routes}
+use Rattle.definition.specs.Kept.Fit.{Fit, fit-state, sized-addresses, sized-routes}
 use Rattle.definition.specs.Words.{ordered, distinct, noneTwice, within, encode, decode, fitState, unusedZero, wellFormed}
 
 -- the state could be that of well-formed words

@@ -5,9 +5,9 @@ use mathlib.Core.Path.{_≡_, refl, sym, _∙_}
 use mathlib.Core.Bool.{Bool, true, false, _&&_, _||_}
 use native.Mathlib.Omega.{arith}
 use lib.Dec.{eqb, ltb}
-use borrow.Author.Tests.{ltb-true, lt-ltb, eqb-true, eq-eqb}
+use borrow.Author.Tests.{ltb-true, ltb-false, lt-ltb, eqb-true, eq-eqb}
 use Rattle.lists.specs.Lists.{Row}
-use Rattle.lists.specs.All.{and-left, and-right, and-both, and-iff, or-case, or-left, or-right}
+use Rattle.lists.specs.All.{or-false, and-rest, and-left, and-right, and-both, and-iff, or-case, or-left, or-right}
 use Rattle.layout.specs.Route.{before, alike, table, dst, len, tos, priority}
 
 -- a strict order with the test that two have one place in it
@@ -18,6 +18,7 @@ record Strict (lt eq : Row → Row → Bool) : Type 0 where
   right : (a b c : Row) → lt a b ≡ true → eq b c ≡ true → lt a c ≡ true
   turn : (a b : Row) → eq a b ≡ true → eq b a ≡ true
   same : (a b c : Row) → eq a b ≡ true → eq b c ≡ true → eq a c ≡ true
+  level : (a b : Row) → lt a b ≡ false → lt b a ≡ false → eq a b ≡ true
 
 rising : (f : Row → ℕ) → Strict (λ a b. ltb (f a) (f b)) (λ a b. eqb (f a) (f b))
 rising f =
@@ -28,6 +29,7 @@ rising f =
       right = λ a b c h k. lt-ltb (f a) (f c) (omega (arith, ltb-true (f a) (f b) h, eqb-true (f b) (f c) k));
       turn = λ a b h. eq-eqb (f b) (f a) (sym (eqb-true (f a) (f b) h));
       same = λ a b c h k. eq-eqb (f a) (f c) (eqb-true (f a) (f b) h ∙ eqb-true (f b) (f c) k);
+      level = λ a b h k. eq-eqb (f a) (f b) (omega (arith, ltb-false (f a) (f b) h, ltb-false (f b) (f a) k));
     }
 
 falling : (f : Row → ℕ) → Strict (λ a b. ltb (f b) (f a)) (λ a b. eqb (f a) (f b))
@@ -40,6 +42,7 @@ falling f =
       right = λ a b c h k. s .left c b a (s .turn b c k) h;
       turn = s .turn;
       same = s .same;
+      level = λ a b h k. s .level a b k h;
     }
 
 -- one order, and within one place of it another
@@ -86,6 +89,12 @@ module _ (lt eq lt′ eq′ : Row → Row → Bool) (s : Strict lt eq) (t : Stri
         turn = λ a b h. and-both (eq b a) (eq′ b a) (s .turn a b (one a b h)) (t .turn a b (two a b h));
         same = λ a b c h k.
             and-both (eq a c) (eq′ a c) (s .same a b c (one a b h) (one b c k)) (t .same a b c (two a b h) (two b c k));
+        level = λ a b h k.
+            let x = or-false (lt a b) (eq a b && lt′ a b) h in
+            let y = or-false (lt b a) (eq b a && lt′ b a) k in
+            let e : eq a b ≡ true = s .level a b (x .0) (y .0) in
+            and-both (eq a b) (eq′ a b) e
+            (t .level a b (and-rest (eq a b) (lt′ a b) e (x .1)) (and-rest (eq b a) (lt′ b a) (s .turn a b e) (y .1)));
       }
 
 -- ---- the order of routes
@@ -114,6 +123,13 @@ alike-before a b c h k = order .left a b c (one-place a b h) k
 
 pub before-alike : (a b c : Row) → before a b ≡ true → alike b c ≡ true → before a c ≡ true
 before-alike a b c h k = order .right a b c h (one-place b c k)
+
+-- two rows neither of which is before the other are alike
+pub level-alike : (a b : Row) → before a b ≡ false → before b a ≡ false → alike a b ≡ true
+unfolding alike alike′
+level-alike a b h k =
+    let l = simp and-iff at (order .level a b h k) in
+    simp and-iff ((((l .1 .1 .0, l .0), l .1 .0), l .1 .1 .1 .0), l .1 .1 .1 .1)
 
 pub alike-sym : (a b : Row) → alike a b ≡ true → alike b a ≡ true
 unfolding alike alike′

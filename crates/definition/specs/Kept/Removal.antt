@@ -2,8 +2,8 @@
 -- Assumes nothing.
 use Prim.Native.Nat.{ℕ, zero, suc}
 use mathlib.Core.Path.{_≡_, refl}
-use mathlib.Core.Bool.{Bool, true, cond, not, _&&_}
-use mathlib.Core.List.{List, [], _∷_, _++_, map}
+use mathlib.Core.Bool.{true, cond, not, _&&_}
+use mathlib.Core.List.{List, [], _∷_, map}
 use mathlib.Core.Option.{Option, none, some}
 use lib.Dec.{eqb}
 use lib.ListN.{length}
@@ -12,15 +12,15 @@ use Rattle.lists.specs.All.{cond-case, all-cons, all-head, all-keep, all-first,
 use Rattle.layout.specs.Address.{fitAddress, local, secondary}
 use Rattle.layout.specs.Route as Route
 use Rattle.layout.specs.Event.{newAddr4, delAddr4}
-use Rattle.definition.specs.State.{State, Out, becomes, stays, also, through, withAddresses}
+use Rattle.definition.specs.State.{State, becomes, also, through, withAddresses}
 use Rattle.definition.specs.Reference.Lookup.{localKind, mainTable, listed, local4}
 use Rattle.definition.specs.Reference.Insert.{kernelDel4}
-use Rattle.definition.specs.Reference.Addresses.{Outcome, sameSubnet}
+use Rattle.definition.specs.Reference.Addresses.{sameSubnet}
 use Rattle.definition.specs.Reference.Removal.{ofKind, unwanted, straysFrom, fall, disable, removeOne, goneWith, removeV4, deletes, deletedAt, delV4, due, fades, faded, fade, passes, expire}
 use Rattle.definition.specs.Kept.Fit.{Fit}
 use Rattle.definition.specs.Kept.Keeps.{through-keeps, Kept, Keeps, KeptOutcome, KeepsOutcome, fit-addresses, becomes-kept, stays-keeps, also-kept, through-each}
 use Rattle.definition.specs.Kept.Rows.{faded-fit, newAddr4-told, delAddr4-told}
-use Rattle.definition.specs.Kept.Steps.{kernelDel4-keeps, dropped-kept}
+use Rattle.definition.specs.Kept.Addresses.{kernelDel4-keeps, dropped-kept}
 
 pub fall-keeps : (a : Row) (routes : List Row) → Keeps (fall a routes)
 unfolding fall

@@ -1,9 +1,8 @@
 -- A request to add or to delete a route keeps a fit state fit.
 -- Assumes nothing.
-use Prim.Native.Nat.{ℕ}
 use mathlib.Core.Path.{_≡_, refl}
 use mathlib.Core.Bool.{Bool, true, not, _&&_}
-use mathlib.Core.List.{List, [], _∷_}
+use mathlib.Core.List.{[], _∷_}
 use mathlib.Core.Option.{Option, none, some}
 use lib.Dec.{eqb}
 use lib.ListN.{length}
@@ -13,16 +12,15 @@ use Rattle.lists.specs.All.{cond-case, all-first}
 use Rattle.layout.specs.Route.{fitRoute, prefsrcPresent}
 use Rattle.layout.specs.Event.{newRoute4, delRoute4}
 use Rattle.layout.specs.Request.{fitAddRoute4, nlmFlags}
-use Rattle.definition.specs.State.{State, becomes, stays, withRoutes}
+use Rattle.definition.specs.State.{State, withRoutes}
 use Rattle.definition.specs.Reference.Lookup.{listed}
 use Rattle.definition.specs.Reference.Insert.{create4, insert4, Inserted, put, nothing}
-use Rattle.definition.specs.Reference.Addresses.{Outcome}
 use Rattle.definition.specs.Reference.Routes.{addRoute4, routed, Reached, insertedAs, askedRoute, reachCheck, validPrefsrc4, formCheck, badPrefix, tableNamed, selects, deletedRoute, delRoute4Request}
 use Rattle.definition.specs.Kept.Fit.{Fit}
 use Rattle.definition.specs.Kept.Routes.{removeFirst-fit, Puts, insert-fit}
 use Rattle.definition.specs.Kept.Keeps.{KeptOutcome, KeepsOutcome, fit-routes, becomes-kept, stays-keeps}
 use Rattle.definition.specs.Kept.Rows.{askedRoute-fit, newRoute4-told, delRoute4-told}
-use Rattle.definition.specs.Kept.Steps.{create4-fit}
+use Rattle.definition.specs.Kept.Addresses.{create4-fit}
 
 insertedAs-kept : (new : Row) (i : Inserted) (st : State) → fitRoute new ≡ true → Puts i → Fit st → KeptOutcome (insertedAs new i st)
 insertedAs-kept new (put rows flags) st h p f =

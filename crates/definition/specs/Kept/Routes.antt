@@ -1,12 +1,12 @@
 -- Fit lists of routes stay fit when a row is taken out, put in or replaced, and lists of tables when one is listed.
 -- Assumes nothing.
 use Prim.Native.Nat.{ℕ}
-use mathlib.Core.Path.{_≡_, refl, sym, ap, _∙_}
-use mathlib.Core.Bool.{Bool, true, false, cond, not, _&&_, _||_}
+use mathlib.Core.Path.{_≡_, refl, ap}
+use mathlib.Core.Bool.{Bool, true, false, cond, not}
 use mathlib.Core.List.{List, [], _∷_, _++_}
 use lib.Dec.{eqb}
-use Rattle.lists.specs.Lists.{Row, all, any, keep, first, removeFirst, replaceFirst, eqRow, among, pairwise}
-use Rattle.lists.specs.All.{cond-case, fails, not-both, not-so, all-cons, all-append, all-keep, all-kept, all-mono, all-removeFirst, all-replaceFirst, none-any, any-none, pairwise-append, pairwise-keep, pairwise-removeFirst, pairwise-around, pairwise-replaced, pairwise-replacing, eqRow-true, eq-eqRow, eqRow-sym, not-among}
+use Rattle.lists.specs.Lists.{Row, all, any, keep, first, removeFirst, replaceFirst, eqRow, among}
+use Rattle.lists.specs.All.{cond-case, not-both, not-so, all-cons, all-append, all-keep, all-kept, all-mono, all-removeFirst, all-replaceFirst, none-any, any-none, pairwise-append, pairwise-keep, pairwise-removeFirst, pairwise-around, pairwise-replaced, pairwise-replacing, eqRow-true, eqRow-sym, not-among}
 use Rattle.layout.specs.Route.{fitRoute, before, alike}
 use Rattle.definition.specs.Words.{ordered, distinct, noneTwice}
 use Rattle.definition.specs.Reference.Lookup.{mainTable, localTable}

@@ -1,14 +1,13 @@
 -- The rows that the reference makes are fit.
 -- Assumes nothing.
-use Prim.Native.Nat.{ℕ, suc, _+_, _-_, _*_, _/_, _%_, _^_, _≤_, _<_}
+use Prim.Native.Nat.{ℕ, suc, _-_, _*_, _/_, _%_, _^_, _≤_, _<_}
 use mathlib.Core.Path.{_≡_, refl, sym, ap, _∙_}
 use mathlib.Core.Bool.{Bool, true, false, cond, not, _&&_, _||_}
 use mathlib.Core.List.{List, [], _∷_, _++_}
 use native.Mathlib.Nat.{zero-add, zero-mod, add-mul-mod-self-right, mod-one}
 use native.Mathlib.Omega.{arith}
 use lib.Dec.{eqb, leb, ltb}
-use lib.ListN.{length, getD, take, drop, length-append, length-take, length-drop}
-use lib.Pow.{pow-pos}
+use lib.ListN.{length, take, drop, length-append, length-take, length-drop}
 use borrow.Author.Tests.{eqb-true, eqb-false, eq-eqb, not-false}
 use Rattle.lists.specs.Lists.{Row, all, zeros}
 use Rattle.lists.specs.All.{and-iff, or-false, cond-case, all-append, all-cons}
@@ -16,13 +15,13 @@ use Rattle.lists.specs.Rows.{sized, length-zeros}
 use Rattle.prefix.specs.Mask.{network, hostBits, broadcast}
 use Rattle.kind.specs.Kind.{isKind, errorOf, leastScope}
 use Rattle.layout.specs.Address as Address
-use Rattle.layout.specs.Address.{fitAddress, optional, prefix}
+use Rattle.layout.specs.Address.{fitAddress, prefix}
 use Rattle.layout.specs.Route as Route
 use Rattle.layout.specs.Route.{fitRoute, dst, len, kind}
 use Rattle.layout.specs.Event.{newAddr4, delAddr4, newRoute4, delRoute4}
 use Rattle.layout.specs.Request.{validAsked, preferredAsked, fitAddV4, fitAddRoute4, metricsError}
 use Rattle.definition.specs.Reference.Lookup.{localKind, broadcastKind}
-use Rattle.definition.specs.Reference.Addresses.{namesBroadcast, ownNetwork, linkScope, hostScope, primaryOf, kernelRoute, localRoute, prefixRoute, upRoutes, candidates, only, rewritten, setLife, asked, asSecondary, changedTo, loopback}
+use Rattle.definition.specs.Reference.Addresses.{namesBroadcast, ownNetwork, linkScope, hostScope, primaryOf, kernelRoute, localRoute, prefixRoute, upRoutes, candidates, only, rewritten, setLife, asked, asSecondary, changedTo}
 use Rattle.definition.specs.Reference.Removal.{faded}
 use Rattle.definition.specs.Reference.Routes.{formCheck, badPrefix, askedRoute, mark, then, refuse, deadFlags, unsupported, onlinkFlag}
 use Rattle.definition.specs.Kept.Fit.{FitFields, fields-address, fields-request, address-fields, length-address, length-route}

@@ -1,22 +1,22 @@
 -- The calls on addresses: what they do to routes, they do outside the chosen tables.
 use Prim.Native.Nat.{ℕ, zero, suc}
-use mathlib.Core.Path.{_≡_, refl, sym, _∙_, ap, ap₂}
-use mathlib.Core.Bool.{Bool, true, false, cond, not, _&&_, _||_, false≢true}
+use mathlib.Core.Path.{_≡_, refl, ap}
+use mathlib.Core.Bool.{Bool, true, false, cond, not, _&&_, false≢true}
 use mathlib.Core.List.{List, [], _∷_, _++_, map}
 use mathlib.Core.Option.{Option, none, some}
 use lib.Dec.{eqb}
 use lib.ListN.{length}
 use Rattle.lists.specs.Lists.{Row, keep, all, any, first, removeFirst, eqRow}
-use Rattle.lists.specs.All.{all-keep, all-kept, all-mono}
-use Rattle.lists.specs.Keep.{Implies, byCase, cond-map, cond-same, all-joined, keep-keep, keep-within}
+use Rattle.lists.specs.All.{all-keep, all-kept, all-mono, test-case}
+use Rattle.lists.specs.Keep.{Implies, cond-map, cond-same, all-joined, keep-keep, keep-within}
 use Rattle.layout.specs.Address.{local}
 use Rattle.layout.specs.Route as Route
 use Rattle.layout.specs.Route.{table, dst, len, kind}
 use Rattle.layout.specs.Request.{replaceAsked}
-use Rattle.definition.specs.State.{State, Out, becomes, stays, also, through, withAddresses, withRoutes}
-use Rattle.definition.specs.Reference.Lookup.{mainTable, localTable, localKind, broadcastKind, listed, local4}
+use Rattle.definition.specs.State.{State, also, through, withRoutes}
+use Rattle.definition.specs.Reference.Lookup.{mainTable, localKind, broadcastKind, listed, local4}
 use Rattle.definition.specs.Reference.Insert.{kernelAdd4, kernelDel4}
-use Rattle.definition.specs.Reference.Addresses.{only, kernelRoute, localRoute, prefixRoute, upRoutes, primaryOf, candidates, place4, bring, newAddress, changeV4, moved, reroutes, sameAddress, addedOver, addV4, up, down, hostScope, loopback, step, Outcome, goes, refused}
+use Rattle.definition.specs.Reference.Addresses.{only, kernelRoute, localRoute, prefixRoute, upRoutes, primaryOf, candidates, place4, bring, newAddress, changeV4, moved, reroutes, sameAddress, addedOver, addV4, up, down, loopback, step, Outcome}
 use Rattle.definition.specs.Reference.Removal.{anyPriority, ofKind, leaving, unwanted, wanted, straysFrom, fall, disable, removeOne, goneWith, removeV4, deletes, deletedAt, delV4, due, fade, passes, expire}
 use Rattle.definition.specs.Runs.Statement.{Choice, outside}
 use Rattle.definition.specs.Runs.Projection.{without, unchosen-as, Mirrors, Apart, Tandem, both-go, both-refuse, mirrors-also, mirrors-cond, apart-through, apart-all, tandem-cond}
@@ -53,21 +53,21 @@ module _ (chosen : ℕ → Bool) (choice : Choice chosen) where
   newAddress-apart : (new : Row) (up : Bool) → Apart chosen (newAddress new up)
   unfolding newAddress
   newAddress-apart new up st =
-      mirrors-also chosen _ _ _ _ (record { state = refl; told = refl })
+      mirrors-also chosen _ _ _ (record { state = refl; told = refl })
       (bring-apart _ (candidates-outside (place4 new (st .addresses)) up new))
 
   moved-apart : (q old : Row) → Apart chosen (moved q old)
   unfolding moved prefixRoute
   moved-apart q old st =
       mirrors-cond chosen (reroutes q old) _ _ _ _
-      (mirrors-also chosen _ _ _ _ (kernelAdd4-apart chosen choice _ (kernelRoute-outside _ _ _ _ _) st)
+      (mirrors-also chosen _ _ _ (kernelAdd4-apart chosen choice _ (kernelRoute-outside _ _ _ _ _) st)
       (kernelDel4-apart chosen choice _ (kernelRoute-outside _ _ _ _ _)))
       (record { state = refl; told = refl })
 
   changeV4-apart : (q old : Row) (now : ℕ) → Apart chosen (changeV4 q old now)
   unfolding changeV4
   changeV4-apart q old now st =
-      mirrors-also chosen _ _ _ _ (moved-apart q old st) (λ later. record { state = refl; told = refl })
+      mirrors-also chosen _ _ _ (moved-apart q old st) (λ later. record { state = refl; told = refl })
 
   addedOver-apart : (q : Row) (now : ℕ) (found : Option Row) (st : State) → Tandem chosen (addedOver q now found st) (addedOver q now found (without chosen st))
   addedOver-apart q now (some old) st =
@@ -86,7 +86,7 @@ module _ (chosen : ℕ → Bool) (choice : Choice chosen) where
   pub up-apart : (now : ℕ) → Apart chosen (up now)
   unfolding up
   up-apart now st =
-      mirrors-also chosen _ _ _ _ (step-apart _ _ (addV4-apart loopback now st))
+      mirrors-also chosen _ _ _ (step-apart _ _ (addV4-apart loopback now st))
       (λ later. apart-all chosen (λ a. bring (candidates (later .addresses) true a)) (λ a. bring-apart _ (candidates-outside (later .addresses) true a)) (later .addresses) later)
 
   pub down-apart : Apart chosen down
@@ -124,7 +124,7 @@ module _ (chosen : ℕ → Bool) (choice : Choice chosen) where
   strays-outside : (ip : ℕ) → Implies (straysFrom ip) (outside chosen)
   strays-outside ip r h =
       unchosen-as chosen mainTable (table r) (main-open chosen choice)
-      (byCase (eqb (table r) mainTable) (λ e. e) (λ e. absurd (false≢true (rw e at h))))
+      (test-case (eqb (table r) mainTable) (λ e. e) (λ e. absurd (false≢true (rw e at h))))
 
   falling : ℕ → State → List Row
   falling ip st = cond (listed mainTable st) (keep (straysFrom ip) (st .routes)) []
@@ -132,7 +132,7 @@ module _ (chosen : ℕ → Bool) (choice : Choice chosen) where
   falling-outside : (ip : ℕ) (st : State) → all (outside chosen) (falling ip st) ≡ true
   unfolding falling
   falling-outside ip st =
-      byCase (listed mainTable st)
+      test-case (listed mainTable st)
       (λ e. rw e (all-mono (straysFrom ip) (outside chosen) (keep (straysFrom ip) (st .routes)) (strays-outside ip) (all-kept (straysFrom ip) (st .routes))))
       (λ e. rw e)
 
@@ -165,9 +165,9 @@ module _ (chosen : ℕ → Bool) (choice : Choice chosen) where
   unfolding removeOne
   removeOne-apart a st =
       let left = removeFirst (eqRow a) (st .addresses) in
-      mirrors-also chosen _ _ _ _
-      (mirrors-also chosen _ _ _ _
-      (mirrors-also chosen _ _ _ _ (record { state = refl; told = refl }) (deletions-apart _ (unwanted-outside (st .addresses) left a)))
+      mirrors-also chosen _ _ _
+      (mirrors-also chosen _ _ _
+      (mirrors-also chosen _ _ _ (record { state = refl; told = refl }) (deletions-apart _ (unwanted-outside (st .addresses) left a)))
       (fall-apart a _))
       disable-apart
 
@@ -193,7 +193,7 @@ module _ (chosen : ℕ → Bool) (choice : Choice chosen) where
   passes-apart zero allowance now st = fade-apart allowance now st
   passes-apart (suc n) allowance now st =
       let go : (found : Option Row) → Mirrors chosen (elim found [ none ↦ fade allowance now st | some a ↦ also (also (fade allowance now st) (removeV4 a)) (passes n allowance now) ]) (elim found [ none ↦ fade allowance now (without chosen st) | some a ↦ also (also (fade allowance now (without chosen st)) (removeV4 a)) (passes n allowance now) ]) =
-      elim [ none ↦ fade-apart allowance now st | some a ↦ mirrors-also chosen _ _ _ _ (mirrors-also chosen _ _ _ _ (fade-apart allowance now st) (removeV4-apart a)) (passes-apart n allowance now) ]
+      elim [ none ↦ fade-apart allowance now st | some a ↦ mirrors-also chosen _ _ _ (mirrors-also chosen _ _ _ (fade-apart allowance now st) (removeV4-apart a)) (passes-apart n allowance now) ]
       in
       go (first (due allowance now) (st .addresses))
 

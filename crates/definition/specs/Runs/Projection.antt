@@ -1,17 +1,15 @@
 -- A state without its chosen tables, and steps that go the same way there.
 use Prim.Native.Nat.{ℕ}
 use mathlib.Core.Path.{_≡_, refl, sym, _∙_, ap, ap₂}
-use mathlib.Core.Bool.{Bool, true, false, cond, not, _&&_, _||_}
+use mathlib.Core.Bool.{Bool, true, false, cond, not}
 use mathlib.Core.List.{List, [], _∷_, _++_}
-use mathlib.Core.Option.{Option, none, some}
 use lib.Dec.{eqb}
 use borrow.Author.Tests.{eqb-true}
-use Rattle.lists.specs.Lists.{Row, keep, all}
+use Rattle.lists.specs.Lists.{keep, all}
 use Rattle.lists.specs.All.{and-left, and-right, all-always}
-use Rattle.layout.specs.Route.{table}
 use Rattle.definition.specs.State.{State, Out, also, through}
 use Rattle.definition.specs.Reference.Addresses.{Outcome, goes, refused}
-use Rattle.definition.specs.Runs.Statement.{Choice, outside}
+use Rattle.definition.specs.Runs.Statement.{outside}
 
 -- the state that a changing call leaves, if that keeps to the limits
 abbrev pub result : Outcome → State
@@ -48,23 +46,20 @@ module _ (chosen : ℕ → Bool) where
   abbrev pub Apart : (State → Out) → Type 0
   Apart f = (st : State) → Mirrors (f st) (f (without st))
 
-  pub mirrors-also : (o p : Out) (f g : State → Out) → Mirrors o p → ((st : State) → Mirrors (f st) (g (without st))) → Mirrors (also o f) (also p g)
+  pub mirrors-also : (o p : Out) (f : State → Out) → Mirrors o p → Apart f → Mirrors (also o f) (also p f)
   unfolding also
-  mirrors-also o p f g m h =
+  mirrors-also o p f m h =
       let k = h (o .state) in
       record {
-        state = ap (λ s. g s .state) (m .state) ∙ k .state;
-        told = ap₂ _++_ (m .told) (ap (λ s. g s .told) (m .state) ∙ k .told);
+        state = ap (λ s. f s .state) (m .state) ∙ k .state;
+        told = ap₂ _++_ (m .told) (ap (λ s. f s .told) (m .state) ∙ k .told);
       }
-
-  pub apart-also : (f : State → Out) (g : State → Out) → Apart f → Apart g → Apart (λ st. also (f st) g)
-  apart-also f g h k st = mirrors-also (f st) (f (without st)) g g (h st) k
 
   pub apart-through : {A : Type 0} (f : A → State → Out) (p : A → Bool) → ((x : A) → p x ≡ true → Apart (f x)) → (l : List A) → all p l ≡ true → Apart (through f l)
   unfolding through
   apart-through f p h [] k st = record { state = refl; told = refl }
   apart-through f p h (x ∷ l) k st =
-      mirrors-also (f x st) (f x (without st)) (through f l) (through f l) (h x (and-left (p x) (all p l) k) st)
+      mirrors-also (f x st) (f x (without st)) (through f l) (h x (and-left (p x) (all p l) k) st)
       (apart-through f p h l (and-right (p x) (all p l) k))
 
   pub apart-all : {A : Type 0} (f : A → State → Out) → ((x : A) → Apart (f x)) → (l : List A) → Apart (through f l)

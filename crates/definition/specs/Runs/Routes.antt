@@ -1,30 +1,30 @@
 -- Requests that name a table that isn't chosen, and the listing.
 use Prim.Native.Nat.{ℕ, _%_}
-use mathlib.Core.Path.{_≡_, refl, sym, _∙_, ap, ap₂}
-use mathlib.Core.Bool.{Bool, true, false, cond, not, _&&_, _||_, false≢true}
-use mathlib.Core.List.{List, [], _∷_, _++_, reverse}
+use mathlib.Core.Path.{_≡_, refl, sym, _∙_, ap}
+use mathlib.Core.Bool.{Bool, true, false, cond, not, _&&_, false≢true}
+use mathlib.Core.List.{List, reverse}
 use mathlib.Core.Option.{Option, none, some}
 use lib.Dec.{eqb}
-use borrow.Author.Tests.{eqb-true, not-true, not-false}
-use Rattle.lists.specs.Lists.{Row, keep, first, each, removeFirst}
-use Rattle.lists.specs.Keep.{Implies, byCase, keep-each, keep-reverse, keep-keep, keep-none, each-keep, each-same, first-within}
+use borrow.Author.Tests.{eqb-true}
+use Rattle.lists.specs.Lists.{Row, keep, first}
+use Rattle.lists.specs.All.{test-case}
+use Rattle.lists.specs.Keep.{Implies, keep-each, keep-reverse, keep-keep, keep-none, each-keep, each-same, first-within}
 use Rattle.layout.specs.Route.{table, prefsrc, prefsrcPresent}
 use Rattle.layout.specs.Request.{nlmFlags}
-use Rattle.definition.specs.State.{State, Out}
-use Rattle.definition.specs.Reference.Lookup.{mainTable, localTable, answer, together, lookupIn, addrType4, listed}
+use Rattle.definition.specs.State.{State}
+use Rattle.definition.specs.Reference.Lookup.{mainTable, localTable, together, listed}
 use Rattle.definition.specs.Reference.Insert.{Inserted, put, nothing, create4, insert4}
-use Rattle.definition.specs.Reference.Addresses.{Outcome}
 use Rattle.definition.specs.Reference.Routes.{Reached, by, refused, tableNamed, badPrefix, formCheck, onlinkCheck, toGateway, gatewayRoute, gateway4, reachCheck, validPrefsrc4, askedRoute, insertedAs, routed, addRoute4, selects, deletedRoute, delRoute4Request}
 use Rattle.definition.specs.Reference.Source.{below, tableOrder, dump4}
 use Rattle.definition.specs.Runs.Statement.{Choice, outside}
-use Rattle.definition.specs.Runs.Projection.{unchosen, without, unchosen-as, Mirrors, Tandem, both-go, both-refuse, tandem-cond}
+use Rattle.definition.specs.Runs.Projection.{unchosen, without, unchosen-as, Tandem, both-go, both-refuse, tandem-cond}
 use Rattle.definition.specs.Runs.Tables.{local-open, main-open, answer-apart, together-open, lookupIn-apart, addrType4-apart, listed-apart, create4-apart, keptIn, insert4-apart, removal-apart}
 
 module _ (chosen : ℕ → Bool) (choice : Choice chosen) where
   -- table 0 is 254
   pub named-open : (q : Row) → chosen (table q) ≡ false → unchosen chosen (tableNamed q) ≡ true
   named-open q o =
-      byCase (eqb (table q) 0) (λ e. rw e (main-open chosen choice)) (λ e. rw (e, o))
+      test-case (eqb (table q) 0) (λ e. rw e (main-open chosen choice)) (λ e. rw (e, o))
 
   -- ---- requests to add a route
   module _ (q : Row) (o : chosen (table q) ≡ false) where
@@ -49,7 +49,7 @@ module _ (chosen : ℕ → Bool) (choice : Choice chosen) where
     validPrefsrc4-apart st =
         let own = cond (eqb (tableNamed q) mainTable) localTable (tableNamed q) in
         let own-open : unchosen chosen own ≡ true =
-        byCase (eqb (tableNamed q) mainTable) (λ e. rw e (local-open chosen choice)) (λ e. rw e (named-open q o))
+        test-case (eqb (tableNamed q) mainTable) (λ e. rw e (local-open chosen choice)) (λ e. rw e (named-open q o))
         in
         rw (
           addrType4-apart chosen choice st (prefsrc q) own own-open,
@@ -86,7 +86,7 @@ module _ (chosen : ℕ → Bool) (choice : Choice chosen) where
     unfolding selects
     selects-outside r h =
         unchosen-as chosen (tableNamed q) (table r) (named-open q o)
-        (byCase (eqb (table r) (tableNamed q)) (λ e. e) (λ e. absurd (false≢true (rw e at h))))
+        (test-case (eqb (table r) (tableNamed q)) (λ e. e) (λ e. absurd (false≢true (rw e at h))))
 
     deletedRoute-apart : (found : Option Row) (st : State) → Tandem chosen (deletedRoute q found st) (deletedRoute q found (without chosen st))
     deletedRoute-apart none st = both-refuse 3 st

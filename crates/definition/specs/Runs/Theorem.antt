@@ -1,23 +1,19 @@
 -- Two runs side by side: the proof. Both runs answer as the calls that aren't struck do without limits on the empty state.
 use Prim.Native.Nat.{ℕ}
 use mathlib.Core.Path.{_≡_, refl, sym, _∙_, ap, ap₂}
-use mathlib.Core.Bool.{Bool, true, false, cond, not, _&&_}
+use mathlib.Core.Bool.{Bool, true}
 use mathlib.Core.List.{List, [], _∷_}
-use lib.Dec.{eqb}
-use Rattle.lists.specs.Lists.{keep}
-use Rattle.lists.specs.All.{and-left, and-right}
-use Rattle.lists.specs.Keep.{byCase}
-use Rattle.definition.specs.State.{State, empty}
-use Rattle.definition.specs.Words.{decode, encode, ordered}
+use Rattle.lists.specs.All.{and-left, and-right, test-case}
+use Rattle.definition.specs.State.{State}
+use Rattle.definition.specs.Words.{decode}
 use Rattle.definition.specs.Call.{Call, Reply}
 use Rattle.definition.specs.Step.{step}
 use Rattle.definition.specs.Kept.Fit.{fit-state}
-use Rattle.definition.specs.Kept.Encode.{good-decode}
-use Rattle.definition.specs.Kept.Step.{Held, held-empty}
-use Rattle.definition.specs.Runs.Statement.{Choice, struck, unstruck, Agree, emptyWords, after, spacious, compared, observed, View, view, Alike, TwoRuns}
+use Rattle.definition.specs.Kept.Step.{Held, held-empty, good-held}
+use Rattle.definition.specs.Runs.Statement.{Choice, struck, unstruck, emptyWords, after, spacious, compared, observed, View, TwoRuns}
 use Rattle.definition.specs.Runs.Projection.{without}
-use Rattle.definition.specs.Runs.Calls.{deed, freely, spaced, step-follows}
-use Rattle.definition.specs.Runs.Apart.{Same, same, hidden}
+use Rattle.definition.specs.Runs.Calls.{deed, freely, spaced, step-follows, bounded-freely}
+use Rattle.definition.specs.Runs.Apart.{same, hidden}
 
 -- ---- a run without limits, on states
 ideal : (ℕ → Bool) → List Call → State → List Reply
@@ -44,22 +40,26 @@ module _ (chosen : ℕ → Bool) (choice : Choice chosen) where
   projects [] w s h = record { answers = refl; ends = refl }
   projects (c ∷ cs) w s h =
       let w′ = step c w .words in
-      let f = step-follows c w s (and-left (spaced (step c w)) (spacious cs w′) h) in
-      let later = projects cs w′ (f .held) (and-right (spaced (step c w)) (spacious cs w′) h) in
-      let inOrder = fit-state (decode w) (good-decode w (s .long) (s .well) .fits) .ofRoutes .inOrder in
-      byCase (struck chosen c)
+      let spare = and-left (spaced (step c w .reply)) (spacious cs w′) h in
+      let f = step-follows c w s in
+      let free = bounded-freely (deed c) (decode w) (rw (f .reply) at spare) in
+      let reply : step c w .reply ≡ freely (deed c) (decode w) .reply = f .reply ∙ ap (λ d. d .reply) free in
+      let state : decode w′ ≡ freely (deed c) (decode w) .state = f .state ∙ ap (λ d. d .state) free in
+      let later = projects cs w′ (f .held) (and-right (spaced (step c w .reply)) (spacious cs w′) h) in
+      let inOrder = fit-state (decode w) (good-held w s .fits) .ofRoutes .inOrder in
+      test-case (struck chosen c)
       (λ e.
       let unseen : without chosen (decode w′) ≡ without chosen (decode w) =
-      ap (without chosen) (f .state) ∙ hidden chosen choice c e (decode w) inOrder
+      ap (without chosen) state ∙ hidden chosen choice c e (decode w) inOrder
       in
       record { answers = rw e (later .answers ∙ ap (ideal chosen (unstruck chosen cs)) unseen); ends = rw e (later .ends ∙ ap (last (unstruck chosen cs)) unseen) })
       (λ e.
       let m = same chosen choice c e (decode w) in
       let moved : without chosen (decode w′) ≡ freely (deed c) (without chosen (decode w)) .state =
-      ap (without chosen) (f .state) ∙ sym (m .state)
+      ap (without chosen) state ∙ sym (m .state)
       in
       record {
-        answers = rw e (ap₂ _∷_ (ap (compared chosen c) (f .reply) ∙ sym (m .reply)) (later .answers ∙ ap (ideal chosen (unstruck chosen cs)) moved));
+        answers = rw e (ap₂ _∷_ (ap (compared chosen c) reply ∙ sym (m .reply)) (later .answers ∙ ap (ideal chosen (unstruck chosen cs)) moved));
         ends = rw e (later .ends ∙ ap (last (unstruck chosen cs)) moved);
       })
 

@@ -7,58 +7,22 @@ use crate::words::{LIMITS, STATE_WORDS, decode, encode};
 use reference::{Lists, RouteRow};
 
 pub const FAULTS: &[Fault] = &[
-    Fault {
-        name: "local before main whatever the length",
-        run: local_first,
-    },
-    Fault {
-        name: "main before local at equal length",
-        run: main_first,
-    },
-    Fault {
-        name: "a private table read by lookups",
-        run: private_read,
-    },
-    Fault {
-        name: "253 read though unlisted",
-        run: default_unlisted,
-    },
-    Fault {
-        name: "a flow's tos compared without its mask",
-        run: tos_unmasked,
-    },
-    Fault {
-        name: "a listing in order of age alone",
-        run: by_age,
-    },
-    Fault {
-        name: "a listing with rows of unlisted tables",
-        run: unlisted_rows,
-    },
-    Fault {
-        name: "each source is 127.0.0.1",
-        run: localhost,
-    },
-    Fault {
-        name: "select4 takes secondaries too",
-        run: secondaries_too,
-    },
-    Fault {
-        name: "left takes the 20 ms off",
-        run: left_early,
-    },
+    Fault::new("local before main whatever the length", local_first),
+    Fault::new("main before local at equal length", main_first),
+    Fault::new("a private table read by lookups", private_read),
+    Fault::new("253 read though unlisted", default_unlisted),
+    Fault::new("a flow's tos compared without its mask", tos_unmasked),
+    Fault::new("a listing in order of age alone", by_age),
+    Fault::new("a listing with rows of unlisted tables", unlisted_rows),
+    Fault::new("each source is 127.0.0.1", localhost),
+    Fault::new("select4 takes secondaries too", secondaries_too),
+    Fault::new("left takes the 20 ms off", left_early),
 ];
 
 /// Those that make two runs part.
 pub const PARTING: &[Fault] = &[
-    Fault {
-        name: "a private table read by lookups",
-        run: private_read,
-    },
-    Fault {
-        name: "a reply that counts all rows",
-        run: counts_rows,
-    },
+    Fault::new("a private table read by lookups", private_read),
+    Fault::new("a reply that counts all rows", counts_rows),
 ];
 
 fn looks_up(call: &Call) -> bool {

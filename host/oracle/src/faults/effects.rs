@@ -10,62 +10,29 @@ use crate::words::{
 use reference::{AddressRow, Lists};
 
 pub const FAULTS: &[Fault] = &[
-    Fault {
-        name: "a word past the count changed",
-        run: past_the_count,
-    },
-    Fault {
-        name: "an event lost",
-        run: event_lost,
-    },
-    Fault {
-        name: "an event's flags without excl",
-        run: event_flags,
-    },
-    Fault {
-        name: "a buffer word past the last row touched",
-        run: past_the_rows,
-    },
-    Fault {
-        name: "valid forever overwrites the stored seconds",
-        run: forever_stored,
-    },
-    Fault {
-        name: "expire drops all due addresses at once",
-        run: all_at_once,
-    },
-    Fault {
-        name: "expire without the 20 ms",
-        run: expire_late,
-    },
-    Fault {
-        name: "secondaries not removed with their primary",
-        run: secondaries_stay,
-    },
-    Fault {
-        name: "equal address rows removed together",
-        run: equal_rows,
-    },
-    Fault {
-        name: "main rows with the gone prefsrc stay",
-        run: strays_stay,
-    },
-    Fault {
-        name: "a prefix route deleted that another address wants",
-        run: unwanted,
-    },
-    Fault {
-        name: "a new primary at the end of the list",
-        run: primary_last,
-    },
-    Fault {
-        name: "changes never reach the routes",
-        run: routes_unchanged,
-    },
-    Fault {
-        name: "255 listed without 254",
-        run: local_alone,
-    },
+    Fault::new("a word past the count changed", past_the_count),
+    Fault::new("an event lost", event_lost),
+    Fault::new("an event's flags without excl", event_flags),
+    Fault::new("a buffer word past the last row touched", past_the_rows),
+    Fault::new(
+        "valid forever overwrites the stored seconds",
+        forever_stored,
+    ),
+    Fault::new("expire drops all due addresses at once", all_at_once),
+    Fault::new("expire without the 20 ms", expire_late),
+    Fault::new(
+        "secondaries not removed with their primary",
+        secondaries_stay,
+    ),
+    Fault::new("equal address rows removed together", equal_rows),
+    Fault::new("main rows with the gone prefsrc stay", strays_stay),
+    Fault::new(
+        "a prefix route deleted that another address wants",
+        unwanted,
+    ),
+    Fault::new("a new primary at the end of the list", primary_last),
+    Fault::new("changes never reach the routes", routes_unchanged),
+    Fault::new("255 listed without 254", local_alone),
 ];
 
 fn changes(call: &Call) -> bool {

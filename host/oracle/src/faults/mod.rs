@@ -9,6 +9,7 @@ use crate::campaign::shrink;
 use crate::campaign::{self, Amount, Summary};
 use crate::compare::compare;
 use crate::generate::cases::{Cases, USUAL};
+use crate::model::model;
 use crate::pairs;
 use crate::port::{Bytes, Model, WordPort};
 use crate::rng::Rng;
@@ -16,8 +17,27 @@ use crate::rng::Rng;
 /// A port that does `run` in place of the model.
 #[derive(Clone, Copy)]
 pub struct Fault {
-    pub name: &'static str,
-    pub run: fn(&Call, &mut [u32], &mut [u32]) -> Reply,
+    name: &'static str,
+    run: Run,
+    part_words: bool,
+}
+type Run = fn(&Call, &mut [u32], &mut [u32]) -> Reply;
+
+impl Fault {
+    const fn new(name: &'static str, run: Run) -> Self {
+        Self {
+            name,
+            run,
+            part_words: false,
+        }
+    }
+    /// Goes wrong only where a slice isn't whole words.
+    const fn part_words(name: &'static str) -> Self {
+        Self {
+            part_words: true,
+            ..Self::new(name, model)
+        }
+    }
 }
 
 impl WordPort for Fault {
@@ -26,6 +46,9 @@ impl WordPort for Fault {
     }
     fn call(&mut self, call: &Call, state: &mut [u32], buffer: &mut [u32]) -> Reply {
         (self.run)(call, state, buffer)
+    }
+    fn overlooks_part_words(&self) -> bool {
+        self.part_words
     }
 }
 
@@ -83,8 +106,8 @@ fn sound(seed: u64) -> Result<Summary, String> {
 
 fn said(summary: &Summary) -> String {
     format!(
-        "{} calls by hand, {} cases and {} pairs alike",
-        summary.by_hand, summary.cases, summary.pairs
+        "{} calls by hand, {} cases and {} pairs alike ({} pairs left out for want of space)",
+        summary.by_hand, summary.cases, summary.pairs, summary.no_space
     )
 }
 

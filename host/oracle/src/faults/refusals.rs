@@ -10,74 +10,27 @@ use crate::{fit, well_formed};
 use reference::{Answer, Lists};
 
 pub const FAULTS: &[Fault] = &[
-    Fault {
-        name: "203 with free rows",
-        run: space_to_spare,
-    },
-    Fault {
-        name: "203 by the lengths afterwards alone",
-        run: lengths_after,
-    },
-    Fault {
-        name: "203 only where the reference doesn't refuse",
-        run: refused_first,
-    },
-    Fault {
-        name: "a 203 that leaves a table listed",
-        run: table_left,
-    },
-    Fault {
-        name: "no table listed by a refused add_route4",
-        run: table_unlisted,
-    },
-    Fault {
-        name: "a refusal that changes a word",
-        run: word_changed,
-    },
-    Fault {
-        name: "a refusal that writes into the buffer",
-        run: buffer_changed,
-    },
-    Fault {
-        name: "a refusal with a value",
-        run: value_beside,
-    },
-    Fault {
-        name: "every request to add a route denied",
-        run: denied,
-    },
-    Fault {
-        name: "202 before 201",
-        run: request_first,
-    },
-    Fault {
-        name: "201 before 200",
-        run: state_first,
-    },
-    Fault {
-        name: "383 event rows suffice",
-        run: short_buffer,
-    },
-    Fault {
-        name: "unused words not looked at",
-        run: unused_unchecked,
-    },
-    Fault {
-        name: "the order of routes not looked at",
-        run: order_unchecked,
-    },
-    Fault {
-        name: "a table listed twice not looked at",
-        run: twice_unchecked,
-    },
-    Fault {
-        name: "alike routes in another order refused",
-        run: alike_refused,
-    },
-    Fault {
-        name: "an absent value in a request not looked at",
-        run: absent_unchecked,
-    },
+    Fault::new("203 with free rows", space_to_spare),
+    Fault::new("203 by the lengths afterwards alone", lengths_after),
+    Fault::new("203 only where the reference doesn't refuse", refused_first),
+    Fault::new("a 203 that leaves a table listed", table_left),
+    Fault::new("no table listed by a refused add_route4", table_unlisted),
+    Fault::new("a refusal that changes a word", word_changed),
+    Fault::new("a refusal that writes into the buffer", buffer_changed),
+    Fault::new("a refusal with a value", value_beside),
+    Fault::new("every request to add a route denied", denied),
+    Fault::new("202 before 201", request_first),
+    Fault::new("201 before 200", state_first),
+    Fault::new("383 event rows suffice", short_buffer),
+    Fault::part_words("one to three bytes more not looked at"),
+    Fault::new("unused words not looked at", unused_unchecked),
+    Fault::new("the order of routes not looked at", order_unchecked),
+    Fault::new("a table listed twice not looked at", twice_unchecked),
+    Fault::new("alike routes in another order refused", alike_refused),
+    Fault::new(
+        "an absent value in a request not looked at",
+        absent_unchecked,
+    ),
 ];
 
 fn space_to_spare(call: &Call, state: &mut [u32], buffer: &mut [u32]) -> Reply {

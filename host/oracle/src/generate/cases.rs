@@ -177,10 +177,21 @@ impl Cases {
             0 => case.state.truncate(rng.pick(&[0, 1, 9506])),
             1 => case.state.push(rng.pick(&[0, 1])),
             2 if case.call.lent().is_some() => length_of_lent(rng, &mut case.call),
-            3 if case.call.lent().is_some() => case.cut.lent = 1 + rng.below(3),
+            3 if case.call.lent().is_some() => {
+                case.cut.lent = 1 + rng.below(3);
+                if let Some(lent) = case.call.lent_mut().filter(|_| rng.one_in(2)) {
+                    // a few bytes too many
+                    lent.push(rng.pick(&[0, 1]));
+                }
+            }
             4 if buffer > 0 => case.cut.buffer = 1 + rng.below(3),
             5 if buffer > 0 => case.buffer.truncate(rng.pick(&[0, 1, buffer - 1])),
-            _ => case.cut.state = 1 + rng.below(3),
+            _ => {
+                case.cut.state = 1 + rng.below(3);
+                if rng.one_in(2) {
+                    case.state.push(rng.pick(&[0, 1]));
+                }
+            }
         }
         case
     }

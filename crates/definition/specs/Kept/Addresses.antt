@@ -1,28 +1,27 @@
--- Every step of the reference keeps a fit state fit.
+-- The kernel's routes put in and taken out, addresses put in and changed, up and down keep a fit state fit.
 -- Assumes nothing.
-use Prim.Native.Nat.{ℕ, zero, suc}
-use mathlib.Core.Path.{_≡_, refl, sym, ap, _∙_}
-use mathlib.Core.Bool.{Bool, true, false, cond, not, _&&_, _||_}
-use mathlib.Core.List.{List, [], _∷_, _++_, map}
+use Prim.Native.Nat.{ℕ}
+use mathlib.Core.Path.{_≡_, refl}
+use mathlib.Core.Bool.{Bool, true, cond, not, _&&_}
+use mathlib.Core.List.{List, [], _∷_}
 use mathlib.Core.Option.{Option, none, some}
-use lib.Dec.{eqb, leb}
+use lib.Dec.{eqb}
 use lib.ListN.{length}
-use borrow.Author.Tests.{eqb-true}
-use Rattle.lists.specs.Lists.{Row, all, any, keep, first, until, onward, removeFirst, replaceFirst, behindLast, eqRow}
-use Rattle.lists.specs.All.{cond-case, all-cons, all-append, all-first, all-keep, all-mono, all-map, all-until, all-onward, all-removeFirst, all-replaceFirst, all-behindLast}
-use Rattle.layout.specs.Address.{fitAddress, prefix}
+use Rattle.lists.specs.Lists.{Row, all, any, keep, first, removeFirst}
+use Rattle.lists.specs.All.{cond-case, all-cons, all-append, all-first, all-replaceFirst, all-behindLast}
+use Rattle.layout.specs.Address.{fitAddress}
 use Rattle.layout.specs.Address as Address
-use Rattle.layout.specs.Route.{fitRoute, table, prefsrcPresent}
+use Rattle.layout.specs.Route.{fitRoute, table}
 use Rattle.layout.specs.Route as Route
-use Rattle.layout.specs.Event.{newAddr4, delAddr4, newRoute4, delRoute4}
-use Rattle.layout.specs.Request.{fitAddV4, fitAddRoute4, replaceAsked, upAtAddV4, nlmFlags}
-use Rattle.definition.specs.State.{State, Out, becomes, stays, also, through, withAddresses, withRoutes}
+use Rattle.layout.specs.Event.{newAddr4, newRoute4, delRoute4}
+use Rattle.layout.specs.Request.{fitAddV4, replaceAsked, upAtAddV4}
+use Rattle.definition.specs.State.{State, becomes, stays, withAddresses, withRoutes}
 use Rattle.definition.specs.Reference.Insert.{create4, listTable, insert4, Inserted, put, nothing, inserted, kernelAdd4, kernelDel4, named, removed}
-use Rattle.definition.specs.Reference.Addresses.{Outcome, candidates, kernelRoute, prefixRoute, bring, place4, yields, newAddress, changedTo, moved, reroutes, changeV4, addedOver, addV4, asked, asSecondary, sameAddress, sameSubnet, loopback, step, up, down, hostScope}
-use Rattle.definition.specs.Kept.Fit.{Fit, FitRoutes, fields-address}
+use Rattle.definition.specs.Reference.Addresses.{Outcome, candidates, prefixRoute, bring, place4, yields, newAddress, changedTo, moved, reroutes, changeV4, addedOver, addV4, asked, asSecondary, sameAddress, sameSubnet, loopback, step, up, down, hostScope}
+use Rattle.definition.specs.Kept.Fit.{Fit, fields-address}
 use Rattle.definition.specs.Kept.Routes.{keep-fit, removeFirst-fit, Puts, insert-fit, listTable-fit}
-use Rattle.definition.specs.Kept.Keeps.{Kept, Keeps, KeptOutcome, KeepsOutcome, fit-addresses, fit-routes, fit-tables, becomes-kept, stays-keeps, also-kept, through-keeps, through-each}
-use Rattle.definition.specs.Kept.Rows.{newAddr4-told, newRoute4-told, delRoute4-told, asked-fit, asSecondary-fit, faded-fit, changedTo-fit, candidates-fit, subnet-fit, askedRoute-fit}
+use Rattle.definition.specs.Kept.Keeps.{Kept, Keeps, KeptOutcome, KeepsOutcome, fit-addresses, fit-routes, fit-tables, becomes-kept, stays-keeps, also-kept, through-keeps}
+use Rattle.definition.specs.Kept.Rows.{newAddr4-told, newRoute4-told, delRoute4-told, asked-fit, asSecondary-fit, changedTo-fit, candidates-fit, subnet-fit}
 
 -- ---- routes
 pub create4-fit : (t : ℕ) (st : State) → Fit st → Fit (create4 t st)

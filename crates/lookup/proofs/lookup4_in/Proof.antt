@@ -1,0 +1,148 @@
+use mathlib.Core.Path.{sym, _∙_}
+use native.Mathlib.Omega.{arith}
+use borrow.Author.Tests.{not-true, not-false}
+use Rattle.lookup.specs.Flow.{flowOf}
+use Rattle.lookup.specs.Pass.{laid-count}
+use Rattle.lookup.specs.Answer.{route-there, upper-route, upper-refuse, upper-last, lower-route, lower-refuse, lower-last}
+use borrow.Author.Needs.{needs}
+use Rattle.lookup.proofs.lookup4_in.Statement.{statement}
+use Rattle.lookup.proofs.lookup4_in.Tie as tie
+use Rattle.lookup.proofs.lookup4_in.Reads as reads
+use Rattle.lookup.proofs.lookup4_in.Lts as lts
+use Rattle.lookup.proofs.judge.Reads as judge-reads
+use Rattle.lookup.proofs.table_lookup4.Reads as table-lookup4-reads
+
+-- src/lib.rt:118:9
+table-lookup4-requires : tie.Need-table-lookup4-requires
+table-lookup4-requires c κs = search needs
+
+-- src/lib.rt:127:9
+judge-requires : tie.Need-judge-requires
+judge-requires c κs = search needs
+
+-- src/lib.rt:129:26
+enum-told : tie.Need-enum-told
+enum-told c = search needs
+
+-- src/lib.rt:129:26
+returns : tie.Need-returns
+returns c =
+    let j = c .before .before in
+    let t = j .before in
+    let s = t .before .before in
+    let a = s .args in
+    let y = s .pre .1 in (
+      omega (arith, route-there (y .list) (t .table-lookup4 .result) (sym (sym (c .enum-told .given .1) ∙ j .judge .ensures (y .list) (y .laid))), laid-count (a .rows .now) (a .n) (s .pre .0) (y .list) (y .laid)),
+      λ l h. upper-route l (flowOf (a .f)) (a .default-listed) (t .table-lookup4 .result) (t .table-lookup4 .ensures l h) (sym (c .enum-told .given .1) ∙ j .judge .ensures l h),
+    )
+
+-- src/lib.rt:130:24
+enum-known-first : tie.Need-enum-known-first
+enum-known-first c = search needs
+
+-- src/lib.rt:130:34
+returns-2 : tie.Need-returns-2
+returns-2 c =
+    let j = c .before .before .before in
+    let t = j .before in
+    let s = t .before .before in
+    let a = s .args in
+    (tt, λ l h. upper-refuse l (flowOf (a .f)) (a .default-listed) (t .table-lookup4 .result) (t .table-lookup4 .ensures l h) (c .before .first .given .0 .0) (sym (c .before .first .given .1) ∙ j .judge .ensures l h))
+
+enum-told-2 : tie.Need-enum-told-2
+enum-told-2 c = search needs
+
+-- src/lib.rt:134:9
+returns-3 : tie.Need-returns-3
+returns-3 c =
+    let j = c .before .before .before in
+    let t = j .before in
+    let s = t .before .before in
+    let a = s .args in
+    (tt, λ l h. upper-last l (flowOf (a .f)) (a .default-listed) (t .table-lookup4 .result) (t .table-lookup4 .ensures l h) (sym (c .before .enum-told2 .given .1) ∙ j .judge .ensures l h) (not-true (a .default-listed) (c .if1 .taken)))
+
+-- src/lib.rt:136:9
+table-lookup4-requires-2 : tie.Need-table-lookup4-requires-2
+table-lookup4-requires-2 c κs = search needs
+
+-- src/lib.rt:145:9
+judge-requires-2 : tie.Need-judge-requires-2
+judge-requires-2 c κs = search needs
+
+-- src/lib.rt:147:26
+enum-told-3 : tie.Need-enum-told-3
+enum-told-3 c = search needs
+
+-- src/lib.rt:148:24
+enum-known-second : tie.Need-enum-known-second
+enum-known-second c = search needs
+
+-- src/lib.rt:149:26
+enum-told-4 : tie.Need-enum-told-4
+enum-told-4 c = search needs
+
+-- src/lib.rt:114:1
+returns-4 : tie.Need-returns-4
+returns-4 c =
+    let k = c .before .before in
+    let v = k .before in
+    let e = v .before in
+    let m = e .before in
+    let j = m .before .before in
+    let t = j .before in
+    let s = t .before .before in
+    let a = s .args in
+    let on = not-false (a .default-listed) (e .if1 .left) in
+    let y = s .pre .1 in (
+      omega (arith, route-there (y .list) (v .table-lookup42 .result) (sym (sym (c .enum-told3 .given .1) ∙ k .judge2 .ensures (y .list) (y .laid))), laid-count (a .rows .now) (a .n) (s .pre .0) (y .list) (y .laid)),
+      λ l h. lower-route l (flowOf (a .f)) (a .default-listed) (t .table-lookup4 .result) (t .table-lookup4 .ensures l h) (sym (m .enum-told2 .given .1) ∙ j .judge .ensures l h) on (v .table-lookup42 .result) (v .table-lookup42 .ensures l h) (sym (c .enum-told3 .given .1) ∙ k .judge2 .ensures l h),
+    )
+
+-- src/lib.rt:114:1
+returns-5 : tie.Need-returns-5
+returns-5 c =
+    let k = c .before .before .before in
+    let v = k .before in
+    let e = v .before in
+    let m = e .before in
+    let j = m .before .before in
+    let t = j .before in
+    let s = t .before .before in
+    let a = s .args in
+    let on = not-false (a .default-listed) (e .if1 .left) in
+    (tt, λ l h. lower-refuse l (flowOf (a .f)) (a .default-listed) (t .table-lookup4 .result) (t .table-lookup4 .ensures l h) (sym (m .enum-told2 .given .1) ∙ j .judge .ensures l h) on (v .table-lookup42 .result) (v .table-lookup42 .ensures l h) (c .before .second .given .0 .0) (sym (c .before .second .given .1) ∙ k .judge2 .ensures l h))
+
+-- src/lib.rt:114:1
+returns-6 : tie.Need-returns-6
+returns-6 c =
+    let k = c .before .before in
+    let v = k .before in
+    let e = v .before in
+    let m = e .before in
+    let j = m .before .before in
+    let t = j .before in
+    let s = t .before .before in
+    let a = s .args in
+    let on = not-false (a .default-listed) (e .if1 .left) in
+    (tt, λ l h. lower-last l (flowOf (a .f)) (a .default-listed) (t .table-lookup4 .result) (t .table-lookup4 .ensures l h) (sym (m .enum-told2 .given .1) ∙ j .judge .ensures l h) on (v .table-lookup42 .result) (v .table-lookup42 .ensures l h) (sym (c .enum-told4 .given .1) ∙ k .judge2 .ensures l h))
+
+pub lookup4-in-spec : {M : Type 1} → statement M
+lookup4-in-spec =
+    tie.close
+    (tie.spec
+    table-lookup4-requires
+    judge-requires
+    enum-told
+    returns
+    enum-known-first
+    returns-2
+    enum-told-2
+    returns-3
+    table-lookup4-requires-2
+    judge-requires-2
+    enum-told-3
+    enum-known-second
+    enum-told-4
+    returns-4
+    returns-5
+    returns-6)
