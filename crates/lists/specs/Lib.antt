@@ -9,3 +9,4 @@ pub mod Keep
 pub mod Put
 pub mod At
 pub mod Region
+pub mod Split
