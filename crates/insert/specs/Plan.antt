@@ -17,7 +17,14 @@ use Rattle.layout.specs.Flags.{hasBit}
 use Rattle.layout.specs.Bits.{has-and}
 use Rattle.layout.specs.Route.{alike}
 use Rattle.definition.specs.State.{State, withRoutes}
-use Rattle.definition.specs.Words.{ordered}
+use Rattle.definition.specs.Words.{ordered, fitState}
+use Rattle.definition.specs.Kept.Fit.{fit-state}
+use Rattle.state.specs.Holds.{Holds, Valid, count-routes}
+use Rattle.definition.specs.Words.{routeCount}
+use Rattle.lists.specs.Laid.{Laid, Lays}
+use Rattle.layout.specs.Route.{fitRoute}
+use Rattle.view.specs.Parts.{routePart, laid-routes, lays-routes, length-routes}
+use Rattle.lists.specs.All.{cond-case}
 use Rattle.definition.specs.Reference.Insert as Insert
 use Rattle.definition.specs.Reference.Insert.{ahead, behind, insert4, isRow, exclFlag, replaceFlag, createFlag, appendFlag}
 use Rattle.insert.specs.Run.{Run, run-alike, run-within, run-ahead, run-behind, run-place}
@@ -109,3 +116,68 @@ rowsAfter (Insert.refused n) old = old
 -- a flag as the code tests it
 pub flag-is : (k f : ℕ) (b t : Bool) → b ≡ not (eqb (bitAnd f (2 ^ k)) 0) → b ≡ t → hasBit k f ≡ t
 flag-is k f b t e g = sym (has-and k f) ∙ sym e ∙ g
+
+-- ---- places
+pub placed-created : (n flags place told : ℕ) → place ≤ n → placed n (created flags place told)
+placed-created n flags place told h = cond-case (placed n) (createFlag flags) (λ e. h) (λ e. tt)
+
+pub placed-among : (n flags start end : ℕ) (there f : Bool) → start < n → end ≤ n → placed n (among flags start end there f)
+placed-among n flags start end there f g h =
+    cond-case (placed n) (exclFlag flags) (λ e. tt)
+    (λ e. cond-case (placed n) (replaceFlag flags)
+    (λ r. cond-case (placed n) f (λ a. tt) (λ a. cond-case (placed n) there (λ b. tt) (λ b. g)))
+    (λ r. cond-case (placed n) there (λ b. tt)
+    (λ b. cond-case (placed n) (appendFlag flags) (λ a. placed-created n flags end 0xc00 h) (λ a. placed-created n flags start 0x400 (omega arith)))))
+
+-- ---- words that hold a state, with a row put in
+pub record InsertedInto (new : Row) (flags : ℕ) (st : State) (w : List ℕ) (r : Inserted) : Type 0 where
+  pub answer : r ≡ answerOf (insert4 new flags (st .routes))
+  pub holds : Holds w (withRoutes (rowsAfter (insert4 new flags (st .routes)) (st .routes)) st)
+
+module _ (new : Row) (flags : ℕ) (st : State) (p : Plan) (e : planned new (st .routes) p ≡ insert4 new flags (st .routes)) where
+  pub into-full : {w : List ℕ} → Holds w st → (i told : ℕ) → p ≡ Add i told → i ≤ length (st .routes) → length (st .routes) ≡ 256 → InsertedInto new flags st w Full
+  into-full {w} h i told q b n =
+      let long : leb (length (insertAt i new (st .routes))) 256 ≡ false = lt-leb (length (insertAt i new (st .routes))) 256 (omega (arith, length-insertAt i new (st .routes) b)) in
+      let is : insert4 new flags (st .routes) ≡ Insert.put (insertAt i new (st .routes)) told = sym e ∙ ap (planned new (st .routes)) q in
+      record { answer = rw (is, long); holds = rw (is, long) h }
+
+  pub into-put : {w : List ℕ} (i told : ℕ) → p ≡ Add i told → i ≤ length (st .routes) → length (st .routes) < 256
+      → Holds w (withRoutes (insertAt i new (st .routes)) st) → InsertedInto new flags st w (Put told)
+  into-put {w} i told q b n h =
+      let long : leb (length (insertAt i new (st .routes))) 256 ≡ true = le-leb (length (insertAt i new (st .routes))) 256 (omega (arith, length-insertAt i new (st .routes) b)) in
+      let is : insert4 new flags (st .routes) ≡ Insert.put (insertAt i new (st .routes)) told = sym e ∙ ap (planned new (st .routes)) q in
+      record { answer = rw (is, long); holds = rw (is, long) h }
+
+  pub into-replaced : {w : List ℕ} (i : ℕ) → p ≡ Replace i → length (st .routes) ≤ 256
+      → Holds w (withRoutes (set (st .routes) i new) st) → InsertedInto new flags st w (Put 0x100)
+  into-replaced {w} i q n h =
+      let long : leb (length (set (st .routes) i new)) 256 ≡ true = le-leb (length (set (st .routes) i new)) 256 (omega (arith, length-set (st .routes) i new)) in
+      let is : insert4 new flags (st .routes) ≡ Insert.put (set (st .routes) i new) 0x100 = sym e ∙ ap (planned new (st .routes)) q in
+      record { answer = rw (is, long); holds = rw (is, long) h }
+
+  pub into-kept : {w : List ℕ} → Holds w st → p ≡ Keep → InsertedInto new flags st w Nothing
+  into-kept {w} h q =
+      let is : insert4 new flags (st .routes) ≡ Insert.nothing = sym e ∙ ap (planned new (st .routes)) q in
+      record { answer = rw is; holds = rw is h }
+
+  pub into-refused : {w : List ℕ} → Holds w st → (n : ℕ) → p ≡ Refuse n → InsertedInto new flags st w (Refused n)
+  into-refused {w} h n q =
+      let is : insert4 new flags (st .routes) ≡ Insert.refused n = sym e ∙ ap (planned new (st .routes)) q in
+      record { answer = rw is; holds = rw is h }
+
+-- the rows of a fit state are in order
+pub in-order : (st : State) → fitState st ≡ true → ordered (st .routes) ≡ true
+in-order st h = fit-state st h .ofRoutes .inOrder
+
+pub add-place : (n : ℕ) (p : Plan) (i told : ℕ) → placed n p → p ≡ Add i told → i ≤ n
+add-place n p i told h q = rw q at h
+
+pub replace-place : (n : ℕ) (p : Plan) (i : ℕ) → placed n p → p ≡ Replace i → i < n
+replace-place n p i h q = rw q at h
+
+-- ---- the rows as they are lent
+pub rows-ready : (w : List ℕ) {part : List ℕ} {n : ℕ} → Valid w → part ≡ routePart w → n ≡ routeCount w → (length part ≡ 32 * n) × Lays 32 fitRoute part
+rows-ready w v e g = (rw (e, g) (length-routes v), rw e (lays-routes v))
+
+pub rows-laid : {w : List ℕ} {part : List ℕ} (st : State) → Holds w st → part ≡ routePart w → Laid 32 fitRoute part (st .routes)
+rows-laid st h e = rw e (laid-routes h)

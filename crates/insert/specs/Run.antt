@@ -2,11 +2,10 @@
 -- Assumes nothing.
 use Prim.Native.Nat.{ℕ, zero, suc, _+_, _-_, _*_, _≤_, _<_}
 use mathlib.Core.Path.{_≡_, refl, sym, ap, _∙_}
-use mathlib.Core.Bool.{Bool, true, false, cond, not, _&&_, _||_}
+use mathlib.Core.Bool.{Bool, true, false, cond, not, _||_}
 use mathlib.Core.List.{List, [], _∷_, _++_}
 use native.Mathlib.Omega.{arith}
-use lib.Dec.{ltb, eqb}
-use borrow.Author.Tests.{le-ltb, eq-eqb, ne-eqb}
+use lib.Dec.{ltb}
 use lib.ListN.{length, getD, set, take, drop, take-append-drop}
 use lib.Seq.{drop-cons, take-all, length-take-le}
 use Rattle.lists.specs.Lists.{Row, all, any, keep, first, replaceFirst, eqRow, pairwise}
@@ -16,7 +15,7 @@ use Rattle.lists.specs.Count.{tick, tick-one, tick-none, count, count-append, c
 use Rattle.lists.specs.Keep.{not-not}
 use Rattle.lists.specs.Place.{placeOf, replace-at, first-at}
 use Rattle.lists.specs.Split.{any-joined, pairwise-drop, count-all, count-sum, any-ltb, any-apart, count-more, all-more, any-more, around-at}
-use Rattle.layout.specs.Route.{before, alike, table, dst, len, tos, priority}
+use Rattle.layout.specs.Route.{before, alike}
 use Rattle.definition.specs.Words.{ordered}
 use Rattle.definition.specs.Reference.Insert.{ahead, behind}
 use Rattle.definition.specs.Kept.Order.{before-never, alike-before, before-alike, alike-sym, alike-refl, level-alike}
@@ -33,16 +32,6 @@ pub record Run (new : Row) (l : List Row) (start end : ℕ) (there : Bool) : Typ
   pub begins : start ≡ count (λ r. before r new) l
   pub ends : end ≡ count (λ r. not (before new r)) l
   pub is-there : there ≡ any (eqRow new) l
-
--- rows with different destinations, and with the same
-pub before-far : (a b : Row) → (dst a ≡ dst b → ⊥) → ltb (dst a) (dst b) ≡ before a b
-unfolding before
-before-far a b h = test-case (ltb (dst a) (dst b)) (λ e. rw e) (λ e. rw (e, ne-eqb (dst a) (dst b) h))
-
-pub before-near : (a b : Row) → dst a ≡ dst b
-    → (ltb (len b) (len a) || (eqb (len a) (len b) && (ltb (table b) (table a) || (eqb (table a) (table b) && (ltb (tos b) (tos a) || (eqb (tos a) (tos b) && ltb (priority a) (priority b))))))) ≡ before a b
-unfolding before
-before-near a b h = rw (le-ltb (dst a) (dst b) (omega arith), eq-eqb (dst a) (dst b) h)
 
 module _ (new : Row) where
   -- ---- a row is before the new one, alike, or after it

@@ -9,32 +9,13 @@ ghost use lib.ListN.{length};
 ghost use Rattle.lists.specs.Lists.{Row, eqRow};
 ghost use Rattle.lists.specs.Count.{tick};
 ghost use Rattle.lists.specs.Laid.{Laid, Lays};
-ghost use Rattle.layout.specs.Route.{before, fitRoute};
-ghost use Rattle.definition.specs.State.{State, withRoutes};
+ghost use Rattle.layout.specs.Route.{fitRoute};
+ghost use Rattle.definition.specs.State.{State};
 ghost use Rattle.definition.specs.Words.{ordered, fitState};
 ghost use Rattle.definition.specs.Reference.Insert.{insert4};
 ghost use Rattle.state.specs.Holds.{Holds, Valid};
 ghost use Rattle.insert.specs.Run.{Run};
-ghost use Rattle.insert.specs.Plan.{planned, placed, created, replacing, among};
-
-// Whether a's place is before b's. Most rows differ in their destination, so that is asked first.
-fn before(a: &[u32], b: &[u32]) -> bool
-    requires { ⌜ (length (now a) ≡ 32) × (length (now b) ≡ 32) ⌝ }
-    ensures { λ r. ⌜ r ≡ before (now (a .entry)) (now (b .entry)) ⌝ }
-{
-    if a[1] != b[1] {
-        return a[1] < b[1];
-    }
-    let table = a[0];
-    let other_table = b[0];
-    let len = a[2];
-    let other_len = b[2];
-    let tos = a[3];
-    let other_tos = b[3];
-    let priority = (tos == other_tos) & (a[4] < b[4]);
-    let within = (table == other_table) & ((other_tos < tos) | priority);
-    (other_len < len) | ((len == other_len) & ((other_table < table) | within))
-}
+ghost use Rattle.insert.specs.Plan.{planned, placed, created, replacing, among, InsertedInto};
 
 // Whether the rows are the same.
 fn same(new: &[u32], r: &[u32]) -> bool
@@ -68,6 +49,7 @@ pub fn alike4(rows: &[u32], n: usize, new: &[u32]) -> Alike
     requires { ⌜ (length (now rows) ≡ 32 * n) × Lays 32 fitRoute (now rows) ⌝ }
     requires { ⌜ length (now new) ≡ 32 ⌝ }
     ensures { λ r. ⌜ ((l : List Row) → Laid 32 fitRoute (now (rows .entry)) l → ordered l ≡ true → Run (now (new .entry)) l (r .start) (r .end) (r .there)) ⌝ }
+    ensures { λ r. ⌜ (r .start ≤ r .end) × (r .end ≤ n) ⌝ }
 {
     let mut start = 0usize;
     let mut there = false;
@@ -75,14 +57,14 @@ pub fn alike4(rows: &[u32], n: usize, new: &[u32]) -> Alike
     while i < n {
         let at = 32 * i;
         let r = &rows[at..at + 32];
-        if before(new, r) {
+        if route::before(new, r) {
             return Alike {
                 start: start,
                 end: i,
                 there: there,
             };
         }
-        start += one_if(before(r, new));
+        start += one_if(route::before(r, new));
         there = there | same(new, r);
         i += 1;
     }
@@ -166,4 +148,47 @@ fn among(flags: u32, start: usize, end: usize, there: bool, first: bool) -> Plan
         return created(flags, end, CREATE | APPEND);
     }
     created(flags, start, CREATE)
+}
+
+fn plan4(rows: &[u32], n: usize, new: &[u32], flags: u32) -> Plan
+    requires { ⌜ (length (now rows) ≡ 32 * n) × Lays 32 fitRoute (now rows) ⌝ }
+    requires { ⌜ length (now new) ≡ 32 ⌝ }
+    ensures { λ r. ⌜ placed n r ⌝ }
+    ensures { λ r. ⌜ ((l : List Row) → Laid 32 fitRoute (now (rows .entry)) l → ordered l ≡ true → planned (now (new .entry)) l r ≡ insert4 (now (new .entry)) flags l) ⌝ }
+{
+    let run = alike4(rows, n, new);
+    let start = run.start;
+    let end = run.end;
+    if end <= start {
+        return created(flags, start, CREATE | EXCL);
+    }
+    let at = 32 * start;
+    let first = same(new, &rows[at..at + 32]);
+    among(flags, start, end, run.there, first)
+}
+
+// A route put into its place: what came of it, the rows as the definition has them. A full list stays as it is.
+pub fn insert4(s: &mut [u32], new: &[u32], flags: u32) -> Inserted
+    requires { ⌜ Valid (now s) ⌝ }
+    requires { ⌜ fitRoute (now new) ≡ true ⌝ }
+    ensures { λ r. ⌜ Valid (now (s .exit)) ⌝ }
+    ensures { λ r. ⌜ ((st : State) → Holds (now (s .entry)) st → fitState st ≡ true → InsertedInto (now (new .entry)) flags st (now (s .exit)) r) ⌝ }
+{
+    let n = state::route_count(s);
+    let plan = plan4(view::routes(s), n, new, flags);
+    match plan {
+        Plan::Add(place, told) => {
+            if n == 256 {
+                return Inserted::Full;
+            }
+            state::insert_route(s, place, new);
+            Inserted::Put(told)
+        }
+        Plan::Replace(place) => {
+            state::replace_route(s, place, new);
+            Inserted::Put(REPLACE)
+        }
+        Plan::Keep => Inserted::Nothing,
+        Plan::Refuse(error) => Inserted::Refused(error),
+    }
 }

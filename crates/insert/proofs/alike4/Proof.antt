@@ -13,7 +13,7 @@ use Rattle.insert.proofs.alike4.Statement.{statement}
 use Rattle.insert.proofs.alike4.Tie as tie
 use Rattle.insert.proofs.alike4.Reads as reads
 use Rattle.insert.proofs.alike4.Lts as lts
-use Rattle.insert.proofs.before.Reads as before-reads
+use Rattle.route.proofs.before.Reads as before-reads
 use Rattle.insert.proofs.one_if.Reads as one-if-reads
 use Rattle.insert.proofs.same.Reads as same-reads
 
@@ -69,7 +69,7 @@ returns c =
     let k = c .before .before .before .before in
     let s = k .before .before .before in
     let a = s .args in
-    λ l h o. pass-stop (a .rows .now) (a .n) (s .pre .0 .0) (a .new .now) l h (k .loop .i) (k .loop .start) (k .loop .there) (k .loop .inv .2 l h) (c .before .before .before .loop-test .taken) (sym (c .before .before2 .ensures) ∙ c .if1 .taken) o
+    (λ l h o. pass-stop (a .rows .now) (a .n) (s .pre .0 .0) (a .new .now) l h (k .loop .i) (k .loop .start) (k .loop .there) (k .loop .inv .2 l h) (c .before .before .before .loop-test .taken) (sym (c .before .before2 .ensures) ∙ c .if1 .taken) o, search needs)
 
 -- src/lib.rt:85:25
 before-requires-2 : tie.Need-before-requires-2 Inv-loop μ-loop
@@ -118,7 +118,7 @@ returns-2 c =
     let k = c .before in
     let s = k .before .before .before in
     let a = s .args in
-    λ l h o. pass-end (a .rows .now) (a .n) (s .pre .0 .0) (a .new .now) l h (k .loop .i) (k .loop .start) (k .loop .there) (k .loop .inv .2 l h) (c .loop-test .left)
+    (λ l h o. pass-end (a .rows .now) (a .n) (s .pre .0 .0) (a .new .now) l h (k .loop .i) (k .loop .start) (k .loop .there) (k .loop .inv .2 l h) (c .loop-test .left), search needs)
 
 pub alike4-spec : {M : Type 1} → statement M
 alike4-spec =
