@@ -15,7 +15,7 @@ use Rattle.prefix.specs.Mask.{hostBits}
 use Rattle.kind.specs.Kind.{errorOf}
 use Rattle.layout.specs.Route.{dst, len, tos, priority, kind, proto, scope, prefsrcPresent, prefsrc, gatewayPresent, gateway}
 use Rattle.layout.specs.Request.{rtmFlags}
-use Rattle.address.specs.Bits.{has-and}
+use Rattle.layout.specs.Bits.{has-and}
 use Rattle.definition.specs.Reference.Routes.{badPrefix, deadFlags, onlinkFlag, tableNamed, mark, askedRoute}
 
 pub dead-says : (q : Row) → (not (eqb (bitAnd (rtmFlags q) 0x01) 0) || not (eqb (bitAnd (rtmFlags q) 0x10) 0)) ≡ deadFlags q

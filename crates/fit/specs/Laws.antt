@@ -1,37 +1,17 @@
--- What the code's tests of a row and of a request's pairs come to.
+-- What the code's tests of a request's pairs come to.
 -- Assumes nothing.
 use Prim.Native.Nat.{ℕ, _+_, _*_, _≤_, _<_}
 use mathlib.Core.Path.{_≡_, refl, sym, ap, _∙_}
 use mathlib.Core.Bool.{Bool, true, false, _&&_, and-true, and-false}
 use mathlib.Core.List.{List}
 use native.Mathlib.Omega.{arith}
-use lib.Dec.{eqb, leb, ltb, lit<}
+use lib.Dec.{leb, lit<}
 use lib.ListN.{length, getD, take, drop}
-use borrow.Author.Tests.{eq-eqb, ne-eqb, le-leb, lt-leb}
+use borrow.Author.Tests.{le-leb, lt-leb}
 use Rattle.lists.specs.Lists.{Row, all, chop}
 use Rattle.lists.specs.Chop.{chopFrom, chop-start, pass-all, pass-all-end, chop-word-from}
-use Rattle.prefix.specs.Mask.{hostBits}
-use Rattle.kind.specs.Kind.{isKind}
 use Rattle.layout.specs.Address.{optional}
-use Rattle.layout.specs.Route.{fitRoute, dst, len, tos, kind, proto, scope, prefsrcPresent, prefsrc, gatewayPresent, gateway, device, onlink, usesGateway}
 use Rattle.layout.specs.Request.{pairIndex, pairCount, pairs, fitPairs, fitRouteWords, fitDelRoute4, listPresent}
-
--- ---- a row
-module _ (r : Row) where
-  pub fit-short : (length r ≡ 32 → ⊥) → false ≡ fitRoute r
-  unfolding fitRoute
-  fit-short h = simp (ne-eqb (length r) 32 h)
-
-  pub fit-long : length r ≡ 32 → 32 < len r → false ≡ fitRoute r
-  unfolding fitRoute
-  fit-long e h = simp (eq-eqb (length r) 32 e, lt-leb (len r) 32 h)
-
-  pub fit-rest : length r ≡ 32 → len r ≤ 32
-      → (eqb (hostBits (dst r) (len r)) 0 && ltb (tos r) 256 && isKind (kind r) && ltb (proto r) 256 && ltb (scope r) 256
-      && optional (prefsrcPresent r) (prefsrc r) && optional (gatewayPresent r) (gateway r)
-      && leb (device r) 1 && leb (onlink r) 1 && leb (usesGateway r) 1) ≡ fitRoute r
-  unfolding fitRoute
-  fit-rest e h = rw (eq-eqb (length r) 32 e, le-leb (len r) 32 h)
 
 -- ---- pairs
 abbrev pub fitPair : Row → Bool

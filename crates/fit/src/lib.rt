@@ -2,7 +2,6 @@
 ghost use mathlib.Core.Path.{_≡_};
 ghost use Prim.Native.Nat.{_≤_};
 ghost use lib.ListN.{length};
-ghost use Rattle.layout.specs.Route.{fitRoute};
 ghost use Rattle.layout.specs.Request.{fitAddV4, fitDelV4, fitRouteWords, fitPairs, pairCount, fitAddRoute4, fitDelRoute4};
 
 pub fn fit_add_v4(q: &[u32]) -> bool
@@ -84,26 +83,4 @@ pub fn fit_del_route4(q: &[u32]) -> bool
         return false;
     }
     fields & fit_pairs(q)
-}
-
-// Whether a row could stand in a well-formed state.
-pub fn fit_route(r: &[u32]) -> bool
-    ensures { λ b. ⌜ b ≡ fitRoute (now (r .entry)) ⌝ }
-{
-    if r.len() != 32 {
-        return false;
-    }
-    if 32 < r[2] {
-        return false;
-    }
-    (prefix::host_bits4(r[1], r[2]) == 0)
-        & (r[3] < 256)
-        & kind::is_kind(r[5])
-        & (r[6] < 256)
-        & (r[7] < 256)
-        & address::fit_optional(r[8], r[9])
-        & address::fit_optional(r[10], r[11])
-        & (r[12] <= 1)
-        & (r[13] <= 1)
-        & (r[14] <= 1)
 }

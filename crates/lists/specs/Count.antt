@@ -3,12 +3,14 @@
 use Prim.Native.Nat.{ℕ, suc, _+_, _≤_, _<_}
 use mathlib.Core.Path.{_≡_, refl, sym, ap, _∙_}
 use mathlib.Core.Bool.{Bool, true, false, cond, not, _||_}
-use mathlib.Core.List.{List, [], _∷_, _++_, map}
+use mathlib.Core.List.{List, [], _∷_, _++_, map, reverse, reverseAux}
 use mathlib.Core.Option.{Option, some}
 use native.Mathlib.Omega.{arith}
+use lib.Dec.{eqb}
+use borrow.Author.Tests.{eqb-true, eq-eqb}
 use lib.ListN.{length, length-append}
-use Rattle.lists.specs.Lists.{Row, all, any, keep, first, until, onward, removeFirst, replaceFirst, behindLast, eqRow}
-use Rattle.lists.specs.All.{all-kept, fails, cond-case, test-case, true-false, or-case, or-false, or-left, or-right, all-head, all-tail, eqRow-true, eq-eqRow, eqRow-refl}
+use Rattle.lists.specs.Lists.{Row, all, any, keep, first, until, onward, removeFirst, replaceFirst, behindLast, pairwise, each, eqRow}
+use Rattle.lists.specs.All.{all-append, not-both, pairwise-head, pairwise-tail, all-kept, fails, cond-case, test-case, true-false, or-case, or-false, or-left, or-right, all-head, all-tail, eqRow-true, eq-eqRow, eqRow-refl}
 
 -- 1 where a test passes
 abbrev pub tick : Bool → ℕ
@@ -93,6 +95,11 @@ module _ {A : Type 0} where
   length-removeFirst q (x ∷ l) h =
       cond-case (λ (m : List A). suc (length m) ≡ suc (length l)) (q x) (λ e. refl)
       (λ e. ap suc (length-removeFirst q l (or-case (q x) (any q l) h (λ d. absurd (true-false (q x) d e)) (λ d. d))))
+
+  pub length-removeFirst-most : (q : A → Bool) (l : List A) → length (removeFirst q l) ≤ length l
+  length-removeFirst-most q [] = omega arith
+  length-removeFirst-most q (x ∷ l) =
+      cond-case (λ (m : List A). length m ≤ suc (length l)) (q x) (λ e. omega arith) (λ e. omega (arith, length-removeFirst-most q l))
 
   pub length-replaceFirst : (q : A → Bool) (y : A) (l : List A) → length (replaceFirst q y l) ≡ length l
   length-replaceFirst q y [] = refl
@@ -209,3 +216,61 @@ onward-first p (x ∷ l) a e = go (p x) e (onward-first p l a)
     go : (b : Bool) → cond b (some x) (first p l) ≡ some a → (first p l ≡ some a → any (eqRow a) (onward p l) ≡ true) → any (eqRow a) (cond b (x ∷ l) (onward p l)) ≡ true
     go true d ih = let same : a ≡ x = cc in or-left (eqRow a x) (any (eqRow a) l) (eq-eqRow a x same)
     go false d ih = ih d
+
+-- ---- lists put together, one for each element
+pub all-each : {A B : Type 0} (p : B → Bool) (f : A → List B) (l : List A) → ((x : A) → all p (f x) ≡ true) → all p (each f l) ≡ true
+all-each p f [] h = refl
+all-each p f (x ∷ l) h = all-append p (f x) (each f l) (h x) (all-each p f l h)
+
+pub count-each : {A B : Type 0} (p : B → Bool) (q : A → Bool) (f : A → List B) (l : List A) → ((x : A) → count p (f x) ≤ tick (q x)) → count p (each f l) ≤ count q l
+count-each p q f [] h = omega arith
+count-each p q f (x ∷ l) h = omega (arith, h x, count-each p q f l h, count-append p (f x) (each f l))
+
+count-reverseAux : {A : Type 0} (p : A → Bool) (l m : List A) → count p (reverseAux l m) ≡ count p l + count p m
+count-reverseAux p [] m = omega arith
+count-reverseAux p (x ∷ l) m = omega (arith, count-reverseAux p l (x ∷ m))
+
+pub count-reverse : {A : Type 0} (p : A → Bool) (l : List A) → count p (reverse l) ≡ count p l
+count-reverse p l = omega (arith, count-reverseAux p l [])
+
+-- no number twice
+pub record Once (l : List ℕ) : Type 0 where
+  pub once : (n : ℕ) → count (eqb n) l ≤ 1
+
+pub pairwise-once : (l : List ℕ) → pairwise (λ a b. not (eqb a b)) l ≡ true → Once l
+pairwise-once [] h = record { once = λ n. omega arith }
+pairwise-once (x ∷ l) h =
+    record {
+      once = λ n.
+          test-case (eqb n x)
+          (λ e.
+          let others : count (eqb n) l ≡ 0 =
+          count-apart (λ b. not (eqb x b)) (eqb n) l
+          (λ b k. fails (eqb n b) (λ d. not-both (eqb x b) (eq-eqb x b (sym (eqb-true n x e) ∙ eqb-true n b d)) k))
+          (pairwise-head (λ a b. not (eqb a b)) x l h)
+          in
+          omega (arith, tick-most (eqb n x)))
+          (λ e. omega (arith, tick-none (eqb n x) e, (pairwise-once l (pairwise-tail (λ a b. not (eqb a b)) x l h)) .once n));
+    }
+
+-- for each of some numbers the elements that have it
+picked-cons : {A : Type 0} (g : A → ℕ) (x : A) (rows : List A) (l : List ℕ)
+    → length (each (λ t. keep (λ r. eqb (g r) t) (x ∷ rows)) l) ≡ count (eqb (g x)) l + length (each (λ t. keep (λ r. eqb (g r) t) rows) l)
+picked-cons g x rows [] = omega arith
+picked-cons g x rows (t ∷ l) =
+    omega (
+      arith,
+      picked-cons g x rows l,
+      length-append (keep (λ r. eqb (g r) t) (x ∷ rows)) (each (λ t. keep (λ r. eqb (g r) t) (x ∷ rows)) l),
+      length-append (keep (λ r. eqb (g r) t) rows) (each (λ t. keep (λ r. eqb (g r) t) rows) l),
+      length-keep (λ r. eqb (g r) t) (x ∷ rows),
+      length-keep (λ r. eqb (g r) t) rows,
+    )
+
+picked-none : {A : Type 0} (g : A → ℕ) (l : List ℕ) → length (each {A = ℕ} {B = A} (λ t. keep (λ r. eqb (g r) t) []) l) ≡ 0
+picked-none g [] = refl
+picked-none g (t ∷ l) = picked-none g l
+
+pub length-picked : {A : Type 0} (g : A → ℕ) (rows : List A) (l : List ℕ) → Once l → length (each (λ t. keep (λ r. eqb (g r) t) rows) l) ≤ length rows
+length-picked g [] l o = omega (arith, picked-none g l)
+length-picked g (x ∷ rows) l o = omega (arith, picked-cons g x rows l, length-picked g rows l o, o .once (g x))

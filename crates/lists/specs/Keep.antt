@@ -3,14 +3,9 @@ use mathlib.Core.Path.{_≡_, refl, sym, _∙_, ap}
 use mathlib.Core.Bool.{Bool, true, false, cond, not, _&&_, true≢false}
 use mathlib.Core.List.{List, [], _∷_, _++_, reverse, reverseAux}
 use Rattle.lists.specs.Lists.{all, any, keep, first, removeFirst, replaceFirst, pairwise, each}
-use Rattle.lists.specs.All.{and-left, and-right}
+use Rattle.lists.specs.All.{and-left, and-right, test-case}
 
 -- ---- tests
--- by cases on a test, each with its outcome
-pub byCase : {G : Type 0} (b : Bool) → (b ≡ true → G) → (b ≡ false → G) → G
-byCase true t f = t refl
-byCase false t f = f refl
-
 -- what follows from a test that holds doesn't hold where the test fails
 pub contrary : (a b : Bool) → (a ≡ true → b ≡ true) → b ≡ false → a ≡ false
 contrary true b f h = absurd (true≢false (sym (f refl) ∙ h))
@@ -40,7 +35,7 @@ module _ {A : Type 0} where
   pub keep-append : (p : A → Bool) (l m : List A) → keep p (l ++ m) ≡ keep p l ++ keep p m
   keep-append p [] m = refl
   keep-append p (x ∷ l) m =
-      byCase (p x) (λ e. rw (e, keep-append p l m)) (λ e. rw (e, keep-append p l m))
+      test-case (p x) (λ e. rw (e, keep-append p l m)) (λ e. rw (e, keep-append p l m))
 
   pub keep-each : {B : Type 0} (p : A → Bool) (f : B → List A) (l : List B) → keep p (each f l) ≡ each (λ x. keep p (f x)) l
   keep-each p f [] = refl
@@ -51,31 +46,31 @@ module _ {A : Type 0} where
     where
       go : (l m : List A) → keep p (reverseAux l m) ≡ reverseAux (keep p l) (keep p m)
       go [] m = refl
-      go (x ∷ l) m = go l (x ∷ m) ∙ byCase (p x) (λ e. rw e) (λ e. rw e)
+      go (x ∷ l) m = go l (x ∷ m) ∙ test-case (p x) (λ e. rw e) (λ e. rw e)
 
   pub all-joined : (p : A → Bool) (l m : List A) → all p (l ++ m) ≡ (all p l && all p m)
   all-joined p [] m = refl
-  all-joined p (x ∷ l) m = byCase (p x) (λ e. rw (e, all-joined p l m)) (λ e. rw e)
+  all-joined p (x ∷ l) m = test-case (p x) (λ e. rw (e, all-joined p l m)) (λ e. rw e)
 
   pub keep-keep : (p q : A → Bool) (l : List A) → keep p (keep q l) ≡ keep q (keep p l)
   keep-keep p q [] = refl
   keep-keep p q (x ∷ l) =
-      byCase (p x)
-      (λ e. byCase (q x) (λ f. rw (f, e, f, keep-keep p q l)) (λ f. rw (f, e, f, keep-keep p q l)))
-      (λ e. byCase (q x) (λ f. rw (f, e, keep-keep p q l)) (λ f. rw (f, e, keep-keep p q l)))
+      test-case (p x)
+      (λ e. test-case (q x) (λ f. rw (f, e, f, keep-keep p q l)) (λ f. rw (f, e, f, keep-keep p q l)))
+      (λ e. test-case (q x) (λ f. rw (f, e, keep-keep p q l)) (λ f. rw (f, e, keep-keep p q l)))
 
   -- where none that passes p passes q
   pub keep-none : (p q : A → Bool) → ((x : A) → p x ≡ true → q x ≡ false) → (l : List A) → keep p (keep q l) ≡ []
   keep-none p q i [] = refl
   keep-none p q i (x ∷ l) =
-      byCase (p x) (λ e. rw (i x e) (keep-none p q i l))
-      (λ e. byCase (q x) (λ f. rw (f, e) (keep-none p q i l)) (λ f. rw f (keep-none p q i l)))
+      test-case (p x) (λ e. rw (i x e) (keep-none p q i l))
+      (λ e. test-case (q x) (λ f. rw (f, e) (keep-none p q i l)) (λ f. rw f (keep-none p q i l)))
 
   -- elements for which f gives nothing may go
   pub each-keep : {B : Type 0} (f : A → List B) (q : A → Bool) → ((x : A) → q x ≡ false → f x ≡ []) → (l : List A) → each f (keep q l) ≡ each f l
   each-keep f q i [] = refl
   each-keep f q i (x ∷ l) =
-      byCase (q x) (λ e. rw (e, each-keep f q i l)) (λ e. rw (e, i x e) (each-keep f q i l))
+      test-case (q x) (λ e. rw (e, each-keep f q i l)) (λ e. rw (e, i x e) (each-keep f q i l))
 
   pub each-same : {B : Type 0} (f g : A → List B) → ((x : A) → f x ≡ g x) → (l : List A) → each f l ≡ each g l
   each-same f g i [] = refl
@@ -86,46 +81,46 @@ module _ {A : Type 0} where
     pub keep-within : (l : List A) → keep p (keep q l) ≡ keep p l
     keep-within [] = refl
     keep-within (x ∷ l) =
-        byCase (p x) (λ e. rw (i x e, e, keep-within l))
-        (λ e. byCase (q x) (λ f. rw (f, e) (keep-within l)) (λ f. rw (f, e) (keep-within l)))
+        test-case (p x) (λ e. rw (i x e, e, keep-within l))
+        (λ e. test-case (q x) (λ f. rw (f, e) (keep-within l)) (λ f. rw (f, e) (keep-within l)))
 
     pub any-within : (l : List A) → any p (keep q l) ≡ any p l
     any-within [] = refl
     any-within (x ∷ l) =
-        byCase (p x) (λ e. rw (i x e, e))
-        (λ e. byCase (q x) (λ f. rw (f, e) (any-within l)) (λ f. rw (f, e) (any-within l)))
+        test-case (p x) (λ e. rw (i x e, e))
+        (λ e. test-case (q x) (λ f. rw (f, e) (any-within l)) (λ f. rw (f, e) (any-within l)))
 
     pub first-within : (l : List A) → first p (keep q l) ≡ first p l
     first-within [] = refl
     first-within (x ∷ l) =
-        byCase (p x) (λ e. rw (i x e, e))
-        (λ e. byCase (q x) (λ f. rw (f, e) (first-within l)) (λ f. rw (f, e) (first-within l)))
+        test-case (p x) (λ e. rw (i x e, e))
+        (λ e. test-case (q x) (λ f. rw (f, e) (first-within l)) (λ f. rw (f, e) (first-within l)))
 
     pub removeFirst-within : (l : List A) → removeFirst p (keep q l) ≡ keep q (removeFirst p l)
     removeFirst-within [] = refl
     removeFirst-within (x ∷ l) =
-        byCase (p x) (λ e. rw (i x e, e))
-        (λ e. byCase (q x) (λ f. rw (f, e, f, removeFirst-within l)) (λ f. rw (f, e, f) (removeFirst-within l)))
+        test-case (p x) (λ e. rw (i x e, e))
+        (λ e. test-case (q x) (λ f. rw (f, e, f, removeFirst-within l)) (λ f. rw (f, e, f) (removeFirst-within l)))
 
     pub replaceFirst-within : (y : A) → q y ≡ true → (l : List A) → replaceFirst p y (keep q l) ≡ keep q (replaceFirst p y l)
     replaceFirst-within y k [] = refl
     replaceFirst-within y k (x ∷ l) =
-        byCase (p x) (λ e. rw (i x e, e, k))
-        (λ e. byCase (q x) (λ f. rw (f, e, f, replaceFirst-within y k l)) (λ f. rw (f, e, f) (replaceFirst-within y k l)))
+        test-case (p x) (λ e. rw (i x e, e, k))
+        (λ e. test-case (q x) (λ f. rw (f, e, f, replaceFirst-within y k l)) (λ f. rw (f, e, f) (replaceFirst-within y k l)))
 
   -- ---- a test that no element kept by q passes
   module _ (p q : A → Bool) (i : (x : A) → p x ≡ true → q x ≡ false) where
     pub removeFirst-without : (l : List A) → keep q (removeFirst p l) ≡ keep q l
     removeFirst-without [] = refl
     removeFirst-without (x ∷ l) =
-        byCase (p x) (λ e. rw (e, i x e))
-        (λ e. rw e (byCase (q x) (λ f. rw (f, removeFirst-without l)) (λ f. rw f (removeFirst-without l))))
+        test-case (p x) (λ e. rw (e, i x e))
+        (λ e. rw e (test-case (q x) (λ f. rw (f, removeFirst-without l)) (λ f. rw f (removeFirst-without l))))
 
     pub replaceFirst-without : (y : A) → q y ≡ false → (l : List A) → keep q (replaceFirst p y l) ≡ keep q l
     replaceFirst-without y k [] = refl
     replaceFirst-without y k (x ∷ l) =
-        byCase (p x) (λ e. rw (e, k, i x e))
-        (λ e. rw e (byCase (q x) (λ f. rw (f, replaceFirst-without y k l)) (λ f. rw f (replaceFirst-without y k l))))
+        test-case (p x) (λ e. rw (e, k, i x e))
+        (λ e. rw e (test-case (q x) (λ f. rw (f, replaceFirst-without y k l)) (λ f. rw f (replaceFirst-without y k l))))
 
 -- ---- a list in an order
 module _ {A : Type 0} (r : A → A → Bool) (p : A → Bool) (i : (a b : A) → r a b ≡ true → p b ≡ true → p a ≡ true) where
@@ -141,7 +136,7 @@ module _ {A : Type 0} (r : A → A → Bool) (p : A → Bool) (i : (a b : A) →
   keep-split [] h = refl
   keep-split (x ∷ l) h =
       let later = keep-split l (and-right (all (r x) l) (pairwise r l) h) in
-      byCase (p x) (λ e. rw (e, later))
+      test-case (p x) (λ e. rw (e, later))
       (λ e.
       let none-passes = keep-behind x e l (and-left (all (r x) l) (pairwise r l) h) in
       let rest : keep (λ x. not (p x)) l ≡ l = rw none-passes at later in

@@ -22,7 +22,7 @@ use Rattle.definition.specs.Step.{Result, changing, reading, eventsFit, 
 use Rattle.definition.specs.Kept.Fit.{Fit, fit-state}
 use Rattle.definition.specs.Kept.Encode.{Good}
 use Rattle.definition.specs.Kept.Keeps.{Keeps, KeptOutcome}
-use Rattle.definition.specs.Kept.Steps.{addV4-keeps, up-keeps, down-keeps}
+use Rattle.definition.specs.Kept.Addresses.{addV4-keeps, up-keeps, down-keeps}
 use Rattle.definition.specs.Kept.Removal.{delV4-keeps, expire-keeps}
 use Rattle.definition.specs.Kept.Requests.{addRoute4-keeps, delRoute4-keeps}
 use Rattle.definition.specs.Kept.Numbers.{Numbered, addV4-number, delV4-number, addRoute4-number, delRoute4-number}

@@ -20,7 +20,7 @@ use Rattle.definition.specs.Reference.Removal.{ofKind, unwanted, straysF
 use Rattle.definition.specs.Kept.Fit.{Fit}
 use Rattle.definition.specs.Kept.Keeps.{through-keeps, Kept, Keeps, KeptOutcome, KeepsOutcome, fit-addresses, becomes-kept, stays-keeps, also-kept, through-each}
 use Rattle.definition.specs.Kept.Rows.{faded-fit, newAddr4-told, delAddr4-told}
-use Rattle.definition.specs.Kept.Steps.{kernelDel4-keeps, dropped-kept}
+use Rattle.definition.specs.Kept.Addresses.{kernelDel4-keeps, dropped-kept}
 
 pub fall-keeps : (a : Row) (routes : List Row) → Keeps (fall a routes)
 unfolding fall

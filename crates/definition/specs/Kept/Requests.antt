@@ -20,7 +20,7 @@ use Rattle.definition.specs.Kept.Fit.{Fit}
 use Rattle.definition.specs.Kept.Routes.{removeFirst-fit, Puts, insert-fit}
 use Rattle.definition.specs.Kept.Keeps.{KeptOutcome, KeepsOutcome, fit-routes, becomes-kept, stays-keeps}
 use Rattle.definition.specs.Kept.Rows.{askedRoute-fit, newRoute4-told, delRoute4-told}
-use Rattle.definition.specs.Kept.Steps.{create4-fit}
+use Rattle.definition.specs.Kept.Addresses.{create4-fit}
 
 insertedAs-kept : (new : Row) (i : Inserted) (st : State) → fitRoute new ≡ true → Puts i → Fit st → KeptOutcome (insertedAs new i st)
 insertedAs-kept new (put rows flags) st h p f =

@@ -153,7 +153,7 @@ outcome-only (goes o) w s h =
 outcome-only (refused n st) w s h =
     cond-case (λ (r : Result). r .reply .number ≡ 203 → within (sizes st) ≡ false) (within (sizes st)) (λ e k. absurd (omega (arith, s .numbered .most))) (λ e k. e) h
 
-checks-most : (buffers state request : Bool) → checks buffers state request ≤ 202
+pub checks-most : (buffers state request : Bool) → checks buffers state request ≤ 202
 checks-most true true true = omega arith
 checks-most true true false = omega arith
 checks-most true false request = omega arith

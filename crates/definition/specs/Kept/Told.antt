@@ -24,9 +24,9 @@ use Rattle.definition.specs.Reference.Lookup.{listed}
 use Rattle.definition.specs.Kept.Fit.{Fit, fit-state}
 use Rattle.definition.specs.Kept.Encode.{Good}
 use Rattle.definition.specs.Kept.Keeps.{Kept, KeptOutcome}
-use Rattle.definition.specs.Kept.Steps.{addV4-keeps, up-keeps}
-use Rattle.definition.specs.Kept.Adding.{Adds, newAddress-adds, up-adds}
-use Rattle.definition.specs.Kept.Removing.{Drops, live, removeV4-drops, expire-drops}
+use Rattle.definition.specs.Kept.Addresses.{addV4-keeps, up-keeps}
+use Rattle.definition.specs.Kept.Growing.{Adds, newAddress-adds, up-adds}
+use Rattle.definition.specs.Kept.Shrinking.{Drops, live, removeV4-drops, expire-drops}
 
 -- ---- few rows
 -- a step that keeps to the limits tells of at most 384 rows

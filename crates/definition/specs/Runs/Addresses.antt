@@ -7,8 +7,8 @@ use mathlib.Core.Option.{Option, none, some}
 use lib.Dec.{eqb}
 use lib.ListN.{length}
 use Rattle.lists.specs.Lists.{Row, keep, all, any, first, removeFirst, eqRow}
-use Rattle.lists.specs.All.{all-keep, all-kept, all-mono}
-use Rattle.lists.specs.Keep.{Implies, byCase, cond-map, cond-same, all-joined, keep-keep, keep-within}
+use Rattle.lists.specs.All.{all-keep, all-kept, all-mono, test-case}
+use Rattle.lists.specs.Keep.{Implies, cond-map, cond-same, all-joined, keep-keep, keep-within}
 use Rattle.layout.specs.Address.{local}
 use Rattle.layout.specs.Route as Route
 use Rattle.layout.specs.Route.{table, dst, len, kind}
@@ -124,7 +124,7 @@ module _ (chosen : ℕ → Bool) (choice : Choice chosen) where
   strays-outside : (ip : ℕ) → Implies (straysFrom ip) (outside chosen)
   strays-outside ip r h =
       unchosen-as chosen mainTable (table r) (main-open chosen choice)
-      (byCase (eqb (table r) mainTable) (λ e. e) (λ e. absurd (false≢true (rw e at h))))
+      (test-case (eqb (table r) mainTable) (λ e. e) (λ e. absurd (false≢true (rw e at h))))
 
   falling : ℕ → State → List Row
   falling ip st = cond (listed mainTable st) (keep (straysFrom ip) (st .routes)) []
@@ -132,7 +132,7 @@ module _ (chosen : ℕ → Bool) (choice : Choice chosen) where
   falling-outside : (ip : ℕ) (st : State) → all (outside chosen) (falling ip st) ≡ true
   unfolding falling
   falling-outside ip st =
-      byCase (listed mainTable st)
+      test-case (listed mainTable st)
       (λ e. rw e (all-mono (straysFrom ip) (outside chosen) (keep (straysFrom ip) (st .routes)) (strays-outside ip) (all-kept (straysFrom ip) (st .routes))))
       (λ e. rw e)
 

@@ -3,7 +3,8 @@ use Prim.Native.Nat.{ℕ}
 use mathlib.Core.Path.{_≡_, refl, ap}
 use mathlib.Core.Bool.{Bool, true, false, cond, false≢true}
 use lib.Dec.{leb}
-use Rattle.lists.specs.Keep.{byCase, keep-within}
+use Rattle.lists.specs.All.{test-case}
+use Rattle.lists.specs.Keep.{keep-within}
 use Rattle.life.specs.Life.{allowance}
 use Rattle.definition.specs.State.{State, Out}
 use Rattle.definition.specs.Words.{ordered}
@@ -20,7 +21,7 @@ use Rattle.definition.specs.Runs.Tables.{lookupIn-apart, local4-apart}
 use Rattle.definition.specs.Runs.Addresses.{addV4-apart, up-apart, down-apart, delV4-apart, expire-apart}
 use Rattle.definition.specs.Runs.Routes.{addRoute4-apart, delRoute4Request-apart, dump4-apart}
 use Rattle.definition.specs.Runs.Struck.{Hidden, addRoute4-unseen, delRoute4Request-unseen}
-use Rattle.definition.specs.Runs.Calls.{Deed, changes, reads, deed, answered, freely}
+use Rattle.definition.specs.Runs.Calls.{Deed, changing-by, reads, deed, answered, freely}
 
 module _ (chosen : ℕ → Bool) (choice : Choice chosen) where
   -- ---- a deed that goes the same way without the chosen tables
@@ -28,7 +29,7 @@ module _ (chosen : ℕ → Bool) (choice : Choice chosen) where
     reply : freely d (without chosen st) .reply ≡ freely d st .reply
     state : freely d (without chosen st) .state ≡ without chosen (freely d st .state)
 
-  changes-level : (buffers request : Bool) (f : State → Outcome) (st : State) → Tandem chosen (f st) (f (without chosen st)) → Level (changes buffers request f) st
+  changes-level : (buffers request : Bool) (f : State → Outcome) (st : State) → Tandem chosen (f st) (f (without chosen st)) → Level (changing-by buffers request f) st
   unfolding freely
   changes-level false request f st t = record { reply = refl; state = refl }
   changes-level true false f st t = record { reply = refl; state = refl }
@@ -43,7 +44,7 @@ module _ (chosen : ℕ → Bool) (choice : Choice chosen) where
       same-result o p (both-go m) = m .state
       same-result o p (both-refuse n s) = refl
 
-  step-level : (buffers request : Bool) (f : State → Out) (st : State) → Apart chosen f → Level (changes buffers request (λ s. goes (f s))) st
+  step-level : (buffers request : Bool) (f : State → Out) (st : State) → Apart chosen f → Level (changing-by buffers request (λ s. goes (f s))) st
   step-level buffers request f st a = changes-level buffers request (λ s. goes (f s)) st (both-go (a st))
 
   reads-level : (buffers row request : Bool) (f : State → Reply) (st : State) → f (without chosen st) ≡ f st → Level (reads buffers row request f) st
@@ -64,7 +65,7 @@ module _ (chosen : ℕ → Bool) (choice : Choice chosen) where
   dump4-same room st =
       record {
         reply =
-            byCase (leb listingRoom room)
+            test-case (leb listingRoom room)
             (λ e. rw e (ap written (rw (dump4-apart chosen choice st) (keep-within (outside chosen) (outside chosen) (λ r h. h) (dump4 st)))))
             (λ e. rw e);
         state = refl;
@@ -95,7 +96,7 @@ module _ (chosen : ℕ → Bool) (choice : Choice chosen) where
   same (Call.select4 dstPresent dst scope) h st = level _ st (reads-level _ _ _ _ st refl)
 
   -- ---- a call that is struck
-  changes-hidden : (buffers request : Bool) (f : State → Outcome) (st : State) → Hidden chosen choice st (f st) → without chosen (freely (changes buffers request f) st .state) ≡ without chosen st
+  changes-hidden : (buffers request : Bool) (f : State → Outcome) (st : State) → Hidden chosen choice st (f st) → without chosen (freely (changing-by buffers request f) st .state) ≡ without chosen st
   unfolding freely
   changes-hidden false request f st h = refl
   changes-hidden true false f st h = refl

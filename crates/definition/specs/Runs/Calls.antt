@@ -3,46 +3,49 @@ use Prim.Native.Nat.{ℕ}
 use mathlib.Core.Path.{_≡_, refl}
 use mathlib.Core.Bool.{Bool, true, false, cond, not, _&&_, false≢true}
 use mathlib.Core.List.{List}
+use mathlib.Core.Option.{Option, none, some}
 use lib.Dec.{eqb, leb, ltb}
 use lib.ListN.{length}
 use borrow.Author.Tests.{eq-eqb}
-use Rattle.lists.specs.Keep.{byCase}
-use Rattle.life.specs.Life.{allowance}
+use Rattle.lists.specs.All.{test-case}
 use Rattle.layout.specs.Address.{optional}
 use Rattle.layout.specs.Route as Route
 use Rattle.layout.specs.Route.{fitRoute}
-use Rattle.layout.specs.Request.{addV4Size, fitAddV4, delV4Size, fitDelV4, addRoute4Size, fitAddRoute4, delRoute4Size, fitDelRoute4}
 use Rattle.definition.specs.State.{State}
 use Rattle.definition.specs.Words.{stateSize, encode, decode}
 use Rattle.definition.specs.Call.{Call, Reply, refusal, valued, written, optionally, foundRow}
 use Rattle.definition.specs.Reference.Lookup.{lookup4, lookup4Flow, local4}
-use Rattle.definition.specs.Reference.Addresses.{Outcome, goes, refused, addV4, up, down}
-use Rattle.definition.specs.Reference.Removal.{delV4, expire}
-use Rattle.definition.specs.Reference.Routes.{addRoute4, delRoute4Request}
+use Rattle.definition.specs.Reference.Addresses.{Outcome, goes, refused}
 use Rattle.definition.specs.Reference.Source.{dump4, select4, source4, source, present}
-use Rattle.definition.specs.Step.{Result, checks, outcome, changing, reading, eventsFit, requestIs, listingRoom, clockLimit, upCall, downCall, addV4Call, delV4Call, expireCall, addRoute4Call, delRoute4Call, dump4Call, lookup4Call, lookup4FlowCall, local4Call, source4Call, sourceCall, select4Call, step}
+use Rattle.definition.specs.Step.{Result, checks, outcome, changing, reading, listingRoom, upCall, downCall, addV4Call, delV4Call, expireCall, addRoute4Call, delRoute4Call, dump4Call, lookup4Call, lookup4FlowCall, local4Call, source4Call, sourceCall, select4Call, step}
 use Rattle.definition.specs.Kept.Fit.{state-fit}
 use Rattle.definition.specs.Kept.Encode.{Good, decode-encode}
 use Rattle.definition.specs.Kept.Keeps.{KeptOutcome}
-use Rattle.definition.specs.Kept.Change.{Sounds, sounds}
+use Rattle.definition.specs.Kept.Change.{Change, changeOf, change, Sounds, sounds}
 use Rattle.definition.specs.Kept.Step.{Held, held-encode, good-held, good-kept, roomy}
 use Rattle.definition.specs.Runs.Projection.{result}
 
--- what a call does, with the tests of its buffers, of a row handed over and of its request
+-- what a call does: a change, or a reply with the tests of its buffers, of a row handed over and of its request
 pub data Deed : Type 0 where
-  changes : (buffers request : Bool) → (State → Outcome) → Deed
+  changes : Change → Deed
   reads : (buffers row request : Bool) → (State → Reply) → Deed
 
+-- the deed of a call that has a change
+abbrev changing-deed : Option Change → Deed
+changing-deed (some d) = changes d
+changing-deed none = reads true true true (λ st. refusal 0)
+
+abbrev pub changing-by : Bool → Bool → (State → Outcome) → Deed
+changing-by buffers request f = changes (record { buffers = buffers; request = request; does = f })
+
 abbrev pub deed : Call → Deed
-deed (Call.up events now) = changes (eventsFit events) true (λ st. goes (up now st))
-deed (Call.down events) = changes (eventsFit events) true (λ st. goes (down st))
-deed (Call.addV4 q events now) = changes (requestIs addV4Size q && eventsFit events) (fitAddV4 q) (addV4 q now)
-deed (Call.delV4 q events) = changes (requestIs delV4Size q && eventsFit events) (fitDelV4 q) (delV4 q)
-deed (Call.expire events now) = changes (eventsFit events) (leb now clockLimit) (λ st. goes (expire allowance now st))
-deed (Call.addRoute4 q events) =
-    changes (requestIs addRoute4Size q && eventsFit events) (fitAddRoute4 q) (addRoute4 q)
-deed (Call.delRoute4 q events) =
-    changes (requestIs delRoute4Size q && eventsFit events) (fitDelRoute4 q) (delRoute4Request q)
+deed (Call.up events now) = changing-deed (changeOf (Call.up events now))
+deed (Call.down events) = changing-deed (changeOf (Call.down events))
+deed (Call.addV4 q events now) = changing-deed (changeOf (Call.addV4 q events now))
+deed (Call.delV4 q events) = changing-deed (changeOf (Call.delV4 q events))
+deed (Call.expire events now) = changing-deed (changeOf (Call.expire events now))
+deed (Call.addRoute4 q events) = changing-deed (changeOf (Call.addRoute4 q events))
+deed (Call.delRoute4 q events) = changing-deed (changeOf (Call.delRoute4 q events))
 deed (Call.dump4 listing) = reads (leb listingRoom listing) true true (λ st. written (dump4 st))
 deed (Call.lookup4 rowRoom ip) = reads (leb Route.size rowRoom) true true (λ st. foundRow (lookup4 st ip))
 deed (Call.lookup4Flow rowRoom ip tos oif) =
@@ -55,7 +58,7 @@ deed (Call.select4 dstPresent dst scope) =
     (λ st. optionally (select4 (st .addresses) (present dstPresent dst) scope))
 
 abbrev performed : Deed → List ℕ → Result
-performed (changes buffers request f) w = changing buffers request f w
+performed (changes d) w = change d w
 performed (reads buffers row request f) w = reading buffers row request f w
 
 step-performed : (c : Call) (w : List ℕ) → step c w ≡ performed (deed c) w
@@ -86,9 +89,10 @@ answered (goes o) = written (o .told)
 answered (refused n st) = refusal n
 
 unfoldable pub freely : Deed → State → Done
-freely (changes buffers request f) st =
-    let n = checks buffers true request in
-    cond (eqb n 0) (record { reply = answered (f st); state = result (f st) }) (record { reply = refusal n; state = st })
+freely (changes d) st =
+    let n = checks (d .buffers) true (d .request) in
+    let o = d .does st in
+    cond (eqb n 0) (record { reply = answered o; state = result o }) (record { reply = refusal n; state = st })
 freely (reads buffers row request f) st =
     let n = checks buffers row request in
     record { reply = cond (eqb n 0) (f st) (refusal n); state = st }
@@ -96,7 +100,7 @@ freely (reads buffers row request f) st =
 -- ---- with limits
 -- every list keeps to its limit at every moment
 abbrev pub fitting : Deed → State → Bool
-fitting (changes buffers request f) st = cond (buffers && request) (roomy (f st)) true
+fitting (changes d) st = cond (d .buffers && d .request) (roomy (d .does st)) true
 fitting (reads buffers row request f) st = true
 
 unfoldable pub bounded : Deed → State → Done
@@ -104,7 +108,7 @@ bounded d st = cond (fitting d st) (freely d st) (record { reply = refusal 203; 
 
 -- ---- what every deed keeps
 abbrev Keeping : Deed → Type 0
-Keeping (changes buffers request f) = Sounds (record { buffers = buffers; request = request; does = f })
+Keeping (changes d) = Sounds d
 Keeping (reads buffers row request f) = Unit {0}
 
 keeping : (c : Call) → Keeping (deed c)
@@ -143,7 +147,7 @@ outcome-roomy : (o : Outcome) (w : List ℕ) → outcome o w ≡ cond (roomy o) 
 outcome-roomy (goes o) w = refl
 outcome-roomy (refused n st) w = refl
 
-follows-changes : (buffers request : Bool) (f : State → Outcome) → Keeping (changes buffers request f) → (w : List ℕ) → Held w → Follows (changes buffers request f) w (changing buffers request f w)
+follows-changes : (buffers request : Bool) (f : State → Outcome) → Keeping (changing-by buffers request f) → (w : List ℕ) → Held w → Follows (changing-by buffers request f) w (changing buffers request f w)
 unfolding bounded freely
 follows-changes false request f k w s =
     rw (changing-held false request f w s) (record { held = s; reply = refl; state = refl })
@@ -152,7 +156,7 @@ follows-changes true false f k w s =
 follows-changes true true f k w s =
     let o = f (decode w) in
     rw (changing-held true true f w s, outcome-roomy o w)
-    (byCase (roomy o)
+    (test-case (roomy o)
     (λ room.
     let g = good-result o (k .sound (decode w) (good-held w s) refl refl .kept) room in
     record { held = rw room (held-encode (result o) g); reply = rw room; state = rw room (decode-encode (result o) g) })
@@ -164,7 +168,7 @@ follows-reads buffers row request f w s =
     record { held = s; reply = rw (eq-eqb (length w) stateSize (s .long), s .well); state = refl }
 
 follows : (d : Deed) → Keeping d → (w : List ℕ) → Held w → Follows d w (performed d w)
-follows (changes buffers request f) k w s = follows-changes buffers request f k w s
+follows (changes d) k w s = follows-changes (d .buffers) (d .request) (d .does) k w s
 follows (reads buffers row request f) k w s = follows-reads buffers row request f w s
 
 pub step-follows : (c : Call) (w : List ℕ) → Held w → Follows (deed c) w (step c w)
@@ -177,4 +181,4 @@ spaced r = not (eqb (r .number) 203)
 -- then the limits don't show
 pub bounded-freely : (d : Deed) (st : State) → spaced (bounded d st .reply) ≡ true → bounded d st ≡ freely d st
 unfolding bounded
-bounded-freely d st h = byCase (fitting d st) (λ e. rw e) (λ e. absurd (false≢true (rw e at h)))
+bounded-freely d st h = test-case (fitting d st) (λ e. rw e) (λ e. absurd (false≢true (rw e at h)))

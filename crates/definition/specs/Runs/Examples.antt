@@ -1,4 +1,4 @@
--- Pairs of runs from the empty words that differ in a private table, 7. For each, what both answer, and how a leak would part them;
+-- Pairs of runs from the empty words that differ in a private table, 300. For each, what both answer, and how a leak would part them;
 -- last, a pair that want of space parts.
 use Prim.Native.Nat.{ℕ, zero, suc}
 use mathlib.Core.Path.{_≡_, refl, sym, _∙_, ap, ap₂}
@@ -24,7 +24,7 @@ use Rattle.definition.specs.Runs.Theorem.{two-runs}
 use Rattle.definition.specs.Runs.Computed.{left, ample, answers, run-left, run-ample, run-answers}
 
 abbrev private : ℕ → Bool
-private t = eqb t 7
+private t = eqb t 300
 
 -- ---- calls, with room for their events and rows
 abbrev events : ℕ
@@ -47,7 +47,7 @@ addRoute t ip n kind source =
     ∷ 0
     ∷ 0
     ∷ kind
-    ∷ 3
+    ∷ 2
     ∷ cond (eqb kind 2) 254 0
     ∷ cond (eqb source 0) 0 1
     ∷ source
@@ -90,7 +90,7 @@ check e =
     && eqRow (e .look (answers private (e .calls) empty)) (e .finds)
     && not (eqRow (e .leak (left (e .calls) empty)) (e .leak (left (plain e) empty)))
 
--- then of the words: both runs have room and are alike, the answers are as found, and the leak would part them
+-- then of the words: the two runs are alike, the answers are as found, and the leak would part them
 record Shown (e : Example) : Type 0 where
   alike : Alike private (e .calls) (plain e)
   found : e .look (observed private (e .calls) emptyWords) ≡ e .finds
@@ -113,7 +113,7 @@ shown e h =
     }
 
 -- ---- the examples
--- what the reply before i others from the last wrote, row by row
+-- of the answer with i before it: a number for each row that it wrote, or its value
 abbrev wrote : (Row → ℕ) → ℕ → List Reply → List ℕ
 wrote f i rs = each (λ r. map f (r .rows)) (take 1 (drop i rs))
 
@@ -127,27 +127,27 @@ abbrev oneOf : (Row → ℕ) → Option Row → List ℕ
 oneOf f none = []
 oneOf f (some r) = f r ∷ []
 
--- 127.5.6.7 is looked up: the answer is the local table's /8, though table 7 has a longer row, which rejects
+-- 127.5.6.7 is looked up: the answer is the local table's /8, though table 300 has a longer row, which rejects
 abbrev lookup : Example
 lookup =
     record {
-      calls = up ∷ addRoute 7 0x7f050600 24 6 0 ∷ Call.lookup4 32 0x7f050607 ∷ [];
+      calls = up ∷ addRoute 300 0x7f050600 24 6 0 ∷ Call.lookup4 32 0x7f050607 ∷ [];
       look = wrote len 1;
       finds = 8 ∷ [];
       leak = λ st. oneOf len (answer (λ t. true) (flowTo 0x7f050607) (st .routes));
     }
 
--- the source for 10.0.0.1 is 127.0.0.1, though table 7 has a row there from 127.9.9.9
+-- the source for 10.0.0.1 is 127.0.0.1, though table 300 has a row there from 127.9.9.9
 abbrev choosing : Example
 choosing =
     record {
-      calls = up ∷ addRoute 7 0x0a000000 8 1 0x7f090909 ∷ Call.source 0x0a000001 ∷ [];
+      calls = up ∷ addRoute 300 0x0a000000 8 1 0x7f090909 ∷ Call.source 0x0a000001 ∷ [];
       look = said 1;
       finds = 0x7f000001 ∷ [];
       leak = λ st. oneOf prefsrc (answer (λ t. true) (flowTo 0x0a000001) (st .routes));
     }
 
--- 10.1.0.5 goes, and with it the local row and main's row from it: an event each; table 7's row from it stays
+-- 10.1.0.5 goes, and with it the local row and main's row from it: an event each; table 300's row from it stays
 abbrev stray : Example
 stray =
     record {
@@ -155,7 +155,7 @@ stray =
           up
           ∷ addAddress 0x0a010005
           ∷ addRoute 254 0xc0a80000 16 1 0x0a010005
-          ∷ addRoute 7 0xc0a80000 16 1 0x0a010005
+          ∷ addRoute 300 0xc0a80000 16 1 0x0a010005
           ∷ delAddress 0x0a010005
           ∷ [];
       look = wrote (word 0) 3;
@@ -163,7 +163,8 @@ stray =
       leak = λ st. map table (keep (λ r. eqb (prefsrc r) 0x0a010005) (st .routes));
     }
 
--- the same, where table 7 has a local row for 10.1.0.5: main's row falls all the same
+-- the same, where table 300 has a local row for 10.1.0.5 that is like the local table's and stands before it: the local table's goes,
+-- and main's
 abbrev made-local : Example
 made-local =
     record {
@@ -171,22 +172,22 @@ made-local =
           up
           ∷ addAddress 0x0a010005
           ∷ addRoute 254 0xc0a80000 16 1 0x0a010005
-          ∷ addRoute 7 0x0a010005 32 2 0
+          ∷ addRoute 300 0x0a010005 32 2 0x0a010005
           ∷ delAddress 0x0a010005
           ∷ [];
-      look = wrote (word 0) 3;
-      finds = 2 ∷ 4 ∷ 4 ∷ [];
+      look = wrote (word 2) 3;
+      finds = 0x0a010005 ∷ 255 ∷ 254 ∷ [];
       leak = λ st. oneOf kind (answer (λ t. true) (flowTo 0x0a010005) (st .routes));
     }
 
--- a row of table 5 is deleted, though the one of table 7 to there stands before it
+-- a row of table 5 is deleted, though the one of table 300 to there stands before it
 abbrev deleting : Example
 deleting =
     record {
       calls =
           up
           ∷ addRoute 5 0x0a000000 8 1 0
-          ∷ addRoute 7 0x0a000000 8 1 0
+          ∷ addRoute 300 0x0a000000 8 1 0
           ∷ delRoute 5 0x0a000000 8
           ∷ [];
       look = wrote (word 2) 2;
@@ -194,19 +195,19 @@ deleting =
       leak = λ st. oneOf table (first (λ r. eqb (dst r) 0x0a000000 && eqb (len r) 8) (st .routes));
     }
 
--- tables with one low byte are listed the newest first, and low bytes rising, whatever is listed of table 7 in between
+-- tables are listed by their low byte, rising, and with one low byte the newest first, whatever is listed of table 300 in between
 abbrev listing : Example
 listing =
     record {
       calls =
-          addRoute 8 0x0a000000 8 6 0
-          ∷ addRoute 263 0x0a000000 8 6 0
-          ∷ addRoute 7 0x0a000000 8 6 0
-          ∷ addRoute 519 0x0a000000 8 6 0
+          addRoute 44 0x0a000000 8 6 0
+          ∷ addRoute 300 0x0a000000 8 6 0
+          ∷ addRoute 556 0x0a000000 8 6 0
+          ∷ addRoute 45 0x0a000000 8 6 0
           ∷ dump
           ∷ [];
       look = wrote table 3;
-      finds = 519 ∷ 263 ∷ 8 ∷ [];
+      finds = 556 ∷ 44 ∷ 45 ∷ [];
       leak = λ st. map table (dump4 st);
     }
 
@@ -243,8 +244,9 @@ crowded = crowd 32 ++ (addRoute 100 0 33 1 0 ∷ [])
 abbrev number : List Reply → List ℕ
 number rs = map (λ r. r .number) rs
 
--- the two runs agree, and would be alike if 203 counted for nothing
+-- the two runs agree, and their last request is answered differently
 record Parted (cs ds : List Call) : Type 0 where
+  lawful : Choice chosen
   agree : Agree chosen cs ds
   full : number (observed chosen cs emptyWords) ≡ 203 ∷ []
   spare : number (observed chosen ds emptyWords) ≡ 22 ∷ []
@@ -253,6 +255,7 @@ space-parts : Parted crowded (addRoute 100 0 33 1 0 ∷ [])
 unfolding computing crowd answers bounded freely
 space-parts =
     record {
+      lawful = record { not-0 = refl; not-253 = refl; not-254 = refl; not-255 = refl };
       agree = refl;
       full = ap number (run-answers crowded chosen);
       spare = ap number (run-answers (addRoute 100 0 33 1 0 ∷ []) chosen);

@@ -7,7 +7,8 @@ use mathlib.Core.Option.{Option, none, some}
 use lib.Dec.{eqb}
 use borrow.Author.Tests.{eqb-true}
 use Rattle.lists.specs.Lists.{Row, keep, first}
-use Rattle.lists.specs.Keep.{Implies, byCase, keep-each, keep-reverse, keep-keep, keep-none, each-keep, each-same, first-within}
+use Rattle.lists.specs.All.{test-case}
+use Rattle.lists.specs.Keep.{Implies, keep-each, keep-reverse, keep-keep, keep-none, each-keep, each-same, first-within}
 use Rattle.layout.specs.Route.{table, prefsrc, prefsrcPresent}
 use Rattle.layout.specs.Request.{nlmFlags}
 use Rattle.definition.specs.State.{State}
@@ -23,7 +24,7 @@ module _ (chosen : ℕ → Bool) (choice : Choice chosen) where
   -- table 0 is 254
   pub named-open : (q : Row) → chosen (table q) ≡ false → unchosen chosen (tableNamed q) ≡ true
   named-open q o =
-      byCase (eqb (table q) 0) (λ e. rw e (main-open chosen choice)) (λ e. rw (e, o))
+      test-case (eqb (table q) 0) (λ e. rw e (main-open chosen choice)) (λ e. rw (e, o))
 
   -- ---- requests to add a route
   module _ (q : Row) (o : chosen (table q) ≡ false) where
@@ -48,7 +49,7 @@ module _ (chosen : ℕ → Bool) (choice : Choice chosen) where
     validPrefsrc4-apart st =
         let own = cond (eqb (tableNamed q) mainTable) localTable (tableNamed q) in
         let own-open : unchosen chosen own ≡ true =
-        byCase (eqb (tableNamed q) mainTable) (λ e. rw e (local-open chosen choice)) (λ e. rw e (named-open q o))
+        test-case (eqb (tableNamed q) mainTable) (λ e. rw e (local-open chosen choice)) (λ e. rw e (named-open q o))
         in
         rw (
           addrType4-apart chosen choice st (prefsrc q) own own-open,
@@ -85,7 +86,7 @@ module _ (chosen : ℕ → Bool) (choice : Choice chosen) where
     unfolding selects
     selects-outside r h =
         unchosen-as chosen (tableNamed q) (table r) (named-open q o)
-        (byCase (eqb (table r) (tableNamed q)) (λ e. e) (λ e. absurd (false≢true (rw e at h))))
+        (test-case (eqb (table r) (tableNamed q)) (λ e. e) (λ e. absurd (false≢true (rw e at h))))
 
     deletedRoute-apart : (found : Option Row) (st : State) → Tandem chosen (deletedRoute q found st) (deletedRoute q found (without chosen st))
     deletedRoute-apart none st = both-refuse 3 st

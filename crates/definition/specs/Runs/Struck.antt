@@ -1,17 +1,16 @@
 -- Requests that name a chosen table change nothing outside the chosen tables. Here the order of the routes counts: a row put in
 -- its place leaves the others where they were.
 use Prim.Native.Nat.{ℕ}
-use native.Mathlib.Omega.{arith}
 use mathlib.Core.Path.{_≡_, refl, sym, _∙_, ap}
-use mathlib.Core.Bool.{Bool, true, false, cond, not, _&&_, _||_, true≢false, false≢true}
+use mathlib.Core.Bool.{Bool, true, false, cond, not, _&&_, true≢false, false≢true}
 use mathlib.Core.List.{List, [], _∷_, _++_, append-nil}
 use mathlib.Core.Option.{Option, none, some}
-use lib.Dec.{eqb, ltb}
-use borrow.Author.Tests.{eqb-true, eq-eqb, ltb-true, ltb-false, not-true, lt-ltb, le-ltb}
+use lib.Dec.{eqb}
+use borrow.Author.Tests.{eqb-true, not-true}
 use Rattle.lists.specs.Lists.{Row, keep, any, first, eqRow, among}
-use Rattle.lists.specs.All.{and-left, and-right}
-use Rattle.lists.specs.Keep.{byCase, contrary, keep-false, not-not, keep-append, keep-split, removeFirst-without, replaceFirst-without}
-use Rattle.layout.specs.Route.{table, dst, len, tos, priority, before, alike, prefsrcPresent}
+use Rattle.lists.specs.All.{test-case}
+use Rattle.lists.specs.Keep.{contrary, keep-false, not-not, keep-append, keep-split, removeFirst-without, replaceFirst-without}
+use Rattle.layout.specs.Route.{table, before, alike, prefsrcPresent}
 use Rattle.layout.specs.Request.{nlmFlags}
 use Rattle.definition.specs.State.{State, withRoutes}
 use Rattle.definition.specs.Words.{ordered}
@@ -19,50 +18,24 @@ use Rattle.definition.specs.Reference.Lookup.{localTable, listed}
 use Rattle.definition.specs.Reference.Insert.{Inserted, put, nothing, addTable, listTable, create4, ahead, behind, insert4, isRow, exclFlag, replaceFlag, createFlag, appendFlag}
 use Rattle.definition.specs.Reference.Addresses.{Outcome}
 use Rattle.definition.specs.Reference.Routes.{Reached, by, refused, tableNamed, badPrefix, formCheck, reachCheck, validPrefsrc4, askedRoute, insertedAs, routed, addRoute4, selects, deletedRoute, delRoute4Request}
+use Rattle.definition.specs.Kept.Order.{before-after, alike-before, alike-sym, level-alike}
 use Rattle.definition.specs.Runs.Statement.{Choice, outside}
 use Rattle.definition.specs.Runs.Projection.{unchosen, without, result}
 
 -- ---- the order of routes: a row that isn't before another comes behind whatever is before that
--- by one field, and where that is equal by the rest
-lexical : (less·xz equal·xz xz less·xy equal·xy xy less·yz equal·yz yz : Bool) → (less·yz ≡ false → less·xy ≡ false → less·xz ≡ false) → (equal·xz ≡ true → less·yz ≡ false → less·xy ≡ false → (equal·xy ≡ true) × (equal·yz ≡ true)) → (xz ≡ true → xy ≡ false → yz ≡ true) → (less·xz || (equal·xz && xz)) ≡ true → (less·xy || (equal·xy && xy)) ≡ false → (less·yz || (equal·yz && yz)) ≡ true
-lexical less·xz equal·xz xz less·xy equal·xy xy less·yz equal·yz yz strict equal rest h k =
-    byCase less·yz (λ e. rw e)
-    (λ e. byCase less·xy (λ f. absurd (true≢false (rw f at k)))
-    (λ f.
-    let here : (equal·xz && xz) ≡ true = rw (strict e f) at h in
-    let both = equal (and-left equal·xz xz here) e f in
-    rw (e, both .1) (rest (and-right equal·xz xz here) (rw (f, both .0) at k))))
-
-module _ (x y z : ℕ) (xz xy yz : Bool) (rest : xz ≡ true → xy ≡ false → yz ≡ true) where
-  rising : (ltb x z || (eqb x z && xz)) ≡ true → (ltb x y || (eqb x y && xy)) ≡ false → (ltb y z || (eqb y z && yz)) ≡ true
-  rising =
-      lexical (ltb x z) (eqb x z) xz (ltb x y) (eqb x y) xy (ltb y z) (eqb y z) yz
-      (λ e f. le-ltb x z (omega (arith, ltb-false)))
-      (λ g e f. (eq-eqb x y (omega (arith, ltb-false, eqb-true)), eq-eqb y z (omega (arith, ltb-false, eqb-true)))) rest
-
-  falling : (ltb z x || (eqb x z && xz)) ≡ true → (ltb y x || (eqb x y && xy)) ≡ false → (ltb z y || (eqb y z && yz)) ≡ true
-  falling =
-      lexical (ltb z x) (eqb x z) xz (ltb y x) (eqb x y) xy (ltb z y) (eqb y z) yz
-      (λ e f. le-ltb z x (omega (arith, ltb-false)))
-      (λ g e f. (eq-eqb x y (omega (arith, ltb-false, eqb-true)), eq-eqb y z (omega (arith, ltb-false, eqb-true)))) rest
-
-before-between : (a b c : Row) → before a c ≡ true → before a b ≡ false → before b c ≡ true
-unfolding before
-before-between a b c =
-    rising (dst a) (dst b) (dst c) _ _ _
-    (falling (len a) (len b) (len c) _ _ _
-    (falling (table a) (table b) (table c) _ _ _
-    (falling (tos a) (tos b) (tos c) _ _ _
-    (λ h k. lt-ltb (priority b) (priority c) (omega (arith, ltb-true, ltb-false))))))
+pub before-between : (a b c : Row) → before a c ≡ true → before a b ≡ false → before b c ≡ true
+before-between a b c h k =
+    test-case (before b a) (λ e. before-after b a c e h)
+    (λ e. alike-before b a c (alike-sym a b (level-alike a b k e)) h)
 
 module _ (new : Row) (rows : List Row) (o : ordered rows ≡ true) where
-  split-ahead : keep (λ r. before r new) rows ++ keep (λ r. not (before r new)) rows ≡ rows
+  pub split-ahead : keep (λ r. before r new) rows ++ keep (λ r. not (before r new)) rows ≡ rows
   unfolding ordered
   split-ahead =
       keep-split (λ a b. not (before b a)) (λ r. before r new)
       (λ a b h k. before-between b a new k (not-true (before b a) h)) rows o
 
-  split-behind : keep (λ r. not (before new r)) rows ++ keep (λ r. not (not (before new r))) rows ≡ rows
+  pub split-behind : keep (λ r. not (before new r)) rows ++ keep (λ r. not (not (before new r))) rows ≡ rows
   unfolding ordered
   split-behind =
       keep-split (λ a b. not (before b a)) (λ r. not (before new r))
@@ -95,7 +68,7 @@ module _ (chosen : ℕ → Bool) (choice : Choice chosen) where
     alike-chosen : (r : Row) → alike new r ≡ true → outside chosen r ≡ false
     unfolding alike
     alike-chosen r h =
-        let e = byCase (eqb (table new) (table r)) (λ e. e) (λ e. absurd (false≢true (rw e at h))) in
+        let e = test-case (eqb (table new) (table r)) (λ e. e) (λ e. absurd (false≢true (rw e at h))) in
         rw (sym (eqb-true (table new) (table r) e)) c
 
     ahead-unseen : keep (outside chosen) (ahead new rows) ≡ keep (outside chosen) rows
@@ -134,7 +107,7 @@ module _ (chosen : ℕ → Bool) (choice : Choice chosen) where
     -- the table is named as it is
     named-itself : tableNamed q ≡ table q
     named-itself =
-        byCase (eqb (table q) 0)
+        test-case (eqb (table q) 0)
         (λ e. absurd (true≢false (sym c ∙ ap chosen (eqb-true (table q) 0 e) ∙ choice .not-0))) (λ e. rw e)
 
     named-chosen : unchosen chosen (tableNamed q) ≡ false
@@ -142,7 +115,7 @@ module _ (chosen : ℕ → Bool) (choice : Choice chosen) where
 
     addTable-unseen : (l : List ℕ) → keep (unchosen chosen) (addTable (tableNamed q) l) ≡ keep (unchosen chosen) l
     addTable-unseen l =
-        byCase (among (tableNamed q) l) (λ e. rw e)
+        test-case (among (tableNamed q) l) (λ e. rw e)
         (λ e. rw (e, keep-append (unchosen chosen) l (tableNamed q ∷ []), named-chosen) (append-nil (keep (unchosen chosen) l)))
 
     create4-unseen : (st : State) → without chosen (create4 (tableNamed q) st) ≡ without chosen st
@@ -182,7 +155,7 @@ module _ (chosen : ℕ → Bool) (choice : Choice chosen) where
         selects-chosen : (r : Row) → selects q r ≡ true → outside chosen r ≡ false
         selects-chosen r h =
             chosen-as (tableNamed q) (table r) named-chosen
-            (byCase (eqb (table r) (tableNamed q)) (λ e. e) (λ e. absurd (false≢true (unfold selects in rw e at h))))
+            (test-case (eqb (table r) (tableNamed q)) (λ e. e) (λ e. absurd (false≢true (unfold selects in rw e at h))))
 
     pub delRoute4Request-unseen : (st : State) → Hidden st (delRoute4Request q st)
     unfolding delRoute4Request

@@ -6,8 +6,8 @@ use mathlib.Core.List.{List, [], _∷_}
 use mathlib.Core.Option.{Option, none, some}
 use lib.Dec.{eqb}
 use Rattle.lists.specs.Lists.{Row, keep, first, removeFirst, eqRow, among}
-use Rattle.lists.specs.All.{and-left, and-right, or-case, eqRow-true}
-use Rattle.lists.specs.Keep.{Implies, byCase, cond-map, keep-append, keep-keep, keep-within, any-within, first-within, removeFirst-within, replaceFirst-within}
+use Rattle.lists.specs.All.{and-left, and-right, or-case, eqRow-true, test-case}
+use Rattle.lists.specs.Keep.{Implies, cond-map, keep-append, keep-keep, keep-within, any-within, first-within, removeFirst-within, replaceFirst-within}
 use Rattle.layout.specs.Route.{table, before, alike}
 use Rattle.definition.specs.State.{State, withRoutes}
 use Rattle.definition.specs.Reference.Lookup.{Flow, longest, fits, answer, together, lookupIn, typeSet, addrType4, local4, listed, refused, flowTo, mainTable, localTable, defaultTable}
@@ -41,13 +41,13 @@ module _ (chosen : ℕ → Bool) (choice : Choice chosen) where
   pub together-open : (t : ℕ) → Implies (together t) (unchosen chosen)
   unfolding together
   together-open t u h =
-      byCase (eqb t localTable || eqb t mainTable) (λ e. either-open u (rw e at h))
+      test-case (eqb t localTable || eqb t mainTable) (λ e. either-open u (rw e at h))
       (λ e. unchosen-as chosen defaultTable u default-open (and-right (eqb t defaultTable) (eqb u defaultTable) (rw e at h)))
 
   pub typeSet-open : (t : ℕ) → unchosen chosen t ≡ true → Implies (typeSet t) (unchosen chosen)
   unfolding typeSet
   typeSet-open t o u h =
-      byCase (eqb t localTable || eqb t mainTable) (λ e. either-open u (rw e at h))
+      test-case (eqb t localTable || eqb t mainTable) (λ e. either-open u (rw e at h))
       (λ e. unchosen-as chosen t u o (rw e at h))
 
   pub listed-apart : (t : ℕ) → unchosen chosen t ≡ true → (st : State) → listed t (without chosen st) ≡ listed t st
@@ -75,13 +75,13 @@ module _ (chosen : ℕ → Bool) (choice : Choice chosen) where
   pub addTable-apart : (t : ℕ) → unchosen chosen t ≡ true → (l : List ℕ) → addTable t (keep (unchosen chosen) l) ≡ keep (unchosen chosen) (addTable t l)
   addTable-apart t o l =
       rw (any-within (eqb t) (unchosen chosen) (λ u e. unchosen-like chosen t u o e) l)
-      (byCase (among t l) (λ e. rw e)
+      (test-case (among t l) (λ e. rw e)
       (λ e. rw (e, keep-append (unchosen chosen) l (t ∷ []), o)))
 
   pub create4-apart : (t : ℕ) → unchosen chosen t ≡ true → (st : State) → create4 t (without chosen st) ≡ without chosen (create4 t st)
   unfolding create4 listTable
   create4-apart t o st =
-      byCase (eqb t localTable)
+      test-case (eqb t localTable)
       (λ e. rw (e, addTable-apart mainTable main-open (st .tables), addTable-apart t o (addTable mainTable (st .tables))))
       (λ e. rw (e, addTable-apart t o (st .tables)))
 
@@ -96,7 +96,7 @@ module _ (chosen : ℕ → Bool) (choice : Choice chosen) where
     unfolding alike
     alike-outside r h =
         unchosen-like chosen (table new) (table r) o
-        (byCase (eqb (table new) (table r)) (λ e. e) (λ e. absurd (false≢true (rw e at h))))
+        (test-case (eqb (table new) (table r)) (λ e. e) (λ e. absurd (false≢true (rw e at h))))
 
     equal-outside : Implies (eqRow new) (outside chosen)
     equal-outside r h = rw (sym (eqRow-true new r h)) o
@@ -167,4 +167,4 @@ module _ (chosen : ℕ → Bool) (choice : Choice chosen) where
       named-outside : Implies (named p) (outside chosen)
       named-outside r h =
           unchosen-as chosen (table p) (table r) o
-          (byCase (eqb (table r) (table p)) (λ e. e) (λ e. absurd (false≢true (unfold named in rw e at h))))
+          (test-case (eqb (table r) (table p)) (λ e. e) (λ e. absurd (false≢true (unfold named in rw e at h))))

@@ -3,8 +3,7 @@ use Prim.Native.Nat.{ℕ}
 use mathlib.Core.Path.{_≡_, refl, sym, _∙_, ap, ap₂}
 use mathlib.Core.Bool.{Bool, true}
 use mathlib.Core.List.{List, [], _∷_}
-use Rattle.lists.specs.All.{and-left, and-right}
-use Rattle.lists.specs.Keep.{byCase}
+use Rattle.lists.specs.All.{and-left, and-right, test-case}
 use Rattle.definition.specs.State.{State}
 use Rattle.definition.specs.Words.{decode}
 use Rattle.definition.specs.Call.{Call, Reply}
@@ -48,7 +47,7 @@ module _ (chosen : ℕ → Bool) (choice : Choice chosen) where
       let state : decode w′ ≡ freely (deed c) (decode w) .state = f .state ∙ ap (λ d. d .state) free in
       let later = projects cs w′ (f .held) (and-right (spaced (step c w .reply)) (spacious cs w′) h) in
       let inOrder = fit-state (decode w) (good-held w s .fits) .ofRoutes .inOrder in
-      byCase (struck chosen c)
+      test-case (struck chosen c)
       (λ e.
       let unseen : without chosen (decode w′) ≡ without chosen (decode w) =
       ap (without chosen) state ∙ hidden chosen choice c e (decode w) inOrder

@@ -35,7 +35,7 @@ through-adds f [] g st = stays-adds st
 through-adds f (x ∷ l) g st = also-adds st (f x st) (through f l) (g x st) (λ s. through-adds f l g s)
 
 -- a row more, where nothing may be replaced
-abbrev Grows : List Row → Inserted → Type 0
+abbrev pub Grows : List Row → Inserted → Type 0
 Grows l (put rows flags) = length rows ≡ suc (length l)
 Grows l nothing = Unit
 Grows l (Inserted.refused n) = Unit
@@ -48,7 +48,7 @@ length-behind : (new : Row) (l : List Row) → length (behind new l) ≡ suc (le
 unfolding behind
 length-behind new l = length-around-not (λ r. before new r) new l
 
-insert-grows : (new : Row) (flags : ℕ) (l : List Row) → replaceFlag flags ≡ false → Grows l (insert4 new flags l)
+pub insert-grows : (new : Row) (flags : ℕ) (l : List Row) → replaceFlag flags ≡ false → Grows l (insert4 new flags l)
 unfolding insert4
 insert-grows new flags l h =
     cond-case (Grows l) (any (alike new) l)
@@ -65,7 +65,7 @@ inserted-adds new (put rows flags) st h = record { grown = omega arith }
 inserted-adds new nothing st h = stays-adds st
 inserted-adds new (Inserted.refused n) st h = stays-adds st
 
-no-replacing : replaceFlag 0xc00 ≡ false
+pub no-replacing : replaceFlag 0xc00 ≡ false
 unfolding hasBit
 no-replacing = refl
 
@@ -79,7 +79,7 @@ pub bring-adds : (routes : List Row) (st : State) → Adds st (bring routes st)
 unfolding bring
 bring-adds routes st = through-adds kernelAdd4 routes kernelAdd4-adds st
 
-length-place4 : (new : Row) (l : List Row) → length (place4 new l) ≡ suc (length l)
+pub length-place4 : (new : Row) (l : List Row) → length (place4 new l) ≡ suc (length l)
 unfolding place4
 length-place4 new l =
     cond-case (λ (m : List Row). length m ≡ suc (length l)) (secondary new) (λ e. omega (arith, length-append l (new ∷ []))) (λ e. length-behindLast (yields new) new l)

@@ -1,19 +1,23 @@
--- `fit::fit_route` meets its contract.
+-- `route::fit_route` meets its contract: after the length and the prefix, which the host bits need, the same tests in the same order.
 -- Assumes nothing.
-use Rattle.fit.specs.Laws.{fit-short, fit-long, fit-rest}
+use borrow.Author.Tests.{eq-eqb, ne-eqb, lt-leb}
+use Rattle.layout.specs.Route.{fitRoute}
+use Rattle.route.specs.Fit.{fit-tests}
 use denote.Ref.{now}
 use borrow.Author.Needs.{needs}
-use Rattle.fit.proofs.fit_route.Statement.{statement}
-use Rattle.fit.proofs.fit_route.Tie as tie
+use Rattle.route.proofs.fit_route.Statement.{statement}
+use Rattle.route.proofs.fit_route.Tie as tie
 
 returns : tie.Need-returns
-returns c = fit-short (now (c .before .before .args .r)) (c .if1 .taken)
+unfolding fitRoute
+returns c = simp (ne-eqb _ _ (c .if1 .taken))
 
 shared-slice-read-if2 : tie.Need-shared-slice-read-if2
 shared-slice-read-if2 c = search needs
 
 returns-2 : tie.Need-returns-2
-returns-2 c = fit-long (now (c .before .before .before .before .args .r)) (c .before .before .if1 .left) (c .if2 .taken)
+unfolding fitRoute
+returns-2 c = simp (eq-eqb _ _ (c .before .before .if1 .left), lt-leb _ _ (c .if2 .taken))
 
 shared-slice-read-host-bits4 : tie.Need-shared-slice-read-host-bits4
 shared-slice-read-host-bits4 c = search needs
@@ -67,8 +71,7 @@ shared-slice-read-result-6 : tie.Need-shared-slice-read-result-6
 shared-slice-read-result-6 c = search needs
 
 returns-3 : tie.Need-returns-3
-returns-3 c = rw (c .before .before .before .before .before .before .before .before .before .before .before .before .before .before .host-bits4 .ensures, c .before .before .before .before .before .before .before .before .before .before .before .is-kind .ensures, c .before .before .before .before .before .before .fit-optional .ensures, c .before .before .before .fit-optional2 .ensures)
-    (fit-rest (now (c .before .before .before .before .before .before .before .before .before .before .before .before .before .before .before .before .before .before .before .before .before .args .r)) (c .before .before .before .before .before .before .before .before .before .before .before .before .before .before .before .before .before .before .before .if1 .left) (c .before .before .before .before .before .before .before .before .before .before .before .before .before .before .before .before .before .if2 .left))
+returns-3 c = fit-tests (now (c .before .before .before .before .before .before .before .before .before .before .before .before .before .before .before .before .before .before .before .before .before .args .r)) (c .before .before .before .before .before .before .before .before .before .before .before .before .before .before .before .before .before .before .before .if1 .left) (c .before .before .before .before .before .before .before .before .before .before .before .before .before .before .before .before .before .if2 .left) (c .before .before .before .before .before .before .before .before .before .before .before .before .before .before .host-bits4 .ensures) (c .before .before .before .before .before .before .before .before .before .before .before .is-kind .ensures) (c .before .before .before .before .before .before .fit-optional .ensures) (c .before .before .before .fit-optional2 .ensures)
 
 pub fit-route-spec : {M : Type 1} → statement M
 fit-route-spec =

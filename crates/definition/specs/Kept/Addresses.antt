@@ -1,4 +1,4 @@
--- Every step of the reference keeps a fit state fit.
+-- The kernel's routes put in and taken out, addresses put in and changed, up and down keep a fit state fit.
 -- Assumes nothing.
 use Prim.Native.Nat.{ℕ}
 use mathlib.Core.Path.{_≡_, refl}
