@@ -6,6 +6,8 @@ use lib.Dec.{eqb}
 use Rattle.lists.specs.Lists.{Row}
 use Rattle.definition.specs.Call.{Reply}
 use Rattle.definition.specs.Reference.Lookup as Lookup
+use Rattle.source.specs.declared.Selected as Selected
+use Rattle.source.specs.declared.Selected.{Selected}
 use Rattle.interface.specs.declared.Found as Found
 use Rattle.interface.specs.declared.Local as Local
 use Rattle.interface.specs.declared.Chosen as Chosen
@@ -61,6 +63,11 @@ abbrev pub chosenOf : Reply → Chosen.Chosen
 chosenOf r =
     cond (eqb (r .number) 0) (cond (eqb (r .present) 1) (Chosen.the-variants.Address (r .value)) Chosen.the-variants.Nothing)
     (Chosen.the-variants.Refused (r .number))
+
+-- the choice as an answer
+abbrev pub chosenFor : Selected → Chosen.Chosen
+chosenFor (Selected.the-variants.Local a) = Chosen.the-variants.Address a
+chosenFor Selected.the-variants.Nothing = Chosen.the-variants.Nothing
 
 abbrev pub sourcedBy : Sourced.Sourced → Numbers
 sourcedBy (Sourced.the-variants.Refused n) = refusedBy n

@@ -152,7 +152,12 @@ pub fn source4(state: &[u32], row: &[u32], ip: u32) -> Chosen
 pub fn select4(state: &[u32], dst_present: u32, dst: u32, scope: u32) -> Chosen
     ensures { λ r. ⌜ r ≡ chosenOf (select4Call «dst_present» dst scope (now (state .entry)) .reply) ⌝ }
 {
-    let n = checked(state, true, true, address::fit_optional(dst_present, dst) & (scope < 256));
+    let n = checked(
+        state,
+        true,
+        true,
+        address::fit_optional(dst_present, dst) & (scope < 256),
+    );
     if n != 0 {
         return Chosen::Refused(n);
     }
