@@ -10,3 +10,4 @@ pub mod Keep
 pub mod Put
 pub mod At
 pub mod Region
+pub mod Block
