@@ -8,7 +8,7 @@ ghost use Rattle.layout.specs.Flags.{clearBit, setBit};
 ghost use Rattle.layout.specs.Address.{secondaryBit, deprecatedBit};
 ghost use Rattle.definition.specs.Reference.Addresses.{rewritten, seconds, asked, asSecondary, changedTo};
 ghost use Rattle.definition.specs.Reference.Removal.{faded};
-ghost use Rattle.asked.specs.Rows.{flagged};
+ghost use Rattle.rewrite.specs.Rows.{flagged};
 
 // A lifetime that never ends leaves the stored seconds.
 fn seconds(asked: u32, stored: u32) -> u32

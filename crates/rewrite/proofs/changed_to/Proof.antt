@@ -5,15 +5,15 @@ use denote.Ref.{now}
 use Rattle.lists.specs.Lists.{put}
 use native.Mathlib.Omega.{arith}
 use Rattle.life.specs.declared.Nanoseconds.{Nanoseconds}
-use Rattle.asked.specs.Rows.{changed-row}
+use Rattle.rewrite.specs.Rows.{changed-row}
 use borrow.Author.Needs.{needs}
-use Rattle.asked.proofs.changed_to.Statement.{statement}
-use Rattle.asked.proofs.changed_to.Tie as tie
-use Rattle.asked.proofs.changed_to.Reads as reads
-use Rattle.asked.proofs.changed_to.Lts as lts
+use Rattle.rewrite.proofs.changed_to.Statement.{statement}
+use Rattle.rewrite.proofs.changed_to.Tie as tie
+use Rattle.rewrite.proofs.changed_to.Reads as reads
+use Rattle.rewrite.proofs.changed_to.Lts as lts
 use Rattle.address.proofs.life_flags.Reads as life-flags-reads
-use Rattle.asked.proofs.rewritten.Reads as rewritten-reads
-use Rattle.asked.proofs.seconds.Reads as seconds-reads
+use Rattle.rewrite.proofs.rewritten.Reads as rewritten-reads
+use Rattle.rewrite.proofs.seconds.Reads as seconds-reads
 use Rattle.life.proofs.Nanoseconds.of_words.Reads as of-words-reads
 
 -- src/lib.rt:117:17

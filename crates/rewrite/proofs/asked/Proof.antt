@@ -3,16 +3,16 @@ use mathlib.Core.Path.{ap, _∙_}
 use mathlib.Core.List.{List}
 use denote.Ref.{now}
 use Rattle.lists.specs.Lists.{put}
-use Rattle.asked.specs.Rows.{asked-row}
+use Rattle.rewrite.specs.Rows.{asked-row}
 use borrow.Author.Needs.{needs}
-use Rattle.asked.proofs.asked.Statement.{statement}
-use Rattle.asked.proofs.asked.Tie as tie
-use Rattle.asked.proofs.asked.Reads as reads
-use Rattle.asked.proofs.asked.Lts as lts
+use Rattle.rewrite.proofs.asked.Statement.{statement}
+use Rattle.rewrite.proofs.asked.Tie as tie
+use Rattle.rewrite.proofs.asked.Reads as reads
+use Rattle.rewrite.proofs.asked.Lts as lts
 use Rattle.address.proofs.life_flags.Reads as life-flags-reads
-use Rattle.asked.proofs.as_primary.Reads as as-primary-reads
-use Rattle.asked.proofs.rewritten.Reads as rewritten-reads
-use Rattle.asked.proofs.seconds.Reads as seconds-reads
+use Rattle.rewrite.proofs.as_primary.Reads as as-primary-reads
+use Rattle.rewrite.proofs.rewritten.Reads as rewritten-reads
+use Rattle.rewrite.proofs.seconds.Reads as seconds-reads
 
 -- src/lib.rt:92:17
 shared-slice-read-valid : tie.Need-shared-slice-read-valid

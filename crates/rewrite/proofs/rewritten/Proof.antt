@@ -4,12 +4,12 @@ use mathlib.Core.List.{List}
 use denote.Ref.{now}
 use Rattle.lists.specs.Lists.{put}
 use native.Mathlib.Omega.{arith}
-use Rattle.asked.specs.Rows.{rewritten-words}
+use Rattle.rewrite.specs.Rows.{rewritten-words}
 use borrow.Author.Needs.{needs}
-use Rattle.asked.proofs.rewritten.Statement.{statement}
-use Rattle.asked.proofs.rewritten.Tie as tie
-use Rattle.asked.proofs.rewritten.Reads as reads
-use Rattle.asked.proofs.rewritten.Lts as lts
+use Rattle.rewrite.proofs.rewritten.Statement.{statement}
+use Rattle.rewrite.proofs.rewritten.Tie as tie
+use Rattle.rewrite.proofs.rewritten.Reads as reads
+use Rattle.rewrite.proofs.rewritten.Lts as lts
 use Rattle.life.proofs.Nanoseconds.high.Reads as high-reads
 use Rattle.life.proofs.Nanoseconds.low.Reads as low-reads
 use Rattle.words.proofs.store.Reads as store-reads

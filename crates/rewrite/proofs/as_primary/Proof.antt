@@ -2,10 +2,10 @@ use native.Mathlib.Omega.{arith}
 use lib.Dec.{lit<}
 use Rattle.address.specs.Bits.{clear-and}
 use borrow.Author.Needs.{needs}
-use Rattle.asked.proofs.as_primary.Statement.{statement}
-use Rattle.asked.proofs.as_primary.Tie as tie
-use Rattle.asked.proofs.as_primary.Reads as reads
-use Rattle.asked.proofs.as_primary.Lts as lts
+use Rattle.rewrite.proofs.as_primary.Statement.{statement}
+use Rattle.rewrite.proofs.as_primary.Tie as tie
+use Rattle.rewrite.proofs.as_primary.Reads as reads
+use Rattle.rewrite.proofs.as_primary.Lts as lts
 
 -- src/lib.rt:23:1
 returns : tie.Need-returns

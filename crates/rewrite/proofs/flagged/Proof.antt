@@ -4,13 +4,13 @@ use mathlib.Core.List.{List}
 use denote.Ref.{now}
 use Rattle.lists.specs.Lists.{put}
 use Rattle.life.specs.declared.Nanoseconds.{Nanoseconds}
-use Rattle.asked.specs.Rows.{flagged-row}
+use Rattle.rewrite.specs.Rows.{flagged-row}
 use borrow.Author.Needs.{needs}
-use Rattle.asked.proofs.flagged.Statement.{statement}
-use Rattle.asked.proofs.flagged.Tie as tie
-use Rattle.asked.proofs.flagged.Reads as reads
-use Rattle.asked.proofs.flagged.Lts as lts
-use Rattle.asked.proofs.rewritten.Reads as rewritten-reads
+use Rattle.rewrite.proofs.flagged.Statement.{statement}
+use Rattle.rewrite.proofs.flagged.Tie as tie
+use Rattle.rewrite.proofs.flagged.Reads as reads
+use Rattle.rewrite.proofs.flagged.Lts as lts
+use Rattle.rewrite.proofs.rewritten.Reads as rewritten-reads
 use Rattle.life.proofs.Nanoseconds.of_words.Reads as of-words-reads
 
 -- src/lib.rt:142:41

@@ -1,9 +1,9 @@
 use Rattle.address.specs.Bits.{set-or}
 use borrow.Author.Needs.{needs}
-use Rattle.asked.proofs.second.Statement.{statement}
-use Rattle.asked.proofs.second.Tie as tie
-use Rattle.asked.proofs.second.Reads as reads
-use Rattle.asked.proofs.second.Lts as lts
+use Rattle.rewrite.proofs.second.Statement.{statement}
+use Rattle.rewrite.proofs.second.Tie as tie
+use Rattle.rewrite.proofs.second.Reads as reads
+use Rattle.rewrite.proofs.second.Lts as lts
 
 -- src/lib.rt:29:1
 returns : tie.Need-returns

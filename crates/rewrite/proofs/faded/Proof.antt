@@ -3,14 +3,14 @@ use mathlib.Core.Path.{ap, _∙_}
 use mathlib.Core.List.{List}
 use denote.Ref.{now}
 use Rattle.lists.specs.Lists.{put}
-use Rattle.asked.specs.Rows.{faded-row}
+use Rattle.rewrite.specs.Rows.{faded-row}
 use borrow.Author.Needs.{needs}
-use Rattle.asked.proofs.faded.Statement.{statement}
-use Rattle.asked.proofs.faded.Tie as tie
-use Rattle.asked.proofs.faded.Reads as reads
-use Rattle.asked.proofs.faded.Lts as lts
-use Rattle.asked.proofs.deprecated.Reads as deprecated-reads
-use Rattle.asked.proofs.flagged.Reads as flagged-reads
+use Rattle.rewrite.proofs.faded.Statement.{statement}
+use Rattle.rewrite.proofs.faded.Tie as tie
+use Rattle.rewrite.proofs.faded.Reads as reads
+use Rattle.rewrite.proofs.faded.Lts as lts
+use Rattle.rewrite.proofs.deprecated.Reads as deprecated-reads
+use Rattle.rewrite.proofs.flagged.Reads as flagged-reads
 
 -- src/lib.rt:162:27
 shared-slice-read-deprecated : tie.Need-shared-slice-read-deprecated

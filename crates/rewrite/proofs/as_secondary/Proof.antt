@@ -3,14 +3,14 @@ use mathlib.Core.Path.{ap, _∙_}
 use mathlib.Core.List.{List}
 use denote.Ref.{now}
 use Rattle.lists.specs.Lists.{put}
-use Rattle.asked.specs.Rows.{secondary-row}
+use Rattle.rewrite.specs.Rows.{secondary-row}
 use borrow.Author.Needs.{needs}
-use Rattle.asked.proofs.as_secondary.Statement.{statement}
-use Rattle.asked.proofs.as_secondary.Tie as tie
-use Rattle.asked.proofs.as_secondary.Reads as reads
-use Rattle.asked.proofs.as_secondary.Lts as lts
-use Rattle.asked.proofs.flagged.Reads as flagged-reads
-use Rattle.asked.proofs.second.Reads as second-reads
+use Rattle.rewrite.proofs.as_secondary.Statement.{statement}
+use Rattle.rewrite.proofs.as_secondary.Tie as tie
+use Rattle.rewrite.proofs.as_secondary.Reads as reads
+use Rattle.rewrite.proofs.as_secondary.Lts as lts
+use Rattle.rewrite.proofs.flagged.Reads as flagged-reads
+use Rattle.rewrite.proofs.second.Reads as second-reads
 
 -- src/lib.rt:153:23
 shared-slice-read-second : tie.Need-shared-slice-read-second

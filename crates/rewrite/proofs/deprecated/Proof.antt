@@ -1,9 +1,9 @@
 use Rattle.address.specs.Bits.{set-or}
 use borrow.Author.Needs.{needs}
-use Rattle.asked.proofs.deprecated.Statement.{statement}
-use Rattle.asked.proofs.deprecated.Tie as tie
-use Rattle.asked.proofs.deprecated.Reads as reads
-use Rattle.asked.proofs.deprecated.Lts as lts
+use Rattle.rewrite.proofs.deprecated.Statement.{statement}
+use Rattle.rewrite.proofs.deprecated.Tie as tie
+use Rattle.rewrite.proofs.deprecated.Reads as reads
+use Rattle.rewrite.proofs.deprecated.Lts as lts
 
 -- src/lib.rt:35:1
 returns : tie.Need-returns

@@ -1,9 +1,9 @@
 use borrow.Author.Tests.{eq-eqb, ne-eqb}
 use borrow.Author.Needs.{needs}
-use Rattle.asked.proofs.seconds.Statement.{statement}
-use Rattle.asked.proofs.seconds.Tie as tie
-use Rattle.asked.proofs.seconds.Reads as reads
-use Rattle.asked.proofs.seconds.Lts as lts
+use Rattle.rewrite.proofs.seconds.Statement.{statement}
+use Rattle.rewrite.proofs.seconds.Tie as tie
+use Rattle.rewrite.proofs.seconds.Reads as reads
+use Rattle.rewrite.proofs.seconds.Lts as lts
 
 -- src/lib.rt:18:9
 returns : tie.Need-returns
