@@ -1,3 +1,6 @@
+use mathlib.Core.Bool.{true}
+use Rattle.definition.specs.Words.{decode}
+use Rattle.interface.specs.Laws.{valid, held, source-no, source-yes}
 use borrow.Author.Needs.{needs}
 use Rattle.interface.proofs.source.Statement.{statement}
 use Rattle.interface.proofs.source.Tie as tie
@@ -12,15 +15,21 @@ checked-requires c κs = search needs
 
 -- src/lib.rt:133:9
 returns : tie.Need-returns
-returns c = search needs
+returns c =
+    let a = c .before .before .before .args in
+    source-no (a .state .now) (c .before .checked .result) (a .ip) (c .before .checked .ensures) (c .if1 .taken)
 
 -- src/lib.rt:135:22
 source-requires : tie.Need-source-requires
-source-requires c κs = search needs
+source-requires c κs = valid true true true (c .before .before .before .args .state .now) (c .before .checked .result) (c .before .checked .ensures) (c .if1 .left)
 
 -- src/lib.rt:128:1
 returns-2 : tie.Need-returns-2
-returns-2 c = search needs
+returns-2 c =
+    let k = c .before .before in
+    let a = k .before .before .args in
+    source-yes (a .state .now) (k .checked .result) (a .ip) (c .source .result) (k .checked .ensures) (c .before .if1 .left)
+    (c .source .ensures (decode (a .state .now)) (held true true true (a .state .now) (k .checked .result) (k .checked .ensures) (c .before .if1 .left)))
 
 pub source-spec : {M : Type 1} → statement M
 source-spec = tie.close (tie.spec checked-requires returns source-requires returns-2)

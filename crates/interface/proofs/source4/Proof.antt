@@ -1,3 +1,9 @@
+use mathlib.Core.Path.{sym, ap, _∙_}
+use mathlib.Core.Bool.{true}
+use Rattle.definition.specs.Words.{decode}
+use Rattle.definition.specs.Kept.Fit.{length-route}
+use Rattle.interface.specs.Answer.{chosenFor}
+use Rattle.interface.specs.Laws.{valid, held, passed, source4-no, source4-yes}
 use borrow.Author.Needs.{needs}
 use Rattle.interface.proofs.source4.Statement.{statement}
 use Rattle.interface.proofs.source4.Tie as tie
@@ -17,11 +23,22 @@ checked-requires c κs = search needs
 
 -- src/lib.rt:143:9
 returns : tie.Need-returns
-returns c = search needs
+returns c =
+    let k = c .before in
+    let r = k .before in
+    let a = r .before .before .before .args in
+    source4-no (a .state .now) (k .checked .result) (a .ip) (a .row .now) (r .fit-route .result) (r .fit-route .ensures) (k .checked .ensures) (c .if1 .taken)
 
 -- src/lib.rt:145:9
 source4-requires : tie.Need-source4-requires
-source4-requires c κs = search needs
+source4-requires c κs =
+    let k = c .before in
+    let r = k .before in
+    let a = r .before .before .before .args in
+    let p = passed true (r .fit-route .result) true (a .state .now) (k .checked .result) (k .checked .ensures) (c .if1 .left) in (
+      valid true (r .fit-route .result) true (a .state .now) (k .checked .result) (k .checked .ensures) (c .if1 .left),
+      length-route (a .row .now) (sym (r .fit-route .ensures) ∙ p .handed),
+    )
 
 -- src/lib.rt:147:25
 enum-known-selected : tie.Need-enum-known-selected
@@ -33,11 +50,25 @@ enum-told c = search needs
 
 -- src/lib.rt:138:1
 returns-2 : tie.Need-returns-2
-returns-2 c = search needs
+returns-2 c =
+    let y = c .before .before .before in
+    let k = y .before .before in
+    let r = k .before in
+    let a = r .before .before .before .args in
+    ap chosenFor (sym (c .before .selected .given .1))
+    ∙ source4-yes (a .state .now) (k .checked .result) (a .ip) (a .row .now) (r .fit-route .result) (r .fit-route .ensures) (y .source4 .result) (k .checked .ensures) (y .before .if1 .left)
+    (y .source4 .ensures (decode (a .state .now)) (held true (r .fit-route .result) true (a .state .now) (k .checked .result) (k .checked .ensures) (y .before .if1 .left)))
 
 -- src/lib.rt:138:1
 returns-3 : tie.Need-returns-3
-returns-3 c = search needs
+returns-3 c =
+    let y = c .before .before in
+    let k = y .before .before in
+    let r = k .before in
+    let a = r .before .before .before .args in
+    ap chosenFor (sym (c .enum-told .given .1))
+    ∙ source4-yes (a .state .now) (k .checked .result) (a .ip) (a .row .now) (r .fit-route .result) (r .fit-route .ensures) (y .source4 .result) (k .checked .ensures) (y .before .if1 .left)
+    (y .source4 .ensures (decode (a .state .now)) (held true (r .fit-route .result) true (a .state .now) (k .checked .result) (k .checked .ensures) (y .before .if1 .left)))
 
 pub source4-spec : {M : Type 1} → statement M
 source4-spec =
