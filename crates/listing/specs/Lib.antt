@@ -5,4 +5,5 @@ pub mod Chain
 pub mod Link
 pub mod Pass
 pub mod Walk
+pub mod Four
 pub mod Dump
