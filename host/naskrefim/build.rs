@@ -73,6 +73,7 @@ fn build() -> Result<(), String> {
     let (Some(folder), Some(file)) = (library.parent(), library.file_name()) else {
         return Err(format!("{} is no file", library.display()));
     };
+    println!("cargo::rustc-env=NASKREFIM_LINKED={}", library.display());
     println!("cargo::rustc-link-search=native={}", folder.display());
     println!(
         "cargo::rustc-link-lib=static:+verbatim={}",

@@ -49,6 +49,9 @@ pub use records::{
 };
 pub use refused::Refused;
 
+/// The file that was linked.
+pub const LIBRARY: &str = env!("NASKREFIM_LINKED");
+
 /// The words of a state.
 pub const STATE_WORDS: usize = 9_507;
 /// The fewest words of an event buffer: 384 rows.

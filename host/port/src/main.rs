@@ -95,6 +95,7 @@ fn fresh() -> u64 {
 
 fn run(options: &Options) -> Result<(), String> {
     println!("interface.rs: sha256 {}", reference::INTERFACE_SHA256);
+    println!("library: {}", naskrefim::LIBRARY);
     println!("seed {}", options.seed);
     let mut on_bytes = OnBytes::default();
     let mut on_words = Bytes(OnWords::default());
