@@ -25,6 +25,7 @@ pub struct Amount {
 pub struct Summary {
     pub by_hand: usize,
     pub cases: usize,
+    /// Pairs of runs that came out alike, counted for each port.
     pub pairs: usize,
     /// Pairs left out, since a call was refused for want of space.
     pub no_space: usize,
@@ -44,6 +45,7 @@ pub struct Campaign<'a> {
     seed: u64,
     cases: Cases,
     pairs: Rng,
+    pairs_drawn: usize,
     pub summary: Summary,
 }
 
@@ -54,6 +56,7 @@ impl<'a> Campaign<'a> {
             seed,
             cases: Cases::new(seed, USUAL),
             pairs: Rng::new(seed),
+            pairs_drawn: 0,
             summary: Summary::default(),
         }
     }
@@ -88,16 +91,21 @@ impl<'a> Campaign<'a> {
     pub fn pairs(&mut self, count: usize) -> Result<(), String> {
         for _ in 0..count {
             let pair = pairs::pair(&mut self.pairs);
+            let i = self.pairs_drawn;
+            self.pairs_drawn += 1;
             for (port, kinds) in &mut self.ports {
                 if !kinds.iter().all(|&compared| compared) {
                     continue;
                 }
-                let i = self.summary.pairs + self.summary.no_space;
                 match pairs::try_pair(&mut Words(&mut **port), &pair) {
                     pairs::Result::Alike { .. } => self.summary.pairs += 1,
                     pairs::Result::NoSpace => self.summary.no_space += 1,
                     pairs::Result::Apart(what) => {
-                        return Err(format!("pair {i} of seed {} parts: {what}", self.seed));
+                        let name = port.name();
+                        return Err(format!(
+                            "{name}: pair {i} of seed {} parts: {what}",
+                            self.seed
+                        ));
                     }
                 }
                 self.summary.calls += pair.lists[0].len() + pair.lists[1].len();

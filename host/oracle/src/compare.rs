@@ -122,6 +122,9 @@ pub fn against(port: &mut dyn Port, case: &Case, expected: &Effect) -> Result<()
 }
 
 fn first_other(name: &str, found: &[u8], expected: &[u8]) -> Option<String> {
+    if found == expected {
+        return None;
+    }
     let at = found.iter().zip(expected).position(|(f, e)| f != e)?;
     let word = |b: &[u8]| {
         b[at / 4 * 4..]

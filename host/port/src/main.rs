@@ -19,8 +19,7 @@ const USAGE: &str = "usage: port [OPTION VALUE]..
   --calls A,B,..     only these calls (then no pairs)
   --boundary WHICH   bytes or words; both if it isn't given";
 
-/// What comes between two looks at the clock, and how many pairs for each
-/// hundred cases.
+/// What comes between two looks at the clock.
 const BATCH: usize = 500;
 const PAIRS_PER_BATCH: usize = 3;
 
@@ -168,8 +167,8 @@ fn say(summary: &Summary, time: Duration, seed: u64) {
         }
     }
     println!(
-        "{} calls by hand, {} cases, {} pairs ({} more left out for want of space); {} calls of \
-         the library in {:.1} s, {:.0} a second; seed {seed}",
+        "{} calls by hand, {} cases; {} pairs of runs, counted for each boundary ({} more left \
+         out for want of space); {} calls of the library in {:.1} s, {:.0} a second; seed {seed}",
         summary.by_hand,
         summary.cases,
         summary.pairs,
