@@ -13,7 +13,10 @@ use oracle::model::{NO_SPACE, model};
 use std::hint::black_box;
 use std::process::ExitCode;
 
-const USAGE: &str = "usage: bench [--rounds N]   (501 rounds if it isn't said)";
+const USAGE: &str = "usage: bench [--rounds N] [--only TEXT]
+  --rounds N     501 if it isn't said
+  --only TEXT    only calls whose name has TEXT in it; check: the check of a
+                 state alone";
 /// Cases on which the Rust on lent words is first compared with the model.
 const COMPARED: usize = 3_000;
 
@@ -24,14 +27,13 @@ const WORDS_MEAN: f64 = 0.25;
 
 fn main() -> ExitCode {
     let arguments: Vec<String> = std::env::args().skip(1).collect();
-    let rounds = match &arguments[..] {
-        [] => Some(501),
-        [option, value] if option == "--rounds" => value.parse().ok().filter(|n| *n > 0),
-        _ => None,
-    };
-    let Some(rounds) = rounds else {
+    let Some((rounds, only)) = options(&arguments) else {
         eprintln!("{USAGE}");
         return ExitCode::FAILURE;
+    };
+    let wanted = |all: Vec<states::Measured>| -> Vec<states::Measured> {
+        let of = |one: &states::Measured| one.name.contains(only.as_str());
+        all.into_iter().filter(of).collect()
     };
     println!("interface.rs: sha256 {}", reference::INTERFACE_SHA256);
     println!("library: {}", naskrefim::LIBRARY);
@@ -43,25 +45,48 @@ fn main() -> ExitCode {
         "Medians of {rounds} rounds, all ways in turn. Calls that may change their state are \
          timed one by one, the state put back before each, outside the timed part; the others \
          many at once. The clock's own time is taken off. Buffers are not cleared between calls. \
-         After a call's name: addresses, routes, tables.\n"
+         After a call's name: addresses, routes, tables."
     );
-    let usual = table(&states::usual(), rounds);
-    println!();
-    println!(
-        "Asked of the port, against the Rust on lent words: on words a geometric mean of at most \
-         {WORDS_MEAN}; on bytes of at most {BYTES_MEAN}, and no call above {BYTES_MOST}.\n"
-    );
-    summary("words", &usual, |t| t.words);
-    summary("bytes", &usual, |t| t.bytes);
-    println!("\nThe longest jobs:\n");
-    table(&states::special(), rounds);
-    println!(
-        "\nA lookup without the check of the state: n/a, none is exported.\n\n\
-         The check of a state alone (the port: `local4` on words, the cheapest call that looks \
-         at the whole state):\n"
-    );
-    check_alone(rounds);
+    let usual = wanted(states::usual());
+    if !usual.is_empty() {
+        let usual = table(&usual, rounds);
+        println!(
+            "\nAsked of the port, against the Rust on lent words: on words a geometric mean of \
+             at most {WORDS_MEAN}; on bytes of at most {BYTES_MEAN}, and no call above \
+             {BYTES_MOST}.\n"
+        );
+        summary("words", &usual, |t| t.words);
+        summary("bytes", &usual, |t| t.bytes);
+    }
+    let special = wanted(states::special());
+    if !special.is_empty() {
+        println!("\nThe longest jobs:");
+        table(&special, rounds);
+    }
+    if "check".contains(only.as_str()) {
+        println!(
+            "\nA lookup without the check of the state: n/a, none is exported.\n\n\
+             The check of a state alone (the port: `local4` on words, the cheapest call that \
+             looks at the whole state):\n"
+        );
+        check_alone(rounds);
+    }
     ExitCode::SUCCESS
+}
+
+/// The rounds, and what a name must have in it.
+fn options(arguments: &[String]) -> Option<(usize, String)> {
+    let (mut rounds, mut only) = (501, String::new());
+    for pair in arguments.chunks(2) {
+        match pair {
+            [option, value] if option == "--rounds" => {
+                rounds = value.parse().ok().filter(|n| *n > 0)?;
+            }
+            [option, value] if option == "--only" => only.clone_from(value),
+            _ => return None,
+        }
+    }
+    Some((rounds, only))
 }
 
 /// Compares it with the model on generated cases, and gives their number.
@@ -96,7 +121,7 @@ fn same_job_is_right() -> usize {
 /// Measures and prints one table.
 fn table(all: &[states::Measured], rounds: usize) -> Vec<(String, Times)> {
     println!(
-        "| call | the Rust, own lists | on lent words, plain | tuned | the port, words | bytes \
+        "\n| call | the Rust, own lists | on lent words, plain | tuned | the port, words | bytes \
          | words / plain | bytes / plain | words / tuned | bytes / tuned |"
     );
     println!("|---|---:|---:|---:|---:|---:|---:|---:|---:|---:|");

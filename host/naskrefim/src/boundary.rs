@@ -42,6 +42,7 @@ macro_rules! calls {
         pub const EXPORTED: &[&str] = &[$(#[cfg(exported = $symbol)] $symbol,)*];
 
         mod library {
+            #[allow(unused_imports)] // where the library has none of them
             use super::Reply;
             unsafe extern "C" {
                 $(

@@ -1,14 +1,17 @@
-//! Holds the linked library against the Rust, on bytes and on words. The
-//! exit status is 0 only if nothing was found.
+//! Holds the linked library against the Rust: on bytes, on words, and
+//! through `Addresses`. The exit status is 0 only if nothing was found.
 mod guarded;
 mod library;
+mod records;
+mod typed;
 
 use library::{OnBytes, OnWords, exported};
 use oracle::call::{KINDS, NAMES};
 use oracle::campaign::{Campaign, Kinds, Summary};
-use oracle::port::Bytes;
+use oracle::port::{Bytes, Port};
 use std::process::ExitCode;
 use std::time::{Duration, Instant, SystemTime};
+use typed::Typed;
 
 const USAGE: &str = "usage: port [OPTION VALUE]..
   --seconds S        generated cases and pairs for S seconds (60 if nothing
@@ -17,7 +20,10 @@ const USAGE: &str = "usage: port [OPTION VALUE]..
   --pairs N          N pairs of runs
   --seed N           where they come from; a fresh seed if it isn't given
   --calls A,B,..     only these calls (then no pairs)
-  --boundary WHICH   bytes or words; both if it isn't given";
+  --boundary WHICH   bytes, words or addresses; all if it isn't given";
+
+/// Where `local4` stands among the calls.
+const LOCAL4: usize = 10;
 
 /// What comes between two looks at the clock.
 const BATCH: usize = 500;
@@ -28,9 +34,11 @@ struct Options {
     counts: Option<(usize, usize)>,
     seed: u64,
     calls: Kinds,
-    bytes: bool,
-    words: bool,
+    /// One of [`BOUNDARIES`], or all.
+    boundary: Option<String>,
 }
+
+const BOUNDARIES: [&str; 3] = ["bytes", "words", "addresses"];
 
 fn main() -> ExitCode {
     let arguments: Vec<String> = std::env::args().skip(1).collect();
@@ -49,8 +57,7 @@ fn options(arguments: &[String]) -> Result<Options, String> {
         counts: None,
         seed: fresh(),
         calls: [true; KINDS],
-        bytes: true,
-        words: true,
+        boundary: None,
     };
     if !arguments.len().is_multiple_of(2) {
         return Err(USAGE.to_string());
@@ -64,8 +71,9 @@ fn options(arguments: &[String]) -> Result<Options, String> {
             "--pairs" => options.counts = Some((cases, number(value)?)),
             "--seed" => options.seed = number(value)?,
             "--calls" => options.calls = kinds(value)?,
-            "--boundary" if value == "bytes" => options.words = false,
-            "--boundary" if value == "words" => options.bytes = false,
+            "--boundary" if BOUNDARIES.contains(&value.as_str()) => {
+                options.boundary = Some(value.clone());
+            }
             _ => return Err(USAGE.to_string()),
         }
     }
@@ -96,21 +104,23 @@ fn run(options: &Options) -> Result<(), String> {
     println!("interface.rs: sha256 {}", reference::INTERFACE_SHA256);
     println!("library: {}", naskrefim::LIBRARY);
     println!("seed {}", options.seed);
-    let mut on_bytes = OnBytes::default();
-    let mut on_words = Bytes(OnWords::default());
+    let on_bytes = exported(naskrefim::bytes::EXPORTED, "interface4_");
+    let on_words = exported(naskrefim::words::EXPORTED, "interface4w_");
+    // a state's words are taken up by way of one call
+    let typed = on_words.map(|there| there && on_words[LOCAL4]);
+    let mut ports: [(Box<dyn Port>, Kinds); 3] = [
+        (Box::new(OnBytes::default()), on_bytes),
+        (Box::new(Bytes(OnWords::default())), on_words),
+        (Box::new(Bytes(Typed::default())), typed),
+    ];
     let mut campaign = Campaign::new(options.seed);
     let mut any = false;
-    if options.bytes {
-        let there = exported(naskrefim::bytes::EXPORTED, "interface4_");
-        let kinds = both("bytes", options.calls, there);
-        any |= kinds.contains(&true);
-        campaign = campaign.with(&mut on_bytes, kinds);
-    }
-    if options.words {
-        let there = exported(naskrefim::words::EXPORTED, "interface4w_");
-        let kinds = both("words", options.calls, there);
-        any |= kinds.contains(&true);
-        campaign = campaign.with(&mut on_words, kinds);
+    for (name, (port, there)) in BOUNDARIES.iter().zip(&mut ports) {
+        if options.boundary.as_ref().is_none_or(|asked| asked == name) {
+            let kinds = both(name, options.calls, *there);
+            any |= kinds.contains(&true);
+            campaign = campaign.with(&mut **port, kinds);
+        }
     }
     if !any {
         return Err("the linked library has none of these calls".to_string());
