@@ -1,13 +1,21 @@
 // Requests to add and to delete a route, over the state's words.
+use gateway::Reached;
 ghost use mathlib.Core.Path.{_≡_};
-ghost use mathlib.Core.Bool.{true};
+ghost use mathlib.Core.Bool.{true, _||_};
+ghost use lib.Dec.{eqb};
 ghost use Prim.Native.Nat.{_≤_};
 ghost use lib.ListN.{length};
-ghost use Rattle.layout.specs.Request.{fitDelRoute4};
+ghost use Rattle.layout.specs.Request.{fitAddRoute4, fitDelRoute4};
 ghost use Rattle.definition.specs.State.{State};
-ghost use Rattle.definition.specs.Reference.Routes.{delRoute4Request};
+ghost use Rattle.definition.specs.Reference.Routes.{by, tableNamed, delRoute4Request};
+ghost use Rattle.definition.specs.Reference.Lookup.{listed};
+ghost use Rattle.definition.specs.Reference.Insert.{create4};
 ghost use Rattle.state.specs.Holds.{Holds, Valid};
+ghost use Rattle.lists.specs.Lists.{among};
+ghost use Rattle.tables.specs.Listed.{tablesOf};
+ghost use Rattle.gateway.specs.Rows.{reachedOf};
 ghost use Rattle.request.specs.Done.{Requested};
+ghost use Rattle.request.specs.Check.{prefsrcCheck, checkAll};
 
 // How many event rows were told, a refusal's number, or that a list has no room: then all is as it was.
 pub enum Done {
@@ -43,4 +51,45 @@ pub fn del_route4(s: &mut [u32], ev: &mut [u32], q: &[u32]) -> Done
     events::del_route4(ev, &s[at..at + 32]);
     state::remove_route(s, place);
     Done::Rows(1)
+}
+
+const TABLE_DEFAULT: u32 = 253;
+
+// The preferred source, once the table is listed.
+fn prefsrc_check(s: &[u32], q: &[u32], t: u32, local: bool, linked: bool) -> Reached
+    requires { ⌜ Valid (now s) ⌝ }
+    requires { ⌜ (length (now q) ≡ 34) × (t ≡ tableNamed (now q)) ⌝ }
+    ensures { λ r. ⌜ ((st : State) → Holds (now (s .entry)) st → local ≡ (listed 255 st || eqb 255 t) → reachedOf r ≡ prefsrcCheck (now (q .entry)) (by linked) (create4 (tableNamed (now (q .entry))) st)) ⌝ }
+{
+    if q[8] != 1 {
+        return Reached::By(linked);
+    }
+    let own = prefsrc::prefsrc_table(t);
+    let own_listed = tables::listed(s, own) | (own == t);
+    let n = state::route_count(s);
+    if prefsrc::valid_prefsrc4(view::routes(s), n, q, own_listed, local) {
+        return Reached::By(linked);
+    }
+    Reached::Refused(INVALID)
+}
+
+// Every check before the insertion, as it comes out once the table is listed: nothing is written yet.
+fn check(s: &[u32], q: &[u32]) -> Reached
+    requires { ⌜ Valid (now s) ⌝ }
+    requires { ⌜ (length (now q) ≡ 34) × (fitAddRoute4 (now q) ≡ true) ⌝ }
+    ensures { λ r. ⌜ ((st : State) → Holds (now (s .entry)) st → reachedOf r ≡ checkAll (now (q .entry)) (create4 (tableNamed (now (q .entry))) st)) ⌝ }
+{
+    let number = asked::form_check(q);
+    if number != 0 {
+        return Reached::Refused(number);
+    }
+    let t = asked::table_named(q);
+    let local = tables::listed(s, tables::LOCAL) | (tables::LOCAL == t);
+    let default = tables::listed(s, TABLE_DEFAULT) | (TABLE_DEFAULT == t);
+    let n = state::route_count(s);
+    let reached = gateway::reach_check(view::routes(s), n, q, local, default);
+    match reached {
+        Reached::Refused(error) => Reached::Refused(error),
+        Reached::By(linked) => prefsrc_check(s, q, t, local, linked),
+    }
 }
