@@ -8,7 +8,7 @@ use native.Mathlib.Omega.{arith}
 use lib.ListN.{length}
 use Rattle.lists.specs.Lists.{Row, flat, put}
 use Rattle.lists.specs.Put.{put-none}
-use Rattle.definition.specs.State.{State, Out, sizes, becomes, stays}
+use Rattle.definition.specs.State.{State, Out, sizes, becomes}
 use Rattle.definition.specs.Words.{within, fitState}
 use Rattle.definition.specs.Reference.Addresses.{Outcome, goes, refused}
 use Rattle.state.specs.Holds.{Holds, Valid}
@@ -43,11 +43,11 @@ pub sound-valid : {w : List ℕ} → Sound w → Valid w
 sound-valid s = record { state = s .state; holds = s .holding }
 
 -- ---- the ways out
-no-events : (ev : List ℕ) → ev ≡ put 0 (flat []) ev
+pub no-events : (ev : List ℕ) → ev ≡ put 0 (flat []) ev
 unfolding flat
 no-events ev = put-none 0 ev
 
-one-event : (r : Row) (ev : List ℕ) → put 0 r ev ≡ put 0 (flat (r ∷ [])) ev
+pub one-event : (r : Row) (ev : List ℕ) → put 0 r ev ≡ put 0 (flat (r ∷ [])) ev
 unfolding flat
 one-event r ev = ap (λ (x : List ℕ). put 0 x ev) (sym (append-nil r))
 
@@ -57,15 +57,15 @@ module _ (st : State) {w : List ℕ} (ev : List ℕ) where
       let e : within (sizes later) ≡ true = holds-within h in
       record { answer = rw e; holds = rw e h; events = no-events ev }
 
-  pub request-stays : (later : State) → Holds w later → Requested (goes (stays later)) st w ev ev (Rows 0)
-  request-stays later h =
-      let e : within (sizes later) ≡ true = holds-within h in
-      record { answer = rw e; holds = rw e h; events = rw e (no-events ev) }
-
   pub request-told : {ev′ : List ℕ} (later : State) (r : Row) → Holds w later → ev′ ≡ put 0 r ev → Requested (goes (becomes later (r ∷ []))) st w ev ev′ (Rows 1)
   request-told later r h k =
       let e : within (sizes later) ≡ true = holds-within h in
       record { answer = rw e; holds = rw e h; events = rw e (k ∙ one-event r ev) }
+
+  pub request-goes : {ev′ : List ℕ} (later : State) (rows : List Row) → Holds w later → ev′ ≡ put 0 (flat rows) ev → Requested (goes (becomes later rows)) st w ev ev′ (Rows (length rows))
+  request-goes later rows h k =
+      let e : within (sizes later) ≡ true = holds-within h in
+      record { answer = rw e; holds = rw e h; events = rw e k }
 
   pub request-full : (o : Outcome) → doneOf o ≡ Full → Holds w st → Requested o st w ev ev Full
   request-full (goes o) e h = go (within (o .peak)) refl

@@ -1,3 +1,4 @@
 pub mod Done
 pub mod Delete
 pub mod Check
+pub mod Add

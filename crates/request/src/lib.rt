@@ -1,20 +1,24 @@
 // Requests to add and to delete a route, over the state's words.
 use gateway::Reached;
+use insert::Inserted;
 ghost use mathlib.Core.Path.{_≡_};
 ghost use mathlib.Core.Bool.{true, _||_};
 ghost use lib.Dec.{eqb};
 ghost use Prim.Native.Nat.{_≤_};
 ghost use lib.ListN.{length};
-ghost use Rattle.layout.specs.Request.{fitAddRoute4, fitDelRoute4};
+ghost use Rattle.layout.specs.Request.{nlmFlags, fitAddRoute4, fitDelRoute4};
 ghost use Rattle.definition.specs.State.{State};
-ghost use Rattle.definition.specs.Reference.Routes.{by, tableNamed, delRoute4Request};
+ghost use Rattle.definition.specs.Reference.Routes.{by, tableNamed, insertedAs, askedRoute, addRoute4, delRoute4Request};
 ghost use Rattle.definition.specs.Reference.Lookup.{listed};
-ghost use Rattle.definition.specs.Reference.Insert.{create4};
+ghost use Rattle.definition.specs.Reference.Insert.{listTable, create4, insert4};
 ghost use Rattle.state.specs.Holds.{Holds, Valid};
 ghost use Rattle.lists.specs.Lists.{among};
 ghost use Rattle.tables.specs.Listed.{tablesOf};
 ghost use Rattle.gateway.specs.Rows.{reachedOf};
-ghost use Rattle.request.specs.Done.{Requested};
+ghost use Rattle.layout.specs.Route.{fitRoute};
+ghost use Rattle.definition.specs.Words.{fitState};
+ghost use Rattle.request.specs.Done.{Requested, Sound};
+ghost use Rattle.request.specs.Add.{fullOf, Tells};
 ghost use Rattle.request.specs.Check.{prefsrcCheck, checkAll};
 
 // How many event rows were told, a refusal's number, or that a list has no room: then all is as it was.
@@ -91,5 +95,71 @@ fn check(s: &[u32], q: &[u32]) -> Reached
     match reached {
         Reached::Refused(error) => Reached::Refused(error),
         Reached::By(linked) => prefsrc_check(s, q, t, local, linked),
+    }
+}
+
+fn full(i: Inserted) -> bool
+    ensures { λ r. ⌜ r ≡ fullOf i ⌝ }
+{
+    match i {
+        Inserted::Put(_) => false,
+        Inserted::Nothing => false,
+        Inserted::Refused(_) => false,
+        Inserted::Full => true,
+    }
+}
+
+// What an insertion comes to, a row put in told of.
+fn tell(ev: &mut [u32], new: &[u32], i: Inserted) -> Done
+    requires { ⌜ (34 ≤ length (now ev)) × (length (now new) ≡ 32) ⌝ }
+    ensures { λ r. ⌜ Tells (now (new .entry)) i (now (ev .entry)) (now (ev .exit)) r ⌝ }
+{
+    match i {
+        Inserted::Put(flags) => {
+            events::new_route4(ev, new, flags);
+            Done::Rows(1)
+        }
+        Inserted::Nothing => Done::Rows(0),
+        Inserted::Refused(error) => Done::Refused(error),
+        Inserted::Full => Done::Full,
+    }
+}
+
+// The row is put in before its table is listed: where it has no room, nothing is written.
+fn add_checked(s: &mut [u32], ev: &mut [u32], q: &[u32], t: u32, linked: bool) -> Done
+    requires { ⌜ Sound (now s) ⌝ }
+    requires { ⌜ length (listTable t (tablesOf (now s))) ≤ 32 ⌝ }
+    requires { ⌜ (length (now q) ≡ 34) × (fitRoute (askedRoute (now q) linked) ≡ true) ⌝ }
+    requires { ⌜ 34 ≤ length (now ev) ⌝ }
+    ensures { λ r. ⌜ ((st : State) → Holds (now (s .entry)) st → fitState st ≡ true → Requested (insertedAs (askedRoute (now (q .entry)) linked) (insert4 (askedRoute (now (q .entry)) linked) (nlmFlags (now (q .entry))) (st .routes)) (create4 t st)) st (now (s .exit)) (now (ev .entry)) (now (ev .exit)) r) ⌝ }
+{
+    let mut new = [0u32; 32];
+    asked::asked_route(q, linked, &mut new);
+    let inserted = insert::insert4(s, &new, q[14]);
+    if full(inserted) {
+        return Done::Full;
+    }
+    tables::list_table(s, t);
+    tell(ev, &new, inserted)
+}
+
+// The table is listed whatever comes of it, unless a list has no room.
+pub fn add_route4(s: &mut [u32], ev: &mut [u32], q: &[u32]) -> Done
+    requires { ⌜ Sound (now s) ⌝ }
+    requires { ⌜ (length (now q) ≡ 34) × (fitAddRoute4 (now q) ≡ true) ⌝ }
+    requires { ⌜ 34 ≤ length (now ev) ⌝ }
+    ensures { λ r. ⌜ ((st : State) → Holds (now (s .entry)) st → fitState st ≡ true → Requested (addRoute4 (now (q .entry)) st) st (now (s .exit)) (now (ev .entry)) (now (ev .exit)) r) ⌝ }
+{
+    let t = asked::table_named(q);
+    if 32 < tables::tables_after(s, t) {
+        return Done::Full;
+    }
+    let checked = check(s, q);
+    match checked {
+        Reached::Refused(error) => {
+            tables::list_table(s, t);
+            Done::Refused(error)
+        }
+        Reached::By(linked) => add_checked(s, ev, q, t, linked),
     }
 }
