@@ -1,9 +1,9 @@
 -- Laws of words as bytes: lengths, each way back, and how both go with lists joined, cut and changed at multiples of four.
 -- Assumes nothing.
 use Prim.Native.Nat.{ℕ, zero, suc, _+_, _*_, _/_, _%_, _≤_, _<_}
-use mathlib.Core.Path.{_≡_, refl, sym, ap, _∙_}
+use mathlib.Core.Path.{_≡_, refl, _∙_}
 use mathlib.Core.List.{List, [], _∷_, _++_, append-assoc}
-use native.Mathlib.Nat.{div-div-eq-div-mul, mod-eq-of-lt, mul-zero, mul-suc, not-suc-le-zero, le-of-suc-le-suc, zero-add}
+use native.Mathlib.Nat.{div-div-eq-div-mul, mod-eq-of-lt, mul-suc, zero-add}
 use native.Mathlib.Numerals.{add-one, add-four}
 use native.Mathlib.Omega.{arith}
 use lib.ListN.{length, getD, set, take, drop, length-append}

@@ -1,14 +1,13 @@
 -- `endian::bytes_of` meets its contract: after i turns the bytes of the first i words are put.
 -- Assumes nothing.
-use Prim.Native.Nat.{ℕ, _+_, _-_, _*_, _/_, _≤_}
+use Prim.Native.Nat.{ℕ, _-_, _≤_}
 use mathlib.Core.Path.{_≡_, refl, ap, _∙_}
 use mathlib.Core.List.{List}
 use native.Mathlib.Omega.{arith}
 use denote.Ref.{now}
-use lib.ListN.{length, take, set, length-set}
+use lib.ListN.{length, take, length-set}
 use lib.Seq.{take-all}
 use Rattle.lists.specs.Lists.{put}
-use Rattle.lists.specs.Put.{put-none}
 use Rattle.endian.specs.Endian.{bytesOf}
 use Rattle.endian.specs.Laws.{bytes-none, four-more-bytes}
 use borrow.Author.Needs.{needs}
