@@ -1,11 +1,14 @@
 pub mod Lists
 pub mod All
 pub mod Rows
+pub mod Chop
 pub mod Place
 pub mod Parts
 pub mod Laid
+pub mod Pass
 pub mod Count
 pub mod Keep
 pub mod Put
 pub mod At
 pub mod Region
+pub mod Split

@@ -7,7 +7,7 @@ use native.Mathlib.Nat.{add-zero, add-assoc}
 use native.Mathlib.Numerals.{add-one}
 use native.Mathlib.Omega.{arith}
 use lib.ListN.{length, getD, set, take, drop, length-append, length-drop, take-append-drop, List·getD-append}
-use lib.Seq.{length-take-le, take-at, drop-at, set-at, drop-cons, take-suc, set-split, drop-drop, take-add, getD-take, getD-drop, getD-append-add}
+use lib.Seq.{length-take-le, take-at, drop-at, set-at, drop-cons, take-suc, set-split, drop-append-add, drop-drop, take-add, getD-take, getD-drop, getD-append-add}
 use Rattle.lists.specs.Lists.{zeros, span, put}
 use Rattle.lists.specs.Rows.{length-zeros, length-span}
 
@@ -91,6 +91,24 @@ module _ (at : ℕ) (vs l : List ℕ) (h : at + length vs ≤ length l) where
       ∙ getD-append-add p q (i - (at + length vs)) d
       ∙ getD-drop (at + length vs) l (i - (at + length vs)) d
       ∙ ap (λ (n : ℕ). getD l n d) back
+
+  pub drop-put-behind : (n : ℕ) → at + length vs ≤ n → drop n (put at vs l) ≡ drop n l
+  unfolding put
+  drop-put-behind n k =
+      let p = take at l ++ vs in
+      let q = drop (at + length vs) l in
+      let long : length p ≡ at + length vs = rw (length-append, before-put) in
+      let there : length p + (n - (at + length vs)) ≡ n = omega arith in
+      let back : at + length vs + (n - (at + length vs)) ≡ n = omega arith in
+      ap (λ (x : List ℕ). drop n x) (sym (append-assoc (take at l) vs q))
+      ∙ ap (λ (m : ℕ). drop m (p ++ q)) (sym there)
+      ∙ drop-append-add p q (n - (at + length vs))
+      ∙ drop-drop (n - (at + length vs)) (at + length vs) l
+      ∙ ap (λ (m : ℕ). drop m l) back
+
+  pub span-put-behind : (b n : ℕ) → at + length vs ≤ b → span b n (put at vs l) ≡ span b n l
+  unfolding span
+  span-put-behind b n k = ap (take n) (drop-put-behind b k)
 
   -- words of the run are its
   pub getD-put-in : (i d : ℕ) → i < length vs → getD (put at vs l) (at + i) d ≡ getD vs i d
@@ -203,3 +221,24 @@ put-out at k n l h =
     let none = length-zeros k in
     ap (λ (m : ℕ). put (at + m) (zeros k) (put at (span (at + k) n l) l)) (sym long)
     ∙ put-behind at (span (at + k) n l) l (omega arith) (zeros k) (omega arith)
+
+-- a run put in a part of k words from a on is a run put in the whole
+pub put-part : (a k at : ℕ) (vs l : List ℕ) → a + k ≤ length l → at + length vs ≤ k
+    → take a l ++ (put at vs (take k (drop a l)) ++ drop k (drop a l)) ≡ put (a + at) vs l
+put-part a k at vs l h g =
+    let m = take k (drop a l) in
+    let q = drop k (drop a l) in
+    let p = take a l ++ take at m in
+    let lm : length m ≡ k = length-take-le k (drop a l) (rw length-drop (omega arith)) in
+    let lp : length p ≡ a + at = rw (length-append, length-take-le a l (omega arith), length-take-le at m (omega arith)) in
+    let there : l ≡ p ++ (span at (length vs) m ++ (drop (at + length vs) m ++ q)) =
+    sym (take-append-drop a l)
+    ∙ ap (λ (x : List ℕ). take a l ++ x) (sym (take-append-drop k (drop a l)) ∙ ap (λ (x : List ℕ). x ++ q) (cut at (length vs) m))
+    ∙ simp append-assoc
+    in
+    let part : put at vs m ≡ take at m ++ (vs ++ drop (at + length vs) m) = unfold put in refl in
+    let regrouped : take a l ++ (take at m ++ (vs ++ drop (at + length vs) m) ++ q) ≡ p ++ (vs ++ (drop (at + length vs) m ++ q)) = simp append-assoc in
+    ap (λ (x : List ℕ). take a l ++ (x ++ q)) part
+    ∙ regrouped
+    ∙ sym (put-at p (span at (length vs) m) (drop (at + length vs) m ++ q) vs (a + at) lp (length-span at (length vs) m (omega arith)))
+    ∙ ap (put (a + at) vs) (sym there)

@@ -1,0 +1,190 @@
+-- Rows retained in place, one after the other.
+-- Assumes nothing.
+use Prim.Native.Nat.{ℕ, zero, suc, _+_, _-_, _*_, _≤_}
+use mathlib.Core.Path.{_≡_, refl, sym, ap, _∙_}
+use mathlib.Core.Bool.{Bool, true, false, cond, not, _&&_}
+use mathlib.Core.List.{List, [], _∷_, _++_, append-nil}
+use native.Mathlib.Nat.{mul-zero, mul-suc, mul-le-mul-left}
+use native.Mathlib.Numerals.{add-one}
+use native.Mathlib.Omega.{arith}
+use lib.Dec.{eqb}
+use lib.ListN.{length, take, drop, set, length-append, length-drop}
+use lib.Seq.{drop-at, drop-drop}
+use borrow.Author.Tests.{eq-eqb, ne-eqb}
+use Rattle.lists.specs.Lists.{Row, all, keep, flat, span, put, chop, zeros, pad}
+use Rattle.lists.specs.All.{all-keep}
+use Rattle.lists.specs.Rows.{length-flat, length-chop, sized-chop, chop-pad, length-zeros, length-span}
+use Rattle.lists.specs.Put.{put-behind, put-none, span-put-behind}
+use Rattle.lists.specs.At.{flat-append, flat-cons}
+use Rattle.layout.specs.Route.{device, scope}
+use Rattle.definition.specs.State.{State, withRoutes}
+use Rattle.definition.specs.Words.{routeCount}
+use Rattle.definition.specs.Reference.Addresses.{down}
+use Rattle.definition.specs.Reference.Removal.{disable}
+use Rattle.state.specs.Holds.{Holds, beforeRoutes, encode-routes, sizedR, atRoutes, count-routes, holds-long}
+use Rattle.state.specs.Change.{retain-routes}
+
+-- a route remains that is not through the device; with host, one of host scope remains too
+unfoldable pub remains : Bool → Row → Bool
+remains host r = not (eqb (device r) 1 && not (host && eqb (scope r) 254))
+
+-- ---- one row more
+pub chop-more : (k i : ℕ) (l : List ℕ) → chop k (suc i) l ≡ chop k i l ++ (span (k * i) k l ∷ [])
+unfolding chop span
+chop-more k zero l = ap (λ (n : ℕ). take k (drop n l) ∷ []) (sym (mul-zero k))
+chop-more k (suc i) l =
+    let on : k + k * i ≡ k * suc i = rw mul-suc (omega arith) in
+    ap (λ (x : List Row). take k l ∷ x)
+    (chop-more k i (drop k l)
+    ∙ ap (λ (x : List ℕ). chop k i (drop k l) ++ (take k x ∷ [])) (drop-drop (k * i) k l ∙ ap (λ (n : ℕ). drop n l) on))
+
+pub keep-append : (p : Row → Bool) (a b : List Row) → keep p (a ++ b) ≡ keep p a ++ keep p b
+keep-append p [] b = refl
+keep-append p (r ∷ a) b = go (p r) (keep-append p a b)
+  where
+    go : (t : Bool) → keep p (a ++ b) ≡ keep p a ++ keep p b → cond t (r ∷ keep p (a ++ b)) (keep p (a ++ b)) ≡ cond t (r ∷ keep p a) (keep p a) ++ keep p b
+    go true e = ap (λ (x : List Row). r ∷ x) e
+    go false e = e
+
+pub keep-le : (p : Row → Bool) (l : List Row) → length (keep p l) ≤ length l
+keep-le p [] = omega arith
+keep-le p (r ∷ l) = go (p r) (keep-le p l)
+  where
+    go : (t : Bool) → length (keep p l) ≤ length l → length (cond t (r ∷ keep p l) (keep p l)) ≤ suc (length l)
+    go true e = omega arith
+    go false e = omega arith
+
+-- ---- rows of k words from base on, of which the first i have been looked at
+abbrev pub rowsOf : ℕ → ℕ → List ℕ → ℕ → List Row
+rowsOf base k w i = chop k i (drop base w)
+
+module _ (p : Row → Bool) (base k : ℕ) (w : List ℕ) (i : ℕ) (h : base + (k * i + k) ≤ length w) where
+  abbrev kept : List Row
+  kept = keep p (rowsOf base k w i)
+
+  abbrev row : Row
+  row = span (base + k * i) k w
+
+  next : rowsOf base k w (i + 1) ≡ rowsOf base k w i ++ (row ∷ [])
+  unfolding span
+  next =
+      rw add-one
+      (chop-more k i (drop base w)
+      ∙ ap (λ (x : List ℕ). rowsOf base k w i ++ (take k x ∷ [])) (drop-drop (k * i) base w))
+
+  length-kept : length (flat kept) ≡ k * length kept
+  length-kept =
+      length-flat k kept (all-keep (λ r. eqb (length r) k) p (rowsOf base k w i) (sized-chop k i (drop base w) (rw length-drop (omega arith))))
+
+  few : length kept ≤ i
+  few = rw (length-chop k i (drop base w)) at (keep-le p (rowsOf base k w i))
+
+  room : k * length kept ≤ k * i
+  room = mul-le-mul-left k few
+
+  -- the next row still stands
+  pub read-next : span (base + k * i) k (put base (flat kept) w) ≡ row
+  read-next = span-put-behind base (flat kept) w (omega (arith, length-kept, room)) (base + k * i) k (omega (arith, length-kept, room))
+
+  then : (b : Bool) → keep p (row ∷ []) ≡ cond b (row ∷ []) []
+      → (cond b (put (base + k * length kept) row (put base (flat kept) w)) (put base (flat kept) w) ≡ put base (flat (kept ++ keep p (row ∷ []))) w)
+      × (length kept + cond b 1 0 ≡ length (kept ++ keep p (row ∷ [])))
+  then true e =
+      let long = length-kept in
+      let wide : length row ≡ k = length-span (base + k * i) k w (omega arith) in (
+        rw e
+            (ap (λ (n : ℕ). put (base + n) row (put base (flat kept) w)) (sym length-kept)
+            ∙ put-behind base (flat kept) w (omega (arith, length-kept, room)) row (omega (arith, length-kept, room))
+            ∙ ap (λ (x : List ℕ). put base x w) (sym (flat-append kept (row ∷ []) ∙ ap (λ (x : List ℕ). flat kept ++ x) (flat-cons row [] ∙ none-behind)))),
+        rw e (sym (length-append kept (row ∷ []))),
+      )
+    where
+      none-behind : row ++ flat [] ≡ row
+      none-behind = unfold flat in append-nil row
+  then false e = (rw (e, append-nil), rw (e, append-nil) (omega arith))
+
+  pub step-words : cond (p row) (put (base + k * length kept) row (put base (flat kept) w)) (put base (flat kept) w) ≡ put base (flat (keep p (rowsOf base k w (i + 1)))) w
+  step-words = then (p row) refl .0 ∙ ap (λ (x : List Row). put base (flat x) w) (sym (ap (keep p) next ∙ keep-append p (rowsOf base k w i) (row ∷ [])))
+
+  pub step-count : length kept + cond (p row) 1 0 ≡ length (keep p (rowsOf base k w (i + 1)))
+  step-count = then (p row) refl .1 ∙ ap (λ (x : List Row). length x) (sym (ap (keep p) next ∙ keep-append p (rowsOf base k w i) (row ∷ [])))
+
+-- ---- the routes
+pub routes-of : {w : List ℕ} {st : State} → Holds w st → rowsOf 1283 32 w (routeCount w) ≡ st .routes
+routes-of {w} {st} h =
+    let there : drop 1283 w ≡ pad 8192 (flat (st .routes)) ++ pad 32 (st .tables) =
+    ap (drop 1283) (h .words ∙ encode-routes st) ∙ drop-at (beforeRoutes st) (pad 8192 (flat (st .routes)) ++ pad 32 (st .tables)) 1283 (atRoutes h)
+    in
+    rw (count-routes h, there) (chop-pad 8192 32 (st .routes) (pad 32 (st .tables)) (sizedR h))
+
+-- the rows that remain, zeros for the others, and their count
+pub retained : {w : List ℕ} {st : State} (p : Row → Bool) → Holds w st
+    → Holds (set (put (1283 + 32 * length (keep p (rowsOf 1283 32 w (routeCount w)))) (zeros (32 * (routeCount w - length (keep p (rowsOf 1283 32 w (routeCount w)))))) (put 1283 (flat (keep p (rowsOf 1283 32 w (routeCount w)))) w)) 1 (length (keep p (rowsOf 1283 32 w (routeCount w)))))
+    (withRoutes (keep p (st .routes)) st)
+retained {w} {st} p h =
+    let rows = keep p (st .routes) in
+    let n = length (st .routes) - length rows in
+    let some : length rows ≤ length (st .routes) = keep-le p (st .routes) in
+    let long : length (flat rows) ≡ 32 * length rows = length-flat 32 rows (all-keep (λ r. eqb (length r) 32) p (st .routes) (sizedR h)) in
+    let all : length w ≡ 9507 = holds-long h in
+    let within : length (st .routes) ≤ 256 = h .routesWithin in
+    let none = length-zeros (32 * n) in
+    rw (routes-of h, count-routes h)
+    (rw (← long) (rw (← (put-behind 1283 (flat rows) w (omega arith) (zeros (32 * n)) (omega arith))) at (retain-routes h p n (omega arith))))
+
+-- ---- the test, by cases
+pub off-device : (host : Bool) (r : Row) → (device r ≡ 1 → ⊥) → true ≡ remains host r
+unfolding remains
+off-device host r h = sym (rw (ne-eqb (device r) 1 h))
+
+pub on-device : (host : Bool) (r : Row) → device r ≡ 1 → remains host r ≡ host && eqb (scope r) 254
+unfolding remains
+on-device host r h = rw (eq-eqb (device r) 1 h) (twice (host && eqb (scope r) 254))
+  where
+    twice : (b : Bool) → not (not b) ≡ b
+    twice true = refl
+    twice false = refl
+
+-- the same rows remain under tests that agree
+pub keep-same : (p q : Row → Bool) (l : List Row) → ((r : Row) → p r ≡ q r) → keep p l ≡ keep q l
+keep-same p q [] h = refl
+keep-same p q (r ∷ l) h = rw (h r, keep-same p q l h)
+
+pub is-down : (st : State) → withRoutes (keep (remains true) (st .routes)) st ≡ (down st) .state
+unfolding down remains
+is-down st = refl
+
+pub is-disable : (st : State) → length (st .addresses) ≡ 0 → withRoutes (keep (remains false) (st .routes)) st ≡ (disable st) .state
+unfolding disable
+is-disable st e = rw (eq-eqb (length (st .addresses)) 0 e) (ap (λ (l : List Row). withRoutes l st) (keep-same (remains false) (λ r. not (eqb (device r) 1)) (st .routes) same))
+  where
+    none : (b : Bool) → not (b && true) ≡ not b
+    none true = refl
+    none false = refl
+
+    same : (r : Row) → remains false r ≡ not (eqb (device r) 1)
+    same r = unfold remains in none (eqb (device r) 1)
+
+pub no-disable : (st : State) → (length (st .addresses) ≡ 0 → ⊥) → st ≡ (disable st) .state
+unfolding disable
+no-disable st e = rw (ne-eqb (length (st .addresses)) 0 e)
+
+-- ---- one turn, and the end
+pub kept-few : (p : Row → Bool) (base k : ℕ) (w : List ℕ) (i : ℕ) → length (keep p (rowsOf base k w i)) ≤ i
+kept-few p base k w i = rw (length-chop k i (drop base w)) at (keep-le p (rowsOf base k w i))
+
+pub next-both : (p : Row → Bool) (base k : ℕ) (w : List ℕ) (i : ℕ) → base + (k * i + k) ≤ length w → {j r : ℕ} {s x : List ℕ}
+    → j ≡ length (keep p (rowsOf base k w i)) → s ≡ put base (flat (keep p (rowsOf base k w i))) w
+    → r ≡ j + cond (p (span (base + k * i) k s)) 1 0 → x ≡ cond (p (span (base + k * i) k s)) (put (base + k * j) (span (base + k * i) k s) s) s
+    → (r ≡ length (keep p (rowsOf base k w (i + 1)))) × (x ≡ put base (flat (keep p (rowsOf base k w (i + 1)))) w)
+next-both p base k w i h ej es er ex =
+    (er ∙ rw (es, ej, read-next p base k w i h) (step-count p base k w i h), ex ∙ rw (es, ej, read-next p base k w i h) (step-words p base k w i h))
+
+pub none-kept : (p : Row → Bool) (w : List ℕ) → w ≡ put 1283 (flat (keep p (rowsOf 1283 32 w 0))) w
+unfolding flat chop
+none-kept p w = put-none 1283 w
+
+pub ended : {w : List ℕ} {st : State} (p : Row → Bool) → Holds w st → {n i j v : ℕ} {s x : List ℕ} → n ≡ routeCount w → i ≡ n
+    → j ≡ length (keep p (rowsOf 1283 32 w i)) → s ≡ put 1283 (flat (keep p (rowsOf 1283 32 w i))) w
+    → x ≡ put (1283 + 32 * j) (zeros (32 * (n - j))) s → v ≡ j → Holds (set x 1 v) (withRoutes (keep p (st .routes)) st)
+ended p h en ei ej es ex ev = rw (ev, ex, es, ej, ei, en) (retained p h)
