@@ -1,0 +1,56 @@
+use mathlib.Core.Bool.{true}
+use lib.ListN.{length}
+use Rattle.definition.specs.Words.{decode}
+use Rattle.definition.specs.Step.{eventsFit}
+use Rattle.interface.specs.Laws.{valid, held}
+use Rattle.changes.specs.Laws.{down-no, down-yes}
+use borrow.Author.Needs.{needs}
+use Rattle.changes.proofs.down.Statement.{statement}
+use Rattle.changes.proofs.down.Tie as tie
+use Rattle.changes.proofs.down.Reads as reads
+use Rattle.changes.proofs.down.Lts as lts
+use Rattle.interface.proofs.checked.Reads as checked-reads
+use Rattle.retain.proofs.down.Reads as down-reads
+
+-- src/lib.rt:19:9
+checked-requires : tie.Need-checked-requires
+checked-requires c κs = search needs
+
+-- src/lib.rt:21:9
+same-length : tie.Need-same-length
+same-length c = search needs
+
+-- src/lib.rt:21:9
+returns : tie.Need-returns
+returns c =
+    let k = c .before in
+    let a = k .before .before .before .before .args in
+    let x = down-no (a .state .now) (a .events .now) (k .checked .result) (k .checked .ensures) (c .if1 .taken) in
+    (x .answer, (x .words, x .events))
+
+-- src/lib.rt:23:5
+down-requires : tie.Need-down-requires
+down-requires c κs =
+    let e = c .before in
+    let k = e .before in
+    let a = k .before .before .before .before .args in
+    valid (eventsFit (length (a .events .now))) true true (a .state .now) (k .checked .result) (k .checked .ensures) (e .if1 .left)
+
+-- src/lib.rt:14:1
+same-length-2 : tie.Need-same-length-2
+same-length-2 c = search needs
+
+-- src/lib.rt:14:1
+returns-2 : tie.Need-returns-2
+returns-2 c =
+    let y = c .before .before in
+    let e = y .before .before in
+    let k = e .before in
+    let a = k .before .before .before .before .args in
+    let h = held (eventsFit (length (a .events .now))) true true (a .state .now) (k .checked .result) (k .checked .ensures) (e .if1 .left) in
+    let x = down-yes (a .state .now) (a .events .now) (k .checked .result) (k .checked .ensures) _ (e .if1 .left) (y .down .ensures (decode (a .state .now)) h) in
+    (x .answer, (x .words, x .events))
+
+pub down-spec : {M : Type 1} → statement M
+down-spec =
+    tie.close (tie.spec checked-requires same-length returns down-requires same-length-2 returns-2)

@@ -1,0 +1,14 @@
+-- The answers of the calls that change: document 01's number and values for each case, and the case for each reply.
+use mathlib.Core.Bool.{cond}
+use lib.Dec.{eqb}
+use Rattle.definition.specs.Call.{Reply}
+use Rattle.interface.specs.Answer.{Numbers, refusedBy, valuing}
+use Rattle.changes.specs.declared.Done.{Done}
+use Rattle.changes.specs.declared.Done.the-variants.{Refused, Rows}
+
+abbrev pub doneBy : Done → Numbers
+doneBy (Refused n) = refusedBy n
+doneBy (Rows n) = valuing n
+
+abbrev pub doneOf : Reply → Done
+doneOf r = cond (eqb (r .number) 0) (Rows (r .value)) (Refused (r .number))
