@@ -3,6 +3,7 @@ use mathlib.Core.Bool.{cond}
 use lib.Dec.{eqb}
 use Rattle.definition.specs.Call.{Reply}
 use Rattle.interface.specs.Answer.{Numbers, refusedBy, valuing}
+use Rattle.request.specs.declared.Done as request
 use Rattle.changes.specs.declared.Done.{Done}
 use Rattle.changes.specs.declared.Done.the-variants.{Refused, Rows}
 
@@ -12,3 +13,9 @@ doneBy (Rows n) = valuing n
 
 abbrev pub doneOf : Reply → Done
 doneOf r = cond (eqb (r .number) 0) (Rows (r .value)) (Refused (r .number))
+
+-- 203 where a list would pass its limit
+abbrev pub publicOf : request.Done → Done
+publicOf (request.the-variants.Rows n) = Rows n
+publicOf (request.the-variants.Refused n) = Refused n
+publicOf request.the-variants.Full = Refused 203

@@ -2,8 +2,10 @@
 ghost use mathlib.Core.Path.{_≡_};
 ghost use lib.ListN.{length};
 ghost use Rattle.lists.specs.Lists.{flat, put};
-ghost use Rattle.definition.specs.Step.{downCall};
-ghost use Rattle.changes.specs.Answer.{doneOf};
+ghost use mathlib.Core.Bool.{_&&_};
+ghost use Rattle.layout.specs.Request.{fitAddRoute4, fitDelRoute4, addRoute4Size, delRoute4Size};
+ghost use Rattle.definition.specs.Step.{downCall, addRoute4Call, delRoute4Call, requestIs};
+ghost use Rattle.changes.specs.Answer.{doneOf, publicOf};
 
 // What a changing call answers: a refusal's number, or how many event rows it wrote.
 pub enum Done {
@@ -22,4 +24,60 @@ pub fn down(state: &mut [u32], events: &mut [u32]) -> Done
     }
     retain::down(state);
     Done::Rows(0)
+}
+
+// A request of its words that is fit.
+fn fit_add_route4(q: &[u32]) -> bool
+    ensures { λ r. ⌜ r ≡ (requestIs addRoute4Size (now (q .entry)) && fitAddRoute4 (now (q .entry))) ⌝ }
+{
+    if q.len() != 34 {
+        return false;
+    }
+    fit::fit_add_route4(q)
+}
+
+fn fit_del_route4(q: &[u32]) -> bool
+    ensures { λ r. ⌜ r ≡ (requestIs delRoute4Size (now (q .entry)) && fitDelRoute4 (now (q .entry))) ⌝ }
+{
+    if q.len() != 49 {
+        return false;
+    }
+    fit::fit_del_route4(q)
+}
+
+// 203 where a list would pass its limit.
+fn public_of(d: request::Done) -> Done
+    ensures { λ r. ⌜ r ≡ publicOf d ⌝ }
+{
+    match d {
+        request::Done::Rows(n) => Done::Rows(n),
+        request::Done::Refused(n) => Done::Refused(n),
+        request::Done::Full => Done::Refused(203),
+    }
+}
+
+pub fn add_route4(state: &mut [u32], q: &[u32], events: &mut [u32]) -> Done
+    ensures { λ r. ⌜ r ≡ doneOf (addRoute4Call (now (q .entry)) (length (now (events .entry))) (now (state .entry)) .reply) ⌝ }
+    ensures { λ _. ⌜ now (state .exit) ≡ addRoute4Call (now (q .entry)) (length (now (events .entry))) (now (state .entry)) .words ⌝ }
+    ensures { λ _. ⌜ now (events .exit) ≡ put 0 (flat (addRoute4Call (now (q .entry)) (length (now (events .entry))) (now (state .entry)) .reply .rows)) (now (events .entry)) ⌝ }
+{
+    let fit = fit_add_route4(q);
+    let n = interface::checked(state, (q.len() == 34) & (13056 <= events.len()), true, fit);
+    if n != 0 {
+        return Done::Refused(n);
+    }
+    public_of(request::add_route4(state, events, q))
+}
+
+pub fn del_route4(state: &mut [u32], q: &[u32], events: &mut [u32]) -> Done
+    ensures { λ r. ⌜ r ≡ doneOf (delRoute4Call (now (q .entry)) (length (now (events .entry))) (now (state .entry)) .reply) ⌝ }
+    ensures { λ _. ⌜ now (state .exit) ≡ delRoute4Call (now (q .entry)) (length (now (events .entry))) (now (state .entry)) .words ⌝ }
+    ensures { λ _. ⌜ now (events .exit) ≡ put 0 (flat (delRoute4Call (now (q .entry)) (length (now (events .entry))) (now (state .entry)) .reply .rows)) (now (events .entry)) ⌝ }
+{
+    let fit = fit_del_route4(q);
+    let n = interface::checked(state, (q.len() == 49) & (13056 <= events.len()), true, fit);
+    if n != 0 {
+        return Done::Refused(n);
+    }
+    public_of(request::del_route4(state, events, q))
 }

@@ -1,0 +1,92 @@
+use native.Mathlib.Omega.{arith}
+use mathlib.Core.Path.{_∙_}
+use mathlib.Core.Bool.{true, _&&_}
+use lib.ListN.{length}
+use Rattle.layout.specs.Request.{addRoute4Size, fitAddRoute4}
+use Rattle.definition.specs.Words.{decode}
+use Rattle.definition.specs.Step.{addRoute4Call, requestIs, eventsFit}
+use Rattle.definition.specs.Reference.Routes.{addRoute4}
+use Rattle.definition.specs.Kept.Numbers.{addRoute4-number}
+use Rattle.interface.specs.Laws.{valid, held}
+use Rattle.changes.specs.Requests.{sound, fit-decoded, by-fit, request-no, request-fits, request-yes}
+use borrow.Author.Needs.{needs}
+use Rattle.changes.proofs.add_route4.Statement.{statement}
+use Rattle.changes.proofs.add_route4.Tie as tie
+use Rattle.changes.proofs.add_route4.Reads as reads
+use Rattle.changes.proofs.add_route4.Lts as lts
+use Rattle.changes.proofs.fit_add_route4.Reads as fit-add-route4-reads
+use Rattle.changes.proofs.public_of.Reads as public-of-reads
+use Rattle.interface.proofs.checked.Reads as checked-reads
+use Rattle.request.proofs.add_route4.Reads as add-route4-reads
+
+-- src/lib.rt:64:9
+fit-add-route4-requires : tie.Need-fit-add-route4-requires
+fit-add-route4-requires c κs = search needs
+
+-- src/lib.rt:65:9
+checked-requires : tie.Need-checked-requires
+checked-requires c κs = search needs
+
+-- src/lib.rt:67:9
+same-length : tie.Need-same-length
+same-length c = search needs
+
+-- src/lib.rt:67:9
+returns : tie.Need-returns
+unfolding addRoute4Call
+returns c =
+    let k = c .before in
+    let i = k .before .before in
+    let a = i .before .before .before .before .args in
+    let x = request-no (a .q .now) (a .state .now) (a .events .now) (k .checked .result) addRoute4Size (fitAddRoute4 (a .q .now)) (i .fit-add-route4 .result) (addRoute4 (a .q .now)) (i .fit-add-route4 .ensures) (k .checked .ensures) (c .if1 .taken) in
+    (x .answer, (x .words, x .events))
+
+-- src/lib.rt:69:15
+add-route4-requires : tie.Need-add-route4-requires
+add-route4-requires c κs =
+    let e = c .before .before in
+    let k = e .before in
+    let i = k .before .before in
+    let a = i .before .before .before .before .args in
+    let p = request-fits (a .q .now) (a .state .now) (a .events .now) (k .checked .result) addRoute4Size (fitAddRoute4 (a .q .now)) (i .fit-add-route4 .result) (addRoute4 (a .q .now)) (i .fit-add-route4 .ensures) (k .checked .ensures) (e .if1 .left) in
+    (sound (requestIs addRoute4Size (a .q .now) && eventsFit (length (a .events .now))) (fitAddRoute4 (a .q .now)) (a .state .now) (k .checked .result) (by-fit (a .q .now) (a .state .now) (a .events .now) (k .checked .result) addRoute4Size (fitAddRoute4 (a .q .now)) (i .fit-add-route4 .result) (addRoute4 (a .q .now)) (i .fit-add-route4 .ensures) (k .checked .ensures)) (e .if1 .left), ((p .0, p .1), omega (arith, p .2)))
+
+-- src/lib.rt:69:5
+public-of-requires : tie.Need-public-of-requires
+public-of-requires c κs = search needs
+
+-- src/lib.rt:59:1
+same-length-2 : tie.Need-same-length-2
+same-length-2 c = search needs
+
+-- src/lib.rt:59:1
+same-length-3 : tie.Need-same-length-3
+same-length-3 c = search needs
+
+-- src/lib.rt:59:1
+returns-2 : tie.Need-returns-2
+unfolding addRoute4Call
+returns-2 c =
+    let y = c .before .before .before .before .before in
+    let e = y .before .before .before in
+    let k = e .before in
+    let i = k .before .before in
+    let a = i .before .before .before .before .args in
+    let p = request-fits (a .q .now) (a .state .now) (a .events .now) (k .checked .result) addRoute4Size (fitAddRoute4 (a .q .now)) (i .fit-add-route4 .result) (addRoute4 (a .q .now)) (i .fit-add-route4 .ensures) (k .checked .ensures) (e .if1 .left) in
+    let d = y .add-route4 .ensures (decode (a .state .now)) (held (requestIs addRoute4Size (a .q .now) && eventsFit (length (a .events .now))) true (fitAddRoute4 (a .q .now)) (a .state .now) (k .checked .result) (by-fit (a .q .now) (a .state .now) (a .events .now) (k .checked .result) addRoute4Size (fitAddRoute4 (a .q .now)) (i .fit-add-route4 .result) (addRoute4 (a .q .now)) (i .fit-add-route4 .ensures) (k .checked .ensures)) (e .if1 .left)) (fit-decoded (requestIs addRoute4Size (a .q .now) && eventsFit (length (a .events .now))) (fitAddRoute4 (a .q .now)) (a .state .now) (k .checked .result) (by-fit (a .q .now) (a .state .now) (a .events .now) (k .checked .result) addRoute4Size (fitAddRoute4 (a .q .now)) (i .fit-add-route4 .result) (addRoute4 (a .q .now)) (i .fit-add-route4 .ensures) (k .checked .ensures)) (e .if1 .left)) in
+    let x = request-yes (a .q .now) (a .state .now) (a .events .now) (k .checked .result) addRoute4Size (fitAddRoute4 (a .q .now)) (i .fit-add-route4 .result) (addRoute4 (a .q .now)) (i .fit-add-route4 .ensures) (k .checked .ensures) _ _ (y .add-route4 .result) (e .if1 .left) (addRoute4-number (a .q .now) (decode (a .state .now)) (p .1)) d in
+    (c .public-of .ensures ∙ x .answer, (x .words, x .events))
+
+pub add-route4-spec : {M : Type 1} → statement M
+add-route4-spec =
+    tie.close
+    (tie.spec
+    fit-add-route4-requires
+    checked-requires
+    same-length
+    returns
+    add-route4-requires
+    public-of-requires
+    same-length-2
+    same-length-3
+    returns-2)

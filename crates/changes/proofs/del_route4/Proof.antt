@@ -1,0 +1,92 @@
+use native.Mathlib.Omega.{arith}
+use mathlib.Core.Path.{_∙_}
+use mathlib.Core.Bool.{true, _&&_}
+use lib.ListN.{length}
+use Rattle.layout.specs.Request.{delRoute4Size, fitDelRoute4}
+use Rattle.definition.specs.Words.{decode}
+use Rattle.definition.specs.Step.{delRoute4Call, requestIs, eventsFit}
+use Rattle.definition.specs.Reference.Routes.{delRoute4Request}
+use Rattle.definition.specs.Kept.Numbers.{delRoute4-number}
+use Rattle.interface.specs.Laws.{valid, held}
+use Rattle.changes.specs.Requests.{sound, fit-decoded, by-fit, request-no, request-fits, request-yes}
+use borrow.Author.Needs.{needs}
+use Rattle.changes.proofs.del_route4.Statement.{statement}
+use Rattle.changes.proofs.del_route4.Tie as tie
+use Rattle.changes.proofs.del_route4.Reads as reads
+use Rattle.changes.proofs.del_route4.Lts as lts
+use Rattle.changes.proofs.fit_del_route4.Reads as fit-del-route4-reads
+use Rattle.changes.proofs.public_of.Reads as public-of-reads
+use Rattle.interface.proofs.checked.Reads as checked-reads
+use Rattle.request.proofs.del_route4.Reads as del-route4-reads
+
+-- src/lib.rt:77:9
+fit-del-route4-requires : tie.Need-fit-del-route4-requires
+fit-del-route4-requires c κs = search needs
+
+-- src/lib.rt:78:9
+checked-requires : tie.Need-checked-requires
+checked-requires c κs = search needs
+
+-- src/lib.rt:80:9
+same-length : tie.Need-same-length
+same-length c = search needs
+
+-- src/lib.rt:80:9
+returns : tie.Need-returns
+unfolding delRoute4Call
+returns c =
+    let k = c .before in
+    let i = k .before .before in
+    let a = i .before .before .before .before .args in
+    let x = request-no (a .q .now) (a .state .now) (a .events .now) (k .checked .result) delRoute4Size (fitDelRoute4 (a .q .now)) (i .fit-del-route4 .result) (delRoute4Request (a .q .now)) (i .fit-del-route4 .ensures) (k .checked .ensures) (c .if1 .taken) in
+    (x .answer, (x .words, x .events))
+
+-- src/lib.rt:82:15
+del-route4-requires : tie.Need-del-route4-requires
+del-route4-requires c κs =
+    let e = c .before .before in
+    let k = e .before in
+    let i = k .before .before in
+    let a = i .before .before .before .before .args in
+    let p = request-fits (a .q .now) (a .state .now) (a .events .now) (k .checked .result) delRoute4Size (fitDelRoute4 (a .q .now)) (i .fit-del-route4 .result) (delRoute4Request (a .q .now)) (i .fit-del-route4 .ensures) (k .checked .ensures) (e .if1 .left) in
+    (valid (requestIs delRoute4Size (a .q .now) && eventsFit (length (a .events .now))) true (fitDelRoute4 (a .q .now)) (a .state .now) (k .checked .result) (by-fit (a .q .now) (a .state .now) (a .events .now) (k .checked .result) delRoute4Size (fitDelRoute4 (a .q .now)) (i .fit-del-route4 .result) (delRoute4Request (a .q .now)) (i .fit-del-route4 .ensures) (k .checked .ensures)) (e .if1 .left), ((p .0, p .1), omega (arith, p .2)))
+
+-- src/lib.rt:82:5
+public-of-requires : tie.Need-public-of-requires
+public-of-requires c κs = search needs
+
+-- src/lib.rt:72:1
+same-length-2 : tie.Need-same-length-2
+same-length-2 c = search needs
+
+-- src/lib.rt:72:1
+same-length-3 : tie.Need-same-length-3
+same-length-3 c = search needs
+
+-- src/lib.rt:72:1
+returns-2 : tie.Need-returns-2
+unfolding delRoute4Call
+returns-2 c =
+    let y = c .before .before .before .before .before in
+    let e = y .before .before .before in
+    let k = e .before in
+    let i = k .before .before in
+    let a = i .before .before .before .before .args in
+    let p = request-fits (a .q .now) (a .state .now) (a .events .now) (k .checked .result) delRoute4Size (fitDelRoute4 (a .q .now)) (i .fit-del-route4 .result) (delRoute4Request (a .q .now)) (i .fit-del-route4 .ensures) (k .checked .ensures) (e .if1 .left) in
+    let d = y .del-route4 .ensures (decode (a .state .now)) (held (requestIs delRoute4Size (a .q .now) && eventsFit (length (a .events .now))) true (fitDelRoute4 (a .q .now)) (a .state .now) (k .checked .result) (by-fit (a .q .now) (a .state .now) (a .events .now) (k .checked .result) delRoute4Size (fitDelRoute4 (a .q .now)) (i .fit-del-route4 .result) (delRoute4Request (a .q .now)) (i .fit-del-route4 .ensures) (k .checked .ensures)) (e .if1 .left)) in
+    let x = request-yes (a .q .now) (a .state .now) (a .events .now) (k .checked .result) delRoute4Size (fitDelRoute4 (a .q .now)) (i .fit-del-route4 .result) (delRoute4Request (a .q .now)) (i .fit-del-route4 .ensures) (k .checked .ensures) _ _ (y .del-route4 .result) (e .if1 .left) (delRoute4-number (a .q .now) (decode (a .state .now))) d in
+    (c .public-of .ensures ∙ x .answer, (x .words, x .events))
+
+pub del-route4-spec : {M : Type 1} → statement M
+del-route4-spec =
+    tie.close
+    (tie.spec
+    fit-del-route4-requires
+    checked-requires
+    same-length
+    returns
+    del-route4-requires
+    public-of-requires
+    same-length-2
+    same-length-3
+    returns-2)
