@@ -3,20 +3,9 @@ ghost use mathlib.Core.Path.{_≡_};
 ghost use mathlib.Core.Bool.{true};
 ghost use Prim.Native.Nat.{_≤_};
 ghost use lib.ListN.{length, take};
-ghost use Rattle.lists.specs.Lists.{flat, put};
-ghost use Rattle.definition.specs.Words.{decode, wellFormed};
-ghost use Rattle.definition.specs.Reference.Source.{dump4};
+ghost use Rattle.lists.specs.Lists.{put};
+ghost use Rattle.definition.specs.Words.{wellFormed};
 ghost use Rattle.show.specs.Show.{shown, shownWords};
-
-// The rows of a well-formed state in the order of a listing; how many is returned.
-fn list(s: &[u32], listing: &mut [u32]) -> usize
-    requires { ⌜ (length (now s) ≡ 9507) × (wellFormed (now s) ≡ true) × (8192 ≤ length (now listing)) ⌝ }
-    ensures { λ r. ⌜ r ≡ length (dump4 (decode (now (s .entry)))) ⌝ }
-    ensures { λ _. ⌜ now (listing .exit) ≡ put 0 (flat (dump4 (decode (now (s .entry))))) (now (listing .entry)) ⌝ }
-{
-    let e = 9475 + state::wide(s[2]);
-    listing::dump4(view::routes(s), state::route_count(s), &s[9475..e], listing)
-}
 
 // What is printed of a well-formed state.
 fn show_listing(s: &[u32], out: &mut [u8]) -> usize
@@ -26,7 +15,7 @@ fn show_listing(s: &[u32], out: &mut [u8]) -> usize
     ensures { λ _. ⌜ now (out .exit) ≡ put 0 (shownWords (now (s .entry))) (now (out .entry)) ⌝ }
 {
     let mut listing = [0u32; 8192];
-    let n = list(s, &mut listing);
+    let n = dump::list(s, &mut listing);
     let e = 32 * n;
     print::render(out, &listing[..e], n)
 }
