@@ -1,0 +1,1 @@
+// Addresses taken out, with the routes that go with them.
