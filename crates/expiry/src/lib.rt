@@ -1,0 +1,1 @@
+// Addresses at the end of their lives.
