@@ -99,22 +99,17 @@ fn one(port: &mut dyn Port, case: &Case, summary: &mut Summary) -> Result<(), St
     }
 }
 
-/// Takes rows out of the state as long as the port and the model part.
+/// Takes out of the state each row without which the port and the model
+/// still part.
 pub fn shrink(port: &mut dyn Port, case: Case, found: Difference) -> (Case, Difference) {
     let (mut case, mut found) = (case, found);
     if case.state.len() != STATE_WORDS || !well_formed::state(&case.state) {
         return (case, found);
     }
-    loop {
-        let lists = words::decode(&case.state);
-        let lengths = [
-            lists.addresses.len(),
-            lists.routes.len(),
-            lists.tables.len(),
-        ];
-        let mut smaller = (0..3).flat_map(|which| (0..lengths[which]).map(move |at| (which, at)));
-        let next = smaller.find_map(|(which, at)| {
-            let mut fewer = lists.clone();
+    for which in 0..3 {
+        let mut at = 0;
+        while at < case.state[which] as usize {
+            let mut fewer = words::decode(&case.state);
             match which {
                 0 => drop(fewer.addresses.remove(at)),
                 1 => drop(fewer.routes.remove(at)),
@@ -122,12 +117,11 @@ pub fn shrink(port: &mut dyn Port, case: Case, found: Difference) -> (Case, Diff
             }
             let mut candidate = case.clone();
             candidate.state = words::encode(&fewer);
-            let difference = compare(port, &candidate).err()?;
-            Some((candidate, difference))
-        });
-        match next {
-            Some(smaller) => (case, found) = smaller,
-            None => return (case, found),
+            match compare(port, &candidate) {
+                Ok(_) => at += 1,
+                Err(difference) => (case, found) = (candidate, difference),
+            }
         }
     }
+    (case, found)
 }

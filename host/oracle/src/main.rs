@@ -24,7 +24,7 @@ const USAGE: &str = "usage: oracle COMMAND
                          replayed";
 
 const CASES: usize = 30_000;
-const PAIRS: usize = 3_000;
+const PAIRS: usize = 2_000;
 const SEED: u64 = 1;
 const LARGE_PERCENT: usize = 3;
 

@@ -4,7 +4,7 @@
 use crate::call::{Buffer, Call, Reply};
 use crate::compare::filled;
 use crate::generate::calls::{self, Host};
-use crate::generate::{damage, pools};
+use crate::generate::{damage, pools, requests};
 use crate::model::{NO_SPACE, model};
 use crate::port::WordPort;
 use crate::rng::Rng;
@@ -155,9 +155,9 @@ impl<'a> Run<'a> {
         for _ in 0..self.rng.below(most + 1) {
             let lists = self.lists();
             let mut call = if self.rng.below(3) > 0 {
-                calls::add_route4(&mut self.rng, &lists, &self.host)
+                requests::add_route4(&mut self.rng, &lists, &self.host)
             } else {
-                calls::del_route4(&mut self.rng, &lists)
+                requests::del_route4(&mut self.rng, &lists)
             };
             if let Some(request) = call.lent_mut() {
                 while !self.chosen.contains(request[0]) {

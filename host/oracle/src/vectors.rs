@@ -9,7 +9,7 @@ use crate::generate::{damage, limits, states};
 use crate::model::model;
 use crate::port::bytes;
 use crate::rng::Rng;
-use crate::script::written;
+use crate::script::{self, written};
 use crate::words::{self, STATE_WORDS};
 use std::collections::BTreeMap;
 use std::fs;
@@ -67,13 +67,27 @@ pub fn vectors(seed: u64) -> (Vec<u32>, BTreeMap<u32, usize>) {
 }
 
 impl Writer {
-    /// Document 01's first example begins the list.
+    /// Document 01's first example begins the list, then each kind that
+    /// rejects, in both sets of tables.
     fn by_hand(&mut self) {
-        let mut state = words::empty();
-        for call in [Call::Up { now: 0 }, Call::Up { now: 1 }, Call::Dump4] {
-            let case = Case::new(call, state);
+        let mut calls = vec![Call::Up { now: 0 }, Call::Up { now: 1 }, Call::Dump4];
+        for (kind, dst) in [(6, "10.6.0.0/16"), (7, "10.7.0.0/16"), (8, "10.8.0.0/16")] {
+            for table in [254, 253] {
+                let mut ask = script::route(dst).rejecting(kind);
+                ask.table = table;
+                ask.dst += 254 - table;
+                ask.len = 32;
+                let ip = ask.dst;
+                let request = ask.adding();
+                calls.extend([Call::AddRoute4 { request }, Call::Lookup4 { ip }]);
+            }
+        }
+        let throw = script::route("10.0.0.0/8").rejecting(9).adding();
+        let ip = script::ip("10.9.0.1");
+        calls.extend([Call::AddRoute4 { request: throw }, Call::Lookup4 { ip }]);
+        for call in calls {
+            let case = Case::new(call, self.held[..STATE_WORDS].to_vec());
             self.record(&case);
-            state = self.held[..STATE_WORDS].to_vec();
         }
     }
 

@@ -1,5 +1,6 @@
 //! Fit calls, drawn with an eye on the lists that they meet.
 use super::pools::{self, FOREVER, SECOND};
+use super::requests;
 use crate::call::Call;
 use crate::rng::Rng;
 use reference::{AddressRow, Lists, RouteRow};
@@ -43,8 +44,8 @@ pub fn of_kind(rng: &mut Rng, code: u32, lists: &Lists, host: &mut Host) -> Call
         3 => add_v4(rng, lists, host),
         4 => del_v4(rng, lists),
         5 => expire(rng, lists, host),
-        6 => add_route4(rng, lists, host),
-        7 => del_route4(rng, lists),
+        6 => requests::add_route4(rng, lists, host),
+        7 => requests::del_route4(rng, lists),
         8 => Call::Dump4,
         9 => Call::Lookup4 {
             ip: destination(rng, lists),
@@ -86,11 +87,11 @@ fn tick(rng: &mut Rng, host: &mut Host) {
     }
 }
 
-fn some_address(rng: &mut Rng, lists: &Lists) -> Option<AddressRow> {
+pub fn some_address(rng: &mut Rng, lists: &Lists) -> Option<AddressRow> {
     (!lists.addresses.is_empty()).then(|| lists.addresses[rng.below(lists.addresses.len())])
 }
 
-fn some_route(rng: &mut Rng, lists: &Lists) -> Option<RouteRow> {
+pub fn some_route(rng: &mut Rng, lists: &Lists) -> Option<RouteRow> {
     (!lists.routes.is_empty()).then(|| lists.routes[rng.below(lists.routes.len())])
 }
 
@@ -222,135 +223,4 @@ fn handed_route(rng: &mut Rng, lists: &Lists) -> RouteRow {
         Some(row) => row,
         None => super::states::route(rng),
     }
-}
-
-/// The first twelve words of a route request: a row that is there with one
-/// field changed or none, or fields of the pools.
-fn route_words(rng: &mut Rng, lists: &Lists) -> [u32; 12] {
-    let mut w = [0; 12];
-    if let Some(row) = some_route(rng, lists).filter(|_| rng.one_in(3)) {
-        w.copy_from_slice(&row[..12]);
-        match rng.below(10) {
-            0 => w[0] = rng.pick(&pools::TABLES),
-            1 => w[3] = rng.pick(&pools::TOS),
-            2 => w[4] = rng.pick(&pools::PRIORITIES),
-            3 => w[5] = rng.pick(&pools::KINDS),
-            4 => w[6] = rng.pick(&pools::PROTOS),
-            5 => w[7] = rng.pick(&pools::SCOPES),
-            6 => w[8..10].copy_from_slice(&maybe_address(rng, lists)),
-            7 => w[10..12].copy_from_slice(&maybe_address(rng, lists)),
-            _ => {}
-        }
-        return w;
-    }
-    w[0] = rng.pick(&pools::TABLES);
-    w[2] = rng.pick(&pools::PREFIXES);
-    w[1] = pools::address(rng) & pools::mask(w[2]);
-    match rng.below(40) {
-        0 => w[2] = rng.pick(&[33, 64, 255]),
-        1 => w[1] |= 1,
-        _ => {}
-    }
-    w[3] = rng.pick(&pools::TOS);
-    w[4] = rng.pick(&pools::PRIORITIES);
-    w[5] = match rng.below(12) {
-        0 => rng.pick(&[0, 4, 5, 10, 11, 12, 255]),
-        1..6 => 1,
-        _ => rng.pick(&pools::KINDS),
-    };
-    w[6] = rng.pick(&pools::PROTOS);
-    w[7] = match w[5] {
-        2 if !rng.one_in(6) => 254,
-        3 if !rng.one_in(6) => 253,
-        1 if !rng.one_in(3) => rng.pick(&[0, 0, 253]),
-        _ => rng.pick(&pools::SCOPES),
-    };
-    if rng.one_in(3) {
-        w[8..10].copy_from_slice(&maybe_address(rng, lists));
-    }
-    if (w[5] == 1 && rng.one_in(3)) || rng.one_in(12) {
-        w[10..12].copy_from_slice(&maybe_address(rng, lists));
-    }
-    w
-}
-
-fn maybe_address(rng: &mut Rng, lists: &Lists) -> [u32; 2] {
-    if rng.one_in(6) {
-        return [0, 0];
-    }
-    match some_address(rng, lists).filter(|_| rng.one_in(2)) {
-        Some(a) => [1, a[0]],
-        None => [1, destination(rng, lists)],
-    }
-}
-
-pub fn add_route4(rng: &mut Rng, lists: &Lists, host: &Host) -> Call {
-    let mut w = vec![0; 34];
-    w[..12].copy_from_slice(&route_words(rng, lists));
-    let rejects = (6..=9).contains(&w[5]);
-    w[12] = match rng.below(10) {
-        0 => rng.pick(&[0, 1, 2]),
-        _ => u32::from(!rejects),
-    };
-    w[13] = match rng.below(8) {
-        0 => rng.pick(&[1, 0x10, 2, 8, 0x20, 0xffff_ffff, 0xffff_ffee]),
-        1 => 4,
-        _ if w[10] == 1 && rng.one_in(2) => 4,
-        _ => 0,
-    };
-    // every combination of replace, excl, create and append
-    w[14] = (rng.below(16) as u32) << 8 | rng.pick(&[0, 1, 5]);
-    if rng.one_in(2) {
-        w[14] |= 0x400;
-        w[14] &= !0x200;
-    }
-    if rng.one_in(20) {
-        w[15] = rng.pick(&[1, 22, 133, 95, 17]);
-    }
-    w[16..33].copy_from_slice(&pools::metrics(rng));
-    if let Some(row) = some_route(rng, lists).filter(|r| r[1..3] == w[1..3]) {
-        w[16..33].copy_from_slice(&row[15..32]);
-    }
-    w[33] = u32::from(host.up ^ rng.one_in(10));
-    Call::AddRoute4 { request: w }
-}
-
-pub fn del_route4(rng: &mut Rng, lists: &Lists) -> Call {
-    let mut w = vec![0; 49];
-    w[..12].copy_from_slice(&route_words(rng, lists));
-    w[13] = 1;
-    if let Some(row) = some_route(rng, lists).filter(|_| !rng.one_in(4)) {
-        w[..12].copy_from_slice(&row[..12]);
-        if rng.one_in(3) {
-            // as much of the metrics as a request may name
-            w[14] = 2;
-            w[15..19].copy_from_slice(&[1, row[16], 16, row[31] ^ rng.pick(&[0, 0, 1])]);
-        }
-    }
-    if w[0] == 254 && rng.one_in(3) {
-        w[0] = 0;
-    }
-    for (at, wild) in [(5, 0), (6, 0), (7, 255)] {
-        if rng.one_in(2) {
-            w[at] = wild;
-        }
-    }
-    for at in [8, 10] {
-        if rng.one_in(2) {
-            w[at..at + 2].fill(0);
-        }
-    }
-    if rng.one_in(6) {
-        w[4] = rng.pick(&pools::PRIORITIES);
-    }
-    w[12] = rng.pick(&[0, 0, 0, 0, 1, 1, 1, 2]);
-    if rng.one_in(12) {
-        w[13] = 0;
-        w[14] = 0;
-    }
-    if rng.one_in(10) {
-        // not looked at
-        w[47..].copy_from_slice(&[99, 7]);
-    }
-    Call::DelRoute4 { request: w }
 }

@@ -126,7 +126,7 @@ impl Cases {
         let lists = states::direct(rng, sizes);
         let mut host = Host {
             now: rng.draw() % (1 << 34),
-            up: rng.one_in(2),
+            up: !rng.one_in(4),
         };
         let call = calls::any(rng, &lists, &mut host);
         Case::new(call, states::encoded(&lists))

@@ -4,4 +4,5 @@ pub mod cases;
 pub mod damage;
 pub mod limits;
 pub mod pools;
+pub mod requests;
 pub mod states;

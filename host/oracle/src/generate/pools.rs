@@ -30,7 +30,7 @@ pub const ADDRESSES: [u32; 22] = [
 ];
 pub const PREFIXES: [u32; 16] = [24, 24, 24, 24, 32, 32, 32, 31, 30, 16, 16, 8, 8, 0, 1, 25];
 pub const PRIVATE: [u32; 6] = [100, 100, 101, 356, 511, 4_294_967_295];
-pub const TABLES: [u32; 20] = [
+pub const TABLES: [u32; 22] = [
     254,
     254,
     254,
@@ -51,6 +51,8 @@ pub const TABLES: [u32; 20] = [
     511,
     7,
     4_294_967_295,
+    126,
+    228,
 ];
 pub const TOS: [u32; 14] = [0, 0, 0, 0, 0, 0, 8, 8, 4, 16, 0x1c, 32, 1, 0xe8];
 pub const PRIORITIES: [u32; 10] = [0, 0, 0, 0, 5, 5, 10, 10, 1, 4_294_967_295];

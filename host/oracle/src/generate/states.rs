@@ -120,11 +120,13 @@ pub fn direct(rng: &mut Rng, sizes: Sizes) -> Lists {
     }
     lists.addresses.truncate(sizes.addresses);
     for _ in 0..sizes.routes {
-        let mut row = route(rng);
-        if let Some(a) = lists.addresses.last().filter(|_| rng.one_in(3)) {
+        let row = match (lists.routes.last(), lists.addresses.last()) {
+            (Some(last), _) if rng.one_in(3) => sibling(rng, last),
             // near what the kernel makes for an address
-            row = kernel_like(rng, a);
-        }
+            (_, Some(a)) if rng.one_in(3) => kernel_like(rng, a),
+            _ if rng.one_in(2) => made_like(rng),
+            _ => route(rng),
+        };
         lists.routes.push(row);
     }
     arrange(&mut lists.routes);
@@ -140,6 +142,43 @@ pub fn direct(rng: &mut Rng, sizes: Sizes) -> Lists {
         }
     }
     lists
+}
+
+/// A row as a request could have made it.
+fn made_like(rng: &mut Rng) -> RouteRow {
+    let mut row = route(rng);
+    row[0] = rng.pick(&[254, 254, 253, 253, 255, 100]);
+    row[5] = rng.pick(&[1, 1, 1, 2, 6]);
+    row[7] = match row[5] {
+        2 => 254,
+        6 => 0,
+        _ => rng.pick(&[0, 253, 253, 200]),
+    };
+    row[8..12].fill(0);
+    row[12] = u32::from(row[5] != 6);
+    row[13..15].fill(0);
+    row
+}
+
+/// A row that differs in one field, mostly one that the order leaves out.
+fn sibling(rng: &mut Rng, row: &RouteRow) -> RouteRow {
+    let other = route(rng);
+    let mut row = *row;
+    match rng.below(12) {
+        0 => row[0] = other[0],
+        1 => row[3] = other[3],
+        2 => row[4] = other[4],
+        3 => row[5] = other[5],
+        4 => row[6] = other[6],
+        5 => row[7] = other[7],
+        6 => row[8..10].copy_from_slice(&other[8..10]),
+        7 => row[10..12].copy_from_slice(&other[10..12]),
+        8 => row[12] ^= 1,
+        9 => row[13] ^= 1,
+        10 => row[14] ^= 1,
+        _ => row[15 + rng.below(17)] ^= 1,
+    }
+    row
 }
 
 fn kernel_like(rng: &mut Rng, a: &AddressRow) -> RouteRow {
@@ -160,7 +199,11 @@ fn kernel_like(rng: &mut Rng, a: &AddressRow) -> RouteRow {
             row[7] = 253;
         }
     }
-    row
+    if rng.one_in(4) {
+        sibling(rng, &row)
+    } else {
+        row
+    }
 }
 
 /// A state that some calls from empty led to.

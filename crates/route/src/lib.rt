@@ -1,0 +1,45 @@
+// A route row: whether it is fit, and its place in the order of routes.
+ghost use mathlib.Core.Path.{_≡_};
+ghost use lib.ListN.{length};
+ghost use Rattle.layout.specs.Route.{fitRoute, before, alike};
+
+// The row could stand in a well-formed state.
+pub fn fit_route(r: &[u32]) -> bool
+    ensures { λ x. ⌜ x ≡ fitRoute (now (r .entry)) ⌝ }
+{
+    if r.len() != 32 {
+        return false;
+    }
+    if 32 < r[2] {
+        return false;
+    }
+    (prefix::host_bits4(r[1], r[2]) == 0)
+        & (r[3] < 256)
+        & kind::is_kind(r[5])
+        & (r[6] < 256)
+        & (r[7] < 256)
+        & address::fit_optional(r[8], r[9])
+        & address::fit_optional(r[10], r[11])
+        & (r[12] <= 1)
+        & (r[13] <= 1)
+        & (r[14] <= 1)
+}
+
+// The place of a is before that of b.
+pub fn before(a: &[u32], b: &[u32]) -> bool
+    requires { ⌜ (length (now a) ≡ 32) × (length (now b) ≡ 32) ⌝ }
+    ensures { λ r. ⌜ r ≡ before (now (a .entry)) (now (b .entry)) ⌝ }
+{
+    let priority = (a[3] == b[3]) & (a[4] < b[4]);
+    let tos = (a[0] == b[0]) & ((b[3] < a[3]) | priority);
+    let table = (a[2] == b[2]) & ((b[0] < a[0]) | tos);
+    (a[1] < b[1]) | ((a[1] == b[1]) & ((b[2] < a[2]) | table))
+}
+
+// They have the same place.
+pub fn alike(a: &[u32], b: &[u32]) -> bool
+    requires { ⌜ (length (now a) ≡ 32) × (length (now b) ≡ 32) ⌝ }
+    ensures { λ r. ⌜ r ≡ alike (now (a .entry)) (now (b .entry)) ⌝ }
+{
+    (a[0] == b[0]) & (a[1] == b[1]) & (a[2] == b[2]) & (a[3] == b[3]) & (a[4] == b[4])
+}
