@@ -4,6 +4,7 @@ pub mod Rows
 pub mod Place
 pub mod Parts
 pub mod Laid
+pub mod Pass
 pub mod Count
 pub mod Keep
 pub mod Put

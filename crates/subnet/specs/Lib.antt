@@ -1,0 +1,2 @@
+pub mod Brings
+pub mod Laws
