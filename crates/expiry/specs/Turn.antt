@@ -27,7 +27,7 @@ use Rattle.definition.specs.Laws.Expire.{expire-last, expire-again}
 use Rattle.definition.specs.Kept.Fit.{length-address}
 use Rattle.definition.specs.Kept.Shrinking.{weight, live, faded-marked, removeOne-removes}
 use Rattle.events.specs.Turns.{Like, like-refl, like-sym, like-trans, like-eq, stays-also, also-like, also-assoc}
-use Rattle.removal.specs.Front.{any-joined, first-front, front-more}
+use Rattle.deletion.specs.Front.{any-joined, first-front, front-more}
 use Rattle.removal.specs.Gone.{goesWith, secondaries, remove-parts, primary-there, any-here}
 
 -- ---- an address that is marked

@@ -17,7 +17,7 @@ use Rattle.definition.specs.Reference.Addresses.{sameSubnet}
 use Rattle.definition.specs.Reference.Removal.{removeOne, goneWith, removeV4}
 use Rattle.definition.specs.Kept.Shrinking.{removeOne-removes}
 use Rattle.events.specs.Turns.{Like, like-refl, like-sym, like-trans, like-eq, stays-also, also-like, through-one, through-append}
-use Rattle.removal.specs.Front.{first-front, remove-front, front-more, keep-here, keep-past, take-removed, drop-removed}
+use Rattle.deletion.specs.Front.{first-front, remove-front, front-more, keep-here, keep-past, take-removed, drop-removed}
 
 -- b goes with the primary a
 abbrev pub goesWith : Row → Row → Bool

@@ -1,4 +1,2 @@
-pub mod Front
-pub mod Strays
 pub mod Gone
 pub mod One

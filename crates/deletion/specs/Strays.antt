@@ -19,7 +19,7 @@ use Rattle.definition.specs.State.{State, Out, becomes, stays, also, through, w
 use Rattle.definition.specs.Reference.Insert.{named, removed, kernelDel4}
 use Rattle.definition.specs.Reference.Removal.{straysFrom}
 use Rattle.events.specs.Turns.{Like, like-refl, like-sym, like-trans, like-eq, stays-also, also-like}
-use Rattle.removal.specs.Front.{first-front, remove-front, front-more, keep-here, keep-past, take-removed, drop-removed}
+use Rattle.deletion.specs.Front.{first-front, remove-front, front-more, keep-here, keep-past, take-removed, drop-removed}
 
 same-eqb : (a b c : ℕ) → eqb a b ≡ true → eqb b c ≡ true → eqb a c ≡ true
 same-eqb a b c h k = eq-eqb a c (eqb-true a b h ∙ eqb-true b c k)
