@@ -1,4 +1,3 @@
-pub mod Bits
 pub mod V4
 pub mod Row
 pub mod Laws

@@ -10,7 +10,6 @@ ghost use Rattle.layout.specs.Route.{fitRoute};
 ghost use Rattle.definition.specs.State.{State};
 ghost use Rattle.definition.specs.Words.{routeCount};
 ghost use Rattle.definition.specs.Reference.Insert.{named, kernelDel4};
-ghost use Rattle.definition.specs.Reference.Removal.{straysFrom};
 ghost use Rattle.definition.specs.Kept.Shrinking.{weight};
 ghost use Rattle.events.specs.Step.{Fits, Ready, Step};
 ghost use Rattle.deletion.specs.Strays.{dropped, strayTurn, walk};
@@ -82,15 +81,6 @@ pub fn kernel_del4(s: &mut [u32], ev: &mut [u32], p: &[u32]) -> usize
     drop_route(s, ev, i)
 }
 
-const MAIN: u32 = 254;
-
-fn strays_from(ip: u32, r: &[u32]) -> bool
-    requires { ⌜ length (now r) ≡ 32 ⌝ }
-    ensures { λ b. ⌜ b ≡ straysFrom ip (now (r .entry)) ⌝ }
-{
-    (r[0] == MAIN) & (r[8] == 1) & (r[9] == ip)
-}
-
 // Row i goes if it is a main row with the preferred source ip.
 fn stray_turn(s: &mut [u32], ev: &mut [u32], i: usize, ip: u32) -> usize
     requires { ⌜ Ready weight (now s) (now ev) ⌝ }
@@ -100,7 +90,7 @@ fn stray_turn(s: &mut [u32], ev: &mut [u32], i: usize, ip: u32) -> usize
 {
     let at = 1283 + 32 * i;
     let end = at + 32;
-    if strays_from(ip, &s[at..end]) {
+    if wanted::strays_from(&s[at..end], ip) {
         return drop_route(s, ev, i);
     }
     0

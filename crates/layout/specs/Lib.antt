@@ -3,3 +3,4 @@ pub mod Address
 pub mod Route
 pub mod Event
 pub mod Request
+pub mod Bits

@@ -1,6 +1,7 @@
 pub mod Lists
 pub mod All
 pub mod Rows
+pub mod Chop
 pub mod Place
 pub mod Parts
 pub mod Laid
@@ -10,3 +11,4 @@ pub mod Keep
 pub mod Put
 pub mod At
 pub mod Region
+pub mod Split

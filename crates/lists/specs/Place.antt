@@ -1,6 +1,6 @@
 -- The place of the first element that passes a test, and what the searches say by it.
 use Prim.Native.Nat.{ℕ, zero, suc, _+_, _*_, _≤_, _<_}
-use native.Mathlib.Nat.{suc-add, add-zero, zero-add}
+use native.Mathlib.Nat.{suc-add, add-zero, zero-add, not-suc-le-zero, le-of-suc-le-suc}
 use native.Mathlib.Numerals.{add-one}
 use native.Mathlib.Omega.{arith}
 use mathlib.Core.Path.{_≡_, refl, sym, ap, _∙_}
@@ -74,3 +74,15 @@ module _ {A : Type 0} (p : A → Bool) where
 
   pub place-past : (l : List A) (i : ℕ) (d : A) → i < length l → p (getD l i d) ≡ false → placeOf (drop i l) ≡ suc (placeOf (drop (i + 1) l))
   place-past l i d h e = rw (add-one, drop-cons l i d, e)
+
+-- ---- the element at a place, if there is one
+module _ {A : Type 0} where
+  pub nothing-from : (l : List A) (i : ℕ) → length l ≤ i → getElem? l i ≡ none
+  nothing-from [] i h = refl
+  nothing-from (x ∷ l) zero h = absurd (not-suc-le-zero h)
+  nothing-from (x ∷ l) (suc i) h = nothing-from l i (le-of-suc-le-suc h)
+
+  pub something-at : (l : List A) (i : ℕ) (d : A) → i < length l → getElem? l i ≡ some (getD l i d)
+  something-at [] i d h = absurd (not-suc-le-zero h)
+  something-at (x ∷ l) zero d h = refl
+  something-at (x ∷ l) (suc i) d h = something-at l i d (le-of-suc-le-suc h)

@@ -14,7 +14,7 @@ use Rattle.kind.specs.Kind.{errorOf}
 use Rattle.layout.specs.Route.{kind, fitRoute}
 use Rattle.definition.specs.State.{State}
 use Rattle.definition.specs.Reference.Lookup.{Flow, answer, flowTo, typeSet, kindFound, addrType4, local4, listed, localTable, unicastKind, localKind, broadcastKind}
-use Rattle.lookup.specs.Best.{nothing-from, something-at}
+use Rattle.lists.specs.Place.{nothing-from, something-at}
 use Rattle.lookup.specs.Pass.{laid-count}
 
 abbrev pub typeRows : Bool → (ℕ → Bool) → List Row → ℕ → ℕ

@@ -15,7 +15,7 @@ use Rattle.layout.specs.Route.{kind, table, fitRoute}
 use Rattle.definition.specs.State.{State}
 use Rattle.definition.specs.Reference.Lookup as Lookup
 use Rattle.definition.specs.Reference.Lookup.{Flow, Found, route, refused, answer, together, typeSet, settled, ruling, lookupIn, kindFound, listed, fits, mainTable, localTable, defaultTable, netUnreachable, again}
-use Rattle.lookup.specs.Best.{nothing-from, something-at}
+use Rattle.lists.specs.Place.{nothing-from, something-at}
 use Rattle.lookup.specs.Pass.{laid-count}
 use Rattle.lookup.specs.declared.Ruling.{Ruling}
 use Rattle.lookup.specs.declared.Ruling.the-variants.{Route, Refuse, Again}

@@ -11,6 +11,7 @@ use lib.Dec.{leb, ltb, leb·zero}
 use lib.ListN.{length, getD, take, getElem?}
 use lib.Seq.{take-suc, take-all}
 use borrow.Author.Tests.{ltb-true, ltb-false, lt-ltb, le-ltb}
+use Rattle.lists.specs.Place.{nothing-from, something-at}
 use Rattle.lists.specs.Lists.{Row, keep}
 use Rattle.layout.specs.Route.{len}
 use Rattle.definition.specs.Reference.Lookup.{longer, longest}
@@ -57,16 +58,6 @@ bar-test (some s) r = rw add-one (go (ltb (len s) (len r)))
     go : (b : Bool) → _≡_ {A = Option Row} (some (cond b r s)) (cond b (some r) (some s))
     go true = refl
     go false = refl
-
-pub nothing-from : (l : List Row) (i : ℕ) → length l ≤ i → getElem? l i ≡ none
-nothing-from [] i h = refl
-nothing-from (x ∷ l) zero h = absurd (not-suc-le-zero h)
-nothing-from (x ∷ l) (suc i) h = nothing-from l i (le-of-suc-le-suc h)
-
-pub something-at : (l : List Row) (i : ℕ) (d : Row) → i < length l → getElem? l i ≡ some (getD l i d)
-something-at [] i d h = absurd (not-suc-le-zero h)
-something-at (x ∷ l) zero d h = refl
-something-at (x ∷ l) (suc i) d h = something-at l i d (le-of-suc-le-suc h)
 
 module _ (p : Row → Bool) where
   keep-more : (l : List Row) (r : Row) (b : Bool) → p r ≡ b → keep p (l ++ (r ∷ [])) ≡ keep p l ++ cond b (r ∷ []) []

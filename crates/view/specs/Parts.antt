@@ -1,7 +1,7 @@
 -- The rows in use, as parts of words that hold a state.
 use Prim.Native.Nat.{ℕ, _+_, _-_, _*_, _≤_}
 use native.Mathlib.Omega.{arith}
-use mathlib.Core.Path.{_≡_, refl, sym, ap, _∙_}
+use mathlib.Core.Path.{_≡_, refl, sym, ap, subst, _∙_}
 use mathlib.Core.Bool.{Bool, true}
 use mathlib.Core.List.{List, [], _∷_, _++_, append-assoc}
 use lib.ListN.{length, take, drop}
@@ -81,3 +81,19 @@ length-routes v = laid-length (laid-routes (v .holds)) ∙ ap (λ (n : ℕ). 32 
 
 pub length-addresses : {w : List ℕ} → Valid w → length (addressPart w) ≡ 20 * addressCount w
 length-addresses v = laid-length (laid-addresses (v .holds)) ∙ ap (λ (n : ℕ). 20 * n) (sym (count-addresses (v .holds)))
+
+-- what a function over rows asks, of a part that a call handed out and a count that another gave
+pub ready-routes : {w : List ℕ} (p : List ℕ) (n : ℕ) → Valid w → p ≡ routePart w → n ≡ routeCount w → (length p ≡ 32 * n) × Lays 32 fitRoute p
+ready-routes p n v e f =
+    (ap length e ∙ length-routes v ∙ ap (λ (k : ℕ). 32 * k) (sym f), subst (Lays 32 fitRoute) (sym e) (lays-routes v))
+
+pub ready-addresses : {w : List ℕ} (p : List ℕ) (n : ℕ) → Valid w → p ≡ addressPart w → n ≡ addressCount w → (length p ≡ 20 * n) × Lays 20 fitAddress p
+ready-addresses p n v e f =
+    (ap length e ∙ length-addresses v ∙ ap (λ (k : ℕ). 20 * k) (sym f), subst (Lays 20 fitAddress) (sym e) (lays-addresses v))
+
+-- and what it then says of the state
+pub of-routes : {w : List ℕ} {st : State} (p : List ℕ) → Holds w st → p ≡ routePart w → Laid 32 fitRoute p (st .routes)
+of-routes {st = st} p h e = subst (λ (x : List ℕ). Laid 32 fitRoute x (st .routes)) (sym e) (laid-routes h)
+
+pub of-addresses : {w : List ℕ} {st : State} (p : List ℕ) → Holds w st → p ≡ addressPart w → Laid 20 fitAddress p (st .addresses)
+of-addresses {st = st} p h e = subst (λ (x : List ℕ). Laid 20 fitAddress x (st .addresses)) (sym e) (laid-addresses h)

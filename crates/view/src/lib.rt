@@ -1,7 +1,7 @@
 // What is read of words that hold a state: each function lends the rows in use to the one that works over rows.
 use lookup::Flow;
 use lookup::Looked;
-use lookup::Tables;
+use source::Selected;
 ghost use mathlib.Core.Path.{_≡_};
 ghost use Prim.Native.Nat.{_+_, _*_, _≤_};
 ghost use lib.ListN.{length};
@@ -9,7 +9,9 @@ ghost use Rattle.lookup.specs.Flow.{flowOf, setOf};
 ghost use Rattle.lookup.specs.Answer.{foundBy, placed};
 ghost use Rattle.definition.specs.State.{State};
 ghost use Rattle.definition.specs.Words.{routeCount};
+ghost use Rattle.source.specs.Selected.{localIn, wanted};
 ghost use Rattle.definition.specs.Reference.Lookup.{lookupIn, local4};
+ghost use Rattle.definition.specs.Reference.Source.{select4, source4, source};
 ghost use Rattle.state.specs.Holds.{Holds, Valid};
 ghost use Rattle.view.specs.Parts.{addressPart, routePart};
 
@@ -51,4 +53,42 @@ pub fn local4(s: &[u32], ip: u32) -> bool
 {
     let listed = tables::listed(s, tables::LOCAL);
     lookup::local4(routes(s), state::route_count(s), listed, ip)
+}
+
+// The address chosen for a destination (any where it isn't present) and a scope.
+pub fn select4(s: &[u32], dst_present: bool, dst: u32, scope: u32) -> Selected
+    requires { ⌜ Valid (now s) ⌝ }
+    ensures { λ r. ⌜ ((st : State) → Holds (now (s .entry)) st → localIn r ≡ select4 (st .addresses) (wanted «dst_present» dst) scope) ⌝ }
+{
+    source::select4(
+        addresses(s),
+        state::address_count(s),
+        dst_present,
+        dst,
+        scope,
+    )
+}
+
+// The source for a route's row and a destination.
+pub fn source4(s: &[u32], row: &[u32], ip: u32) -> Selected
+    requires { ⌜ Valid (now s) × (length (now row) ≡ 32) ⌝ }
+    ensures { λ r. ⌜ ((st : State) → Holds (now (s .entry)) st → localIn r ≡ source4 (st .addresses) (now (row .entry)) ip) ⌝ }
+{
+    source::source4(addresses(s), state::address_count(s), row, ip)
+}
+
+// The source for a destination.
+pub fn source(s: &[u32], ip: u32) -> u32
+    requires { ⌜ Valid (now s) ⌝ }
+    ensures { λ r. ⌜ ((st : State) → Holds (now (s .entry)) st → r ≡ source st ip) ⌝ }
+{
+    let listed = tables::listed(s, TABLE_DEFAULT);
+    source::source(
+        addresses(s),
+        state::address_count(s),
+        routes(s),
+        state::route_count(s),
+        listed,
+        ip,
+    )
 }

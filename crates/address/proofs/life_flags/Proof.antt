@@ -8,7 +8,7 @@ use lib.Dec.{lit<}
 use borrow.Author.Tests.{eq-eqb, ne-eqb}
 use Rattle.layout.specs.Flags.{clearBit, setBit}
 use Rattle.definition.specs.Reference.Addresses.{lifeFlags}
-use Rattle.address.specs.Bits.{clear-and, clear-fits, set-or}
+use Rattle.layout.specs.Bits.{clear-and, clear-fits, set-or}
 use Rattle.address.proofs.life_flags.Statement.{statement}
 use Rattle.address.proofs.life_flags.Tie as tie
 

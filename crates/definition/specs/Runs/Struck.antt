@@ -23,19 +23,19 @@ use Rattle.definition.specs.Runs.Statement.{Choice, outside}
 use Rattle.definition.specs.Runs.Projection.{unchosen, without, result}
 
 -- ---- the order of routes: a row that isn't before another comes behind whatever is before that
-before-between : (a b c : Row) → before a c ≡ true → before a b ≡ false → before b c ≡ true
+pub before-between : (a b c : Row) → before a c ≡ true → before a b ≡ false → before b c ≡ true
 before-between a b c h k =
     test-case (before b a) (λ e. before-after b a c e h)
     (λ e. alike-before b a c (alike-sym a b (level-alike a b k e)) h)
 
 module _ (new : Row) (rows : List Row) (o : ordered rows ≡ true) where
-  split-ahead : keep (λ r. before r new) rows ++ keep (λ r. not (before r new)) rows ≡ rows
+  pub split-ahead : keep (λ r. before r new) rows ++ keep (λ r. not (before r new)) rows ≡ rows
   unfolding ordered
   split-ahead =
       keep-split (λ a b. not (before b a)) (λ r. before r new)
       (λ a b h k. before-between b a new k (not-true (before b a) h)) rows o
 
-  split-behind : keep (λ r. not (before new r)) rows ++ keep (λ r. not (not (before new r))) rows ≡ rows
+  pub split-behind : keep (λ r. not (before new r)) rows ++ keep (λ r. not (not (before new r))) rows ≡ rows
   unfolding ordered
   split-behind =
       keep-split (λ a b. not (before b a)) (λ r. not (before new r))

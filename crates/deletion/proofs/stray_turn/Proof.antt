@@ -8,7 +8,7 @@ use Rattle.deletion.proofs.stray_turn.Tie as tie
 use Rattle.deletion.proofs.stray_turn.Reads as reads
 use Rattle.deletion.proofs.stray_turn.Lts as lts
 use Rattle.deletion.proofs.drop_route.Reads as drop-route-reads
-use Rattle.deletion.proofs.strays_from.Reads as strays-from-reads
+use Rattle.wanted.proofs.strays_from.Reads as strays-from-reads
 
 -- src/lib.rt:101:21
 mul-at : tie.Need-mul-at

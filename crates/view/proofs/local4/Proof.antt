@@ -1,13 +1,9 @@
-use Prim.Native.Nat.{ℕ, _*_}
+use Prim.Native.Nat.{ℕ}
 use mathlib.Core.Path.{sym, ap, subst, _∙_}
 use mathlib.Core.Bool.{Bool}
-use mathlib.Core.List.{List}
-use lib.ListN.{length}
-use Rattle.lists.specs.Laid.{Laid, Lays}
-use Rattle.layout.specs.Route.{fitRoute}
 use Rattle.state.specs.Holds.{sizes-valid}
 use Rattle.lookup.specs.AddrType.{localRows, local-rows}
-use Rattle.view.specs.Parts.{length-routes, lays-routes, laid-routes, listed-there}
+use Rattle.view.specs.Parts.{ready-routes, of-routes, listed-there}
 use borrow.Author.Needs.{needs}
 use Rattle.view.proofs.local4.Statement.{statement}
 use Rattle.view.proofs.local4.Tie as tie
@@ -33,11 +29,7 @@ route-count-requires c κs = sizes-valid (c .before .before .before .pre) .long
 -- src/lib.rt:53:5
 local4-requires : tie.Need-local4-requires
 local4-requires c κs =
-    let r = c .before in
-    let s = r .before .before .before in (
-      ap length (r .routes .ensures) ∙ length-routes (s .pre) ∙ ap (λ (n : ℕ). 32 * n) (sym (c .route-count .ensures)),
-      subst (Lays 32 fitRoute) (sym (r .routes .ensures)) (lays-routes (s .pre)),
-    )
+    ready-routes (c .before .routes .result .now) (c .route-count .result) (c .before .before .before .before .pre) (c .before .routes .ensures) (c .route-count .ensures)
 
 -- src/lib.rt:48:1
 returns : tie.Need-returns
@@ -46,7 +38,7 @@ returns c =
     let t = r .before in
     let s = t .before .before in
     λ st h.
-    c .local4 .ensures (st .routes) (subst (λ (x : List ℕ). Laid 32 fitRoute x (st .routes)) (sym (r .routes .ensures)) (laid-routes h))
+    c .local4 .ensures (st .routes) (of-routes (r .routes .result .now) h (r .routes .ensures))
     ∙ ap (λ (b : Bool). localRows b (st .routes) (s .args .ip)) (t .listed .ensures ∙ listed-there h 255)
     ∙ sym (local-rows st (s .args .ip))
 

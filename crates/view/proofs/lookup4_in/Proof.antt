@@ -1,14 +1,10 @@
-use Prim.Native.Nat.{ℕ, _*_}
+use Prim.Native.Nat.{ℕ}
 use mathlib.Core.Path.{sym, ap, subst, _∙_}
 use mathlib.Core.Bool.{Bool}
-use mathlib.Core.List.{List}
-use lib.ListN.{length}
-use Rattle.lists.specs.Laid.{Laid, Lays}
-use Rattle.layout.specs.Route.{fitRoute}
 use Rattle.state.specs.Holds.{sizes-valid}
 use Rattle.lookup.specs.Flow.{flowOf}
 use Rattle.lookup.specs.Answer.{placed, lookupRows, lookup-rows}
-use Rattle.view.specs.Parts.{length-routes, lays-routes, laid-routes, listed-there}
+use Rattle.view.specs.Parts.{ready-routes, of-routes, listed-there}
 use borrow.Author.Needs.{needs}
 use Rattle.view.proofs.lookup4_in.Statement.{statement}
 use Rattle.view.proofs.lookup4_in.Tie as tie
@@ -34,11 +30,7 @@ route-count-requires c κs = sizes-valid (c .before .before .before .pre) .long
 -- src/lib.rt:44:5
 lookup4-in-requires : tie.Need-lookup4-in-requires
 lookup4-in-requires c κs =
-    let r = c .before in
-    let s = r .before .before .before in (
-      ap length (r .routes .ensures) ∙ length-routes (s .pre) ∙ ap (λ (n : ℕ). 32 * n) (sym (c .route-count .ensures)),
-      subst (Lays 32 fitRoute) (sym (r .routes .ensures)) (lays-routes (s .pre)),
-    )
+    ready-routes (c .before .routes .result .now) (c .route-count .result) (c .before .before .before .before .pre) (c .before .routes .ensures) (c .route-count .ensures)
 
 -- src/lib.rt:39:1
 returns : tie.Need-returns
@@ -49,7 +41,7 @@ returns c =
     let w = s .args .s .now in (
       subst (λ (n : ℕ). placed n (c .lookup4-in .result)) (c .before .route-count .ensures) (c .lookup4-in .ensures .0),
       λ st h.
-          c .lookup4-in .ensures .1 (st .routes) (subst (λ (x : List ℕ). Laid 32 fitRoute x (st .routes)) (sym (r .routes .ensures)) (laid-routes h))
+          c .lookup4-in .ensures .1 (st .routes) (of-routes (r .routes .result .now) h (r .routes .ensures))
           ∙ ap (λ (b : Bool). lookupRows b (st .routes) (flowOf (s .args .f))) (t .listed .ensures ∙ listed-there h 253)
           ∙ sym (lookup-rows st (flowOf (s .args .f))),
     )

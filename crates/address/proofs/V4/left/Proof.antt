@@ -5,7 +5,7 @@ use mathlib.Core.Bool.{true, false, not}
 use borrow.Author.Tests.{eq-eqb, ne-eqb}
 use Rattle.layout.specs.Flags.{hasBit}
 use borrow.Author.Needs.{needs}
-use Rattle.address.specs.Bits.{has-and}
+use Rattle.layout.specs.Bits.{has-and}
 use Rattle.address.proofs.V4.left.Statement.{statement}
 use Rattle.address.proofs.V4.left.Tie as tie
 

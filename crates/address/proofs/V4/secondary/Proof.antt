@@ -1,6 +1,6 @@
 -- `address::V4::secondary` meets its contract, by the law of a flag's mask.
 -- Assumes nothing.
-use Rattle.address.specs.Bits.{has-and}
+use Rattle.layout.specs.Bits.{has-and}
 use Rattle.address.proofs.V4.secondary.Statement.{statement}
 use Rattle.address.proofs.V4.secondary.Tie as tie
 

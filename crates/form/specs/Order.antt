@@ -1,0 +1,169 @@
+-- Routes are in order where each is in order with the next one, and in that order equal rows stand in one run.
+-- Assumes nothing.
+use Prim.Native.Nat.{ℕ, suc, _+_, _-_, _*_, _≤_, _<_}
+use mathlib.Core.Path.{_≡_, refl, sym, ap, _∙_}
+use mathlib.Core.Bool.{Bool, true, false, not, _&&_}
+use mathlib.Core.List.{List, [], _∷_}
+use native.Mathlib.Numerals.{add-one}
+use native.Mathlib.Omega.{arith}
+use lib.Dec.{eqb}
+use lib.ListN.{length, getD, take, drop, length-drop}
+use lib.Seq.{drop-cons, take-all}
+use borrow.Author.Tests.{not-true}
+use Rattle.lists.specs.Lists.{Row, all, among, pairwise, eqRow, chop}
+use Rattle.lists.specs.Rows.{length-chop}
+use Rattle.lists.specs.All.{and-both, all-mono, all-cons, pairwise-head, pairwise-tail, eqRow-true, fails, false-not, not-so}
+use Rattle.layout.specs.Route.{fitRoute, before}
+use Rattle.definition.specs.Words.{ordered, distinct, noneTwice}
+use Rattle.form.specs.Look.{row-of, row-next, all-next, pairwise-next, pairwise-end, all-other}
+use Rattle.definition.specs.Kept.Order.{before-never, before-after, before-alike, level-alike}
+
+-- not before: the relation of the order
+le-trans : (a b c : Row) → before b a ≡ false → before c b ≡ false → before c a ≡ false
+le-trans a b c h k = fails (before c a) (λ e. go e (before a b) refl)
+  where
+    not-both : before c b ≡ true → ⊥
+    not-both e = let z : _≡_ {A = ℕ} 0 1 = cc in omega arith
+
+    go : before c a ≡ true → (t : Bool) → before a b ≡ t → ⊥
+    go e true f = not-both (before-after c a b e f)
+    go e false f = not-both (before-alike c a b e (level-alike a b f h))
+
+-- one row more in front
+next : (a b : Row) (l : List Row) → before b a ≡ false → ordered (a ∷ b ∷ l) ≡ ordered (b ∷ l)
+unfolding ordered
+next a b l h = go (ordered (b ∷ l)) refl
+  where
+    le : Row → Row → Bool
+    le = λ x y. not (before y x)
+
+    rest : pairwise (λ x y. not (before y x)) (b ∷ l) ≡ true → all (λ y. not (before y a)) (b ∷ l) ≡ true
+    rest e =
+        all-cons (λ y. not (before y a)) b l (false-not (before b a) h)
+        (all-mono (λ y. not (before y b)) (λ y. not (before y a)) l (λ y f. false-not (before y a) (le-trans a b y h (not-true (before y b) f)))
+        (pairwise-head (λ x y. not (before y x)) b l e))
+
+    none : (t : Bool) → t && false ≡ false
+    none true = refl
+    none false = refl
+
+    go : (t : Bool) → pairwise (λ x y. not (before y x)) (b ∷ l) ≡ t → all (λ y. not (before y a)) (b ∷ l) && pairwise (λ x y. not (before y x)) (b ∷ l) ≡ pairwise (λ x y. not (before y x)) (b ∷ l)
+    go true e = and-both (all (λ y. not (before y a)) (b ∷ l)) (pairwise (λ x y. not (before y x)) (b ∷ l)) (rest e) e ∙ sym e
+    go false e = rw e (none (all (λ y. not (before y a)) (b ∷ l)))
+
+broken : (a b : Row) (l : List Row) → before b a ≡ true → ordered (a ∷ b ∷ l) ≡ false
+unfolding ordered
+broken a b l h = rw h
+
+module _ (rows : List Row) (i : ℕ) (h : i + 1 < length rows) where
+  two : drop i rows ≡ getD rows i [] ∷ getD rows (i + 1) [] ∷ drop (suc (suc i)) rows
+  two = let k : suc i < length rows = omega arith in rw (drop-cons rows i [] (omega arith), drop-cons rows (suc i) [] k, add-one i)
+
+  one : drop (i + 1) rows ≡ getD rows (i + 1) [] ∷ drop (suc (suc i)) rows
+  one = let k : suc i < length rows = omega arith in rw (add-one i, drop-cons rows (suc i) [] k)
+
+  pub order-next : before (getD rows (i + 1) []) (getD rows i []) ≡ false → ordered (drop i rows) ≡ ordered (drop (i + 1) rows)
+  order-next e = rw (two, one) (next (getD rows i []) (getD rows (i + 1) []) (drop (suc (suc i)) rows) e)
+
+  pub order-broken : before (getD rows (i + 1) []) (getD rows i []) ≡ true → ordered (drop i rows) ≡ false
+  order-broken e = rw two (broken (getD rows i []) (getD rows (i + 1) []) (drop (suc (suc i)) rows) e)
+
+-- at most one row is left
+pub order-end : (rows : List Row) (i : ℕ) → length rows ≤ i + 1 → ordered (drop i rows) ≡ true
+unfolding ordered
+order-end rows i h = go (drop i rows) (rw length-drop (omega arith))
+  where
+    go : (l : List Row) → length l ≤ 1 → pairwise (λ x y. not (before y x)) l ≡ true
+    go [] k = refl
+    go (a ∷ []) k = refl
+    go (a ∷ b ∷ l) k = absurd (omega arith)
+
+-- ---- a row before row j is none of those from j on
+apart-of : (a b : Row) → before a b ≡ true → (x : Row) → not (before x b) ≡ true → not (eqRow a x) ≡ true
+apart-of a b h x k = not-so (eqRow a x) (λ e. never (rw (eqRow-true a x e) at h))
+  where
+    never : before x b ≡ true → ⊥
+    never f = let g = not-true (before x b) k in let z : _≡_ {A = ℕ} 0 1 = cc in omega arith
+
+ordered-drop : (l : List Row) (j : ℕ) → ordered l ≡ true → ordered (drop j l) ≡ true
+unfolding ordered
+ordered-drop l ℕ.zero h = h
+ordered-drop [] (suc j) h = refl
+ordered-drop (a ∷ l) (suc j) h = ordered-drop l j (pairwise-tail (λ x y. not (before y x)) a l h)
+
+pub past-run : (rows : List Row) (a : Row) (j : ℕ) → ordered rows ≡ true → j < length rows → before a (getD rows j []) ≡ true
+    → all (λ x. not (eqRow a x)) (drop j rows) ≡ true
+unfolding ordered
+past-run rows a j o h e =
+    let b = getD rows j [] in
+    let tail = drop (suc j) rows in
+    let f : pairwise (λ x y. not (before y x)) (b ∷ tail) ≡ true = rw (drop-cons rows j [] h) at (ordered-drop rows j o) in
+    rw (drop-cons rows j [] h)
+    (all-mono (λ x. not (before x b)) (λ x. not (eqRow a x)) (b ∷ tail) (apart-of a b e)
+    (all-cons (λ x. not (before x b)) b tail (not-so (before b b) (λ g. before-never b b g g)) (pairwise-head (λ x y. not (before y x)) b tail f)))
+
+-- ---- the rows as parts of words
+module _ (n : ℕ) (p : List ℕ) (i : ℕ) (e : length p ≡ 32 * n) where
+  pub order-turn : {b : Bool} (t : Bool) → i + 1 < n → b ≡ before (take (32 * i + 32 + 32 - (32 * i + 32)) (drop (32 * i + 32) p)) (take (32 * i + 32 - 32 * i) (drop (32 * i) p)) → b ≡ t
+      → before (getD (chop 32 n p) (i + 1) []) (getD (chop 32 n p) i []) ≡ t
+  order-turn t h eb et = sym (rw (row-next 32 n p i e h, row-of 32 n p i e (omega arith)) at eb) ∙ et
+
+  module _ (j : ℕ) (h : i < n) (k : j < n) where
+    pub two-before : {b : Bool} (t : Bool) → b ≡ before (take (32 * i + 32 - 32 * i) (drop (32 * i) p)) (take (32 * j + 32 - 32 * j) (drop (32 * j) p)) → b ≡ t
+        → before (getD (chop 32 n p) i []) (getD (chop 32 n p) j []) ≡ t
+    two-before t eb et =
+        ap (λ (r : Row). before r (getD (chop 32 n p) j [])) (sym (row-of 32 n p i e h))
+        ∙ ap (before (take (32 * i + 32 - 32 * i) (drop (32 * i) p))) (sym (row-of 32 n p j e k))
+        ∙ sym eb
+        ∙ et
+
+    pub two-same : {b : Bool} (t : Bool) → b ≡ eqRow (take (32 * i + 32 - 32 * i) (drop (32 * i) p)) (take (32 * j + 32 - 32 * j) (drop (32 * j) p)) → b ≡ t
+        → all (λ (x : Row). not (eqRow (getD (chop 32 n p) i []) x)) (drop j (chop 32 n p)) ≡ not t && all (λ (x : Row). not (eqRow (getD (chop 32 n p) i []) x)) (drop (j + 1) (chop 32 n p))
+    two-same t eb et =
+        let same : eqRow (getD (chop 32 n p) i []) (getD (chop 32 n p) j []) ≡ t =
+        ap (λ (r : Row). eqRow r (getD (chop 32 n p) j [])) (sym (row-of 32 n p i e h))
+        ∙ ap (eqRow (take (32 * i + 32 - 32 * i) (drop (32 * i) p))) (sym (row-of 32 n p j e k))
+        ∙ sym eb
+        ∙ et
+        in
+        all-next (chop 32 n p) j [] (omega (arith, length-chop 32 n p)) (λ (x : Row). not (eqRow (getD (chop 32 n p) i []) x))
+        ∙ ap (λ (b : Bool). not b && all (λ (x : Row). not (eqRow (getD (chop 32 n p) i []) x)) (drop (j + 1) (chop 32 n p))) same
+
+pub distinct-turn : (rows : List Row) (i : ℕ) {b : Bool} (t : Bool) → i < length rows → b ≡ all (λ (x : Row). not (eqRow (getD rows i []) x)) (drop (i + 1) rows) → b ≡ t
+    → distinct (drop i rows) ≡ t && distinct (drop (i + 1) rows)
+unfolding distinct
+distinct-turn rows i t h eb et =
+    pairwise-next rows i [] h (λ a x. not (eqRow a x)) ∙ ap (λ (b : Bool). b && pairwise (λ a x. not (eqRow a x)) (drop (i + 1) rows)) (sym eb ∙ et)
+
+pub distinct-end : (rows : List Row) (i : ℕ) → length rows ≤ i → distinct (drop i rows) ≡ true
+unfolding distinct
+distinct-end rows i h = pairwise-end (λ a x. not (eqRow a x)) rows i h
+
+pub none-turn : (l : List ℕ) (i : ℕ) {b : Bool} (t : Bool) → i < length l → b ≡ among (getD l i 0) (take (length l - (i + 1)) (drop (i + 1) l)) → b ≡ t
+    → noneTwice (drop i l) ≡ not t && noneTwice (drop (i + 1) l)
+unfolding noneTwice
+none-turn l i t h eb et =
+    let rest : take (length l - (i + 1)) (drop (i + 1) l) ≡ drop (i + 1) l = take-all (length l - (i + 1)) (drop (i + 1) l) (rw length-drop (omega arith)) in
+    let found : among (getD l i 0) (drop (i + 1) l) ≡ t = sym (rw rest at eb) ∙ et in
+    pairwise-next l i 0 h (λ a b. not (eqb a b))
+    ∙ ap (λ (b : Bool). b && pairwise (λ a b. not (eqb a b)) (drop (i + 1) l)) (all-other (getD l i 0) (drop (i + 1) l) ∙ ap not found)
+
+pub none-end : (l : List ℕ) (i : ℕ) → length l ≤ i → noneTwice (drop i l) ≡ true
+unfolding noneTwice
+none-end l i h = pairwise-end (λ a b. not (eqb a b)) l i h
+
+-- the routes' three tests, the order asked first
+pub routes-tests : {f d : Bool} {o : Bool} (rows : List Row) → f ≡ all fitRoute rows → o ≡ ordered rows → o ≡ true → d ≡ distinct rows
+    → (f && d) ≡ all fitRoute rows && ordered rows && distinct rows
+routes-tests rows ef eo et ed = rw (ef, ed, sym eo ∙ et) (thrice (all fitRoute rows) (distinct rows))
+  where
+    thrice : (a b : Bool) → a && b ≡ a && true && b
+    thrice true b = refl
+    thrice false b = refl
+
+pub routes-broken : {o : Bool} (rows : List Row) → o ≡ ordered rows → o ≡ false → false ≡ all fitRoute rows && ordered rows && distinct rows
+routes-broken rows eo et = rw (sym eo ∙ et) (off (all fitRoute rows) (distinct rows))
+  where
+    off : (a b : Bool) → false ≡ a && false && b
+    off true b = refl
+    off false b = refl

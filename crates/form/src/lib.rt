@@ -1,0 +1,176 @@
+// Whether words are a well-formed state. Every call asks it: each row in use is looked at once, a route with the next one and
+// with those of its own place behind it, and the words not in use are scanned.
+ghost use mathlib.Core.Path.{_≡_};
+ghost use mathlib.Core.Bool.{true, not, _&&_};
+ghost use mathlib.Core.List.{[]};
+ghost use Prim.Native.Nat.{_+_, _*_, _≤_, _<_};
+ghost use lib.Dec.{eqb};
+ghost use lib.ListN.{length, getD, drop};
+ghost use Rattle.lists.specs.Lists.{Row, all, chop, eqRow};
+ghost use Rattle.layout.specs.Address.{fitAddress};
+ghost use Rattle.layout.specs.Route.{fitRoute};
+ghost use Rattle.definition.specs.Words.{stateSize, ordered, distinct, noneTwice, unusedZero, wellFormed, addressCount, routeCount, tableCount};
+ghost use Rattle.definition.specs.Step.{checks};
+
+fn fit_addresses(p: &[u32], n: usize) -> bool
+    requires { ⌜ length (now p) ≡ 20 * n ⌝ }
+    ensures { λ r. ⌜ r ≡ all fitAddress (chop 20 n (now (p .entry))) ⌝ }
+{
+    let mut i = 0usize;
+    while i < n {
+        let at = 20 * i;
+        let end = at + 20;
+        if address::fit_address(&p[at..end]) {
+            i += 1;
+        } else {
+            return false;
+        }
+    }
+    true
+}
+
+fn fit_routes(p: &[u32], n: usize) -> bool
+    requires { ⌜ length (now p) ≡ 32 * n ⌝ }
+    ensures { λ r. ⌜ r ≡ all fitRoute (chop 32 n (now (p .entry))) ⌝ }
+{
+    let mut i = 0usize;
+    while i < n {
+        let at = 32 * i;
+        let end = at + 32;
+        if route::fit_route(&p[at..end]) {
+            i += 1;
+        } else {
+            return false;
+        }
+    }
+    true
+}
+
+// No row's place is before that of the row in front of it.
+fn in_order(p: &[u32], n: usize) -> bool
+    requires { ⌜ length (now p) ≡ 32 * n ⌝ }
+    ensures { λ r. ⌜ r ≡ ordered (chop 32 n (now (p .entry))) ⌝ }
+{
+    let mut i = 0usize;
+    while i + 1 < n {
+        let at = 32 * i;
+        let next = at + 32;
+        let end = next + 32;
+        if route::before(&p[next..end], &p[at..next]) {
+            return false;
+        }
+        i += 1;
+    }
+    true
+}
+
+// Row i is none of those behind it. Only those of its own place are compared: the others have a later place.
+fn apart(p: &[u32], n: usize, i: usize) -> bool
+    requires { ⌜ (length (now p) ≡ 32 * n) × (i < n) × (ordered (chop 32 n (now p)) ≡ true) ⌝ }
+    ensures { λ r. ⌜ r ≡ all (λ (b : Row). not (eqRow (getD (chop 32 n (now (p .entry))) i []) b)) (drop (i + 1) (chop 32 n (now (p .entry)))) ⌝ }
+{
+    let at = 32 * i;
+    let end = at + 32;
+    let mut j = i + 1;
+    while j < n {
+        let from = 32 * j;
+        let to = from + 32;
+        if route::before(&p[at..end], &p[from..to]) {
+            return true;
+        }
+        if words::same_words(&p[at..end], &p[from..to]) {
+            return false;
+        }
+        j += 1;
+    }
+    true
+}
+
+fn all_apart(p: &[u32], n: usize) -> bool
+    requires { ⌜ (length (now p) ≡ 32 * n) × (ordered (chop 32 n (now p)) ≡ true) ⌝ }
+    ensures { λ r. ⌜ r ≡ distinct (chop 32 n (now (p .entry))) ⌝ }
+{
+    let mut i = 0usize;
+    while i < n {
+        if apart(p, n, i) {
+            i += 1;
+        } else {
+            return false;
+        }
+    }
+    true
+}
+
+fn routes_form(p: &[u32], n: usize) -> bool
+    requires { ⌜ length (now p) ≡ 32 * n ⌝ }
+    ensures { λ r. ⌜ r ≡ all fitRoute (chop 32 n (now (p .entry))) && ordered (chop 32 n (now (p .entry))) && distinct (chop 32 n (now (p .entry))) ⌝ }
+{
+    let fit = fit_routes(p, n);
+    if in_order(p, n) {
+        return fit & all_apart(p, n);
+    }
+    false
+}
+
+fn none_twice(l: &[u32]) -> bool
+    ensures { λ r. ⌜ r ≡ noneTwice (now (l .entry)) ⌝ }
+{
+    let mut i = 0usize;
+    while i < l.len() {
+        let next = i + 1;
+        if words::among(&l[next..], l[i]) {
+            return false;
+        }
+        i += 1;
+    }
+    true
+}
+
+// The words behind those in use are 0.
+fn unused_zero(s: &[u32]) -> bool
+    requires { ⌜ (length (now s) ≡ 9507) × (addressCount (now s) ≤ 64) × (routeCount (now s) ≤ 256) × (tableCount (now s) ≤ 32) ⌝ }
+    ensures { λ r. ⌜ r ≡ unusedZero (now (s .entry)) ⌝ }
+{
+    let a = 3 + 20 * state::wide(s[0]);
+    let r = 1283 + 32 * state::wide(s[1]);
+    let t = 9475 + state::wide(s[2]);
+    words::all_zero(&s[a..1283]) & words::all_zero(&s[r..9475]) & words::all_zero(&s[t..])
+}
+
+pub fn well_formed(s: &[u32]) -> bool
+    requires { ⌜ length (now s) ≡ 9507 ⌝ }
+    ensures { λ r. ⌜ r ≡ wellFormed (now (s .entry)) ⌝ }
+{
+    let a = state::wide(s[0]);
+    let r = state::wide(s[1]);
+    let t = state::wide(s[2]);
+    if 64 < a {
+        return false;
+    }
+    if 256 < r {
+        return false;
+    }
+    if 32 < t {
+        return false;
+    }
+    let behind_a = 3 + 20 * a;
+    let behind_r = 1283 + 32 * r;
+    let behind_t = 9475 + t;
+    fit_addresses(&s[3..behind_a], a)
+        & routes_form(&s[1283..behind_r], r)
+        & none_twice(&s[9475..behind_t])
+        & unused_zero(s)
+}
+
+// What any words get: 200 where they are not as many as a state's, 201 where they are not well-formed, else 0.
+pub fn check(s: &[u32]) -> u32
+    ensures { λ r. ⌜ r ≡ checks (eqb (length (now (s .entry))) stateSize) (wellFormed (now (s .entry))) true ⌝ }
+{
+    if s.len() != 9507 {
+        return 200;
+    }
+    if well_formed(s) {
+        return 0;
+    }
+    201
+}

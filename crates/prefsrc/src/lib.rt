@@ -1,0 +1,71 @@
+// The preferred source of a route that a request asks for.
+use lookup::Tables;
+ghost use mathlib.Core.Path.{_≡_};
+ghost use Prim.Native.Nat.{ℕ, _*_, _≤_};
+ghost use mathlib.Core.List.{List};
+ghost use lib.ListN.{length};
+ghost use Rattle.lists.specs.Lists.{Row};
+ghost use Rattle.lists.specs.Laid.{Laid, Lays};
+ghost use Rattle.layout.specs.Route.{fitRoute};
+ghost use Rattle.definition.specs.Reference.Lookup.{typeSet};
+ghost use Rattle.lookup.specs.Flow.{setOf};
+ghost use Rattle.lookup.specs.AddrType.{typeRows};
+ghost use Rattle.prefsrc.specs.Rows.{prefsrcTable, prefsrcRows};
+
+const TABLE_MAIN: u32 = 254;
+
+const TABLE_LOCAL: u32 = 255;
+
+const KIND_LOCAL: u32 = 2;
+
+// The tables that are read with a named one: 255 and 254 together, any other alone.
+pub fn type_set(t: u32) -> Tables
+    ensures { λ r. ⌜ ((u : ℕ) → setOf r u ≡ typeSet t u) ⌝ }
+{
+    if (t == TABLE_LOCAL) | (t == TABLE_MAIN) {
+        return Tables {
+            one: TABLE_LOCAL,
+            other: TABLE_MAIN,
+        };
+    }
+    Tables { one: t, other: t }
+}
+
+// What an address is to a table.
+pub fn addr_type(rows: &[u32], n: usize, listed: bool, t: u32, ip: u32) -> u32
+    requires { ⌜ (length (now rows) ≡ 32 * n) × Lays 32 fitRoute (now rows) ⌝ }
+    ensures { λ r. ⌜ ((l : List Row) → Laid 32 fitRoute (now (rows .entry)) l → r ≡ typeRows listed (typeSet t) l ip) ⌝ }
+{
+    let set = type_set(t);
+    lookup::addr_type4(rows, n, listed, set, ip)
+}
+
+// The table that a preferred source may be local in, besides 255.
+pub fn prefsrc_table(t: u32) -> u32
+    ensures { λ r. ⌜ r ≡ prefsrcTable t ⌝ }
+{
+    if t == TABLE_MAIN {
+        return TABLE_LOCAL;
+    }
+    t
+}
+
+// A local route's own destination, or an address that is local in the route's table or in 255.
+pub fn valid_prefsrc4(
+    rows: &[u32],
+    n: usize,
+    q: &[u32],
+    own_listed: bool,
+    local_listed: bool,
+) -> bool
+    requires { ⌜ (length (now rows) ≡ 32 * n) × Lays 32 fitRoute (now rows) ⌝ }
+    requires { ⌜ 12 ≤ length (now q) ⌝ }
+    ensures { λ r. ⌜ ((l : List Row) → Laid 32 fitRoute (now (rows .entry)) l → r ≡ prefsrcRows (now (q .entry)) «own_listed» «local_listed» l) ⌝ }
+{
+    let own = prefsrc_table(asked::table_named(q));
+    let own_kind = addr_type(rows, n, own_listed, own, q[9]);
+    let local_kind = addr_type(rows, n, local_listed, TABLE_LOCAL, q[9]);
+    ((q[5] == KIND_LOCAL) & (q[1] != 0) & (q[9] == q[1]))
+        | (own_kind == KIND_LOCAL)
+        | (local_kind == KIND_LOCAL)
+}

@@ -1,0 +1,4 @@
+pub mod Selected
+pub mod Laws
+pub mod Pass
+pub mod Answer

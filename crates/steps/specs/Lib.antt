@@ -1,0 +1,3 @@
+pub mod Does
+pub mod Adds
+pub mod Through

@@ -1,0 +1,114 @@
+use Prim.Native.Nat.{_-_, _≤_}
+use mathlib.Core.List.{List}
+use mathlib.Core.Path.{_≡_, refl, sym, _∙_}
+use native.Mathlib.Omega.{arith}
+use lib.Dec.{lit<}
+use lib.ListN.{drop}
+use Rattle.lists.specs.Lists.{Row, any}
+use Rattle.lists.specs.Laid.{Laid}
+use Rattle.lists.specs.Pass.{some-here, some-past, some-end}
+use Rattle.lists.specs.Pass.{part-width}
+use Rattle.layout.specs.Route.{fitRoute}
+use Rattle.wanted.specs.Wants.{localHost}
+use borrow.Author.Needs.{needs}
+use Rattle.wanted.proofs.local_went.Statement.{statement}
+use Rattle.wanted.proofs.local_went.Tie as tie
+use Rattle.wanted.proofs.local_went.Reads as reads
+use Rattle.wanted.proofs.local_went.Lts as lts
+use Rattle.wanted.proofs.local_host.Reads as local-host-reads
+
+abbrev Inv-loop : tie.InvT-loop
+Inv-loop rows k i₀ i =
+    (i ≤ k) × ((l : List Row) → Laid 32 fitRoute rows l → any (localHost) l ≡ any (localHost) (drop i l))
+
+abbrev μ-loop : tie.MeasureT-loop
+μ-loop rows k i₀ i = k - i
+
+-- src/lib.rt:95:5
+loop-holds : tie.Need-loop-holds Inv-loop μ-loop
+loop-holds c = (search needs, λ l h. refl)
+
+-- src/lib.rt:96:18
+mul-at : tie.Need-mul-at Inv-loop μ-loop
+mul-at c = search needs
+
+-- src/lib.rt:97:27
+add-r : tie.Need-add-r Inv-loop μ-loop
+add-r c = search needs
+
+-- src/lib.rt:97:17
+mul-r : tie.Need-mul-r Inv-loop μ-loop
+mul-r c = search needs
+
+-- src/lib.rt:97:17
+sub-r : tie.Need-sub-r Inv-loop μ-loop
+sub-r c = search needs
+
+-- src/lib.rt:97:17
+part-r-start : tie.Need-part-r-start Inv-loop μ-loop
+part-r-start c = search needs
+
+-- src/lib.rt:97:17
+part-r-end : tie.Need-part-r-end Inv-loop μ-loop
+part-r-end c = search needs
+
+-- src/lib.rt:98:12
+local-host-requires : tie.Need-local-host-requires Inv-loop μ-loop
+local-host-requires c κs =
+    let k = c .before .before in
+    let s = k .before .before in
+    part-width (s .args .rows .now) (s .args .k) (lit< tt) (s .pre .0) (s .pre .1) (k .loop .i) (c .before .loop-test .taken)
+
+-- src/lib.rt:99:13
+returns : tie.Need-returns Inv-loop μ-loop
+returns c =
+    let k = c .before .before .before .before in
+    let s = k .before .before in
+    let a = s .args in
+    λ l h. some-here (a .rows .now) (a .k) (lit< tt) (s .pre .0) (localHost) l h (k .loop .i) (k .loop .inv .1 l h) (c .before .before .before .loop-test .taken) (sym (c .before .local-host .ensures) ∙ c .if1 .taken)
+
+-- src/lib.rt:101:9
+add-i : tie.Need-add-i Inv-loop μ-loop
+add-i c = search needs
+
+-- src/lib.rt:95:5
+loop-less : tie.Need-loop-less Inv-loop μ-loop
+loop-less c = search needs
+
+-- src/lib.rt:95:5
+loop-again : tie.Need-loop-again Inv-loop μ-loop
+loop-again c =
+    let k = c .before .before .before .before in
+    let s = k .before .before in
+    let a = s .args in (
+      omega arith,
+      λ l h. some-past (a .rows .now) (a .k) (lit< tt) (s .pre .0) (localHost) l h (k .loop .i) (k .loop .inv .1 l h) (c .before .before .before .loop-test .taken) (sym (c .before .local-host .ensures) ∙ c .if1 .left),
+    )
+
+-- src/lib.rt:90:1
+returns-2 : tie.Need-returns-2 Inv-loop μ-loop
+returns-2 c =
+    let k = c .before in
+    let s = k .before .before in
+    let a = s .args in
+    λ l h. some-end (a .rows .now) (a .k) (lit< tt) (s .pre .0) (localHost) l h (k .loop .i) (k .loop .inv .1 l h) (c .loop-test .left)
+
+pub local-went-spec : {M : Type 1} → statement M
+local-went-spec =
+    tie.close
+    (tie.spec
+    Inv-loop
+    μ-loop
+    loop-holds
+    mul-at
+    add-r
+    mul-r
+    sub-r
+    part-r-start
+    part-r-end
+    local-host-requires
+    returns
+    add-i
+    loop-less
+    loop-again
+    returns-2)

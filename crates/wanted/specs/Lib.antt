@@ -1,0 +1,2 @@
+pub mod Wants
+pub mod Laws

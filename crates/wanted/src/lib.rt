@@ -1,0 +1,112 @@
+// Whether some address wants a route, without a list of the wanted ones: an address is asked directly.
+ghost use mathlib.Core.Path.{_≡_};
+ghost use mathlib.Core.Bool.{Bool, true, _&&_, _||_};
+ghost use mathlib.Core.List.{List};
+ghost use Prim.Native.Nat.{ℕ, _*_, _≤_};
+ghost use lib.Dec.{eqb};
+ghost use lib.ListN.{length};
+ghost use Rattle.lists.specs.Lists.{Row, any};
+ghost use Rattle.lists.specs.Laid.{Laid, Lays};
+ghost use Rattle.layout.specs.Address.{prefix, fitAddress};
+ghost use Rattle.layout.specs.Route.{dst, len, kind, fitRoute};
+ghost use Rattle.definition.specs.Reference.Addresses.{candidates};
+ghost use Rattle.definition.specs.Reference.Removal.{sameRoute, wanted, straysFrom};
+ghost use Rattle.wanted.specs.Wants.{wantsLocal, wantsBroadcast, wants, localHost};
+
+const KIND_LOCAL: u32 = 2;
+
+const KIND_BROADCAST: u32 = 3;
+
+const TABLE_MAIN: u32 = 254;
+
+// Whether a wants a local route: to its own address or to its network.
+fn wants_local(a: &[u32], dst: u32, len: u32) -> bool
+    requires { ⌜ (length (now a) ≡ 20) × (prefix (now a) ≤ 32) ⌝ }
+    ensures { λ r. ⌜ r ≡ wantsLocal (now (a .entry)) dst len ⌝ }
+{
+    let network = prefix::network4(a[1], a[2]);
+    let brings = subnet::brings_prefix(a);
+    ((dst == a[0]) & (len == 32)) | (brings & ((dst == network) & (len == a[2])))
+}
+
+// Whether a wants a broadcast route: to the address that it names or to its subnet's last.
+fn wants_broadcast(a: &[u32], dst: u32, len: u32) -> bool
+    requires { ⌜ (length (now a) ≡ 20) × (prefix (now a) ≤ 32) ⌝ }
+    ensures { λ r. ⌜ r ≡ wantsBroadcast (now (a .entry)) dst len ⌝ }
+{
+    if len != 32 {
+        return false;
+    }
+    let names = subnet::names_broadcast(a);
+    let brings = subnet::brings_broadcast(a);
+    let last = prefix::broadcast4(a[1], a[2]);
+    (names & (dst == a[4])) | (brings & (dst == last))
+}
+
+// Whether a wants a route of this destination, length and kind while the loopback is up. A route of another kind is nobody's.
+pub fn wants(a: &[u32], dst: u32, len: u32, kind: u32) -> bool
+    requires { ⌜ (length (now a) ≡ 20) × (prefix (now a) ≤ 32) ⌝ }
+    ensures { λ r. ⌜ r ≡ wants (now (a .entry)) dst len kind ⌝ }
+{
+    if kind == KIND_LOCAL {
+        return wants_local(a, dst, len);
+    }
+    if kind == KIND_BROADCAST {
+        return wants_broadcast(a, dst, len);
+    }
+    false
+}
+
+// Whether some address wants the route r.
+pub fn wanted(addresses: &[u32], n: usize, r: &[u32]) -> bool
+    requires { ⌜ (length (now addresses) ≡ 20 * n) × Lays 20 fitAddress (now addresses) ⌝ }
+    requires { ⌜ length (now r) ≡ 32 ⌝ }
+    ensures { λ b. ⌜ ((l : List Row) → Laid 20 fitAddress (now (addresses .entry)) l → b ≡ wanted l (now (r .entry))) ⌝ }
+{
+    let dst = r[1];
+    let len = r[2];
+    let kind = r[5];
+    let mut i = 0usize;
+    while i < n {
+        let at = 20 * i;
+        let a = &addresses[at..at + 20];
+        if wants(a, dst, len, kind) {
+            return true;
+        }
+        i += 1;
+    }
+    false
+}
+
+// Whether the row is a /32 of a local route.
+fn local_host(r: &[u32]) -> bool
+    requires { ⌜ length (now r) ≡ 32 ⌝ }
+    ensures { λ b. ⌜ b ≡ localHost (now (r .entry)) ⌝ }
+{
+    (r[5] == KIND_LOCAL) & (r[2] == 32)
+}
+
+// Whether such a row is among those that went.
+pub fn local_went(rows: &[u32], k: usize) -> bool
+    requires { ⌜ (length (now rows) ≡ 32 * k) × Lays 32 fitRoute (now rows) ⌝ }
+    ensures { λ b. ⌜ ((l : List Row) → Laid 32 fitRoute (now (rows .entry)) l → b ≡ any localHost l) ⌝ }
+{
+    let mut i = 0usize;
+    while i < k {
+        let at = 32 * i;
+        let r = &rows[at..at + 32];
+        if local_host(r) {
+            return true;
+        }
+        i += 1;
+    }
+    false
+}
+
+// Whether a row of table 254 has ip as its preferred source.
+pub fn strays_from(r: &[u32], ip: u32) -> bool
+    requires { ⌜ length (now r) ≡ 32 ⌝ }
+    ensures { λ b. ⌜ b ≡ straysFrom ip (now (r .entry)) ⌝ }
+{
+    (r[0] == TABLE_MAIN) & (r[8] == 1) & (r[9] == ip)
+}
