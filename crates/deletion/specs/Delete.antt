@@ -12,7 +12,7 @@ use borrow.Author.Tests.{eqb-true}
 use Rattle.lists.specs.Lists.{Row, any, first, removeFirst, put, span}
 use Rattle.lists.specs.All.{fails, and-iff, cond-true, cond-false}
 use Rattle.lists.specs.At.{removeAt, length-removeAt}
-use Rattle.lists.specs.Place.{placeOf, first-at, remove-at}
+use Rattle.lists.specs.Place.{placeOf, first-at, remove-at, nothing-from, something-at}
 use Rattle.layout.specs.Route.{dst, fitRoute}
 use Rattle.layout.specs.Event.{delRoute4}
 use Rattle.definition.specs.State.{State, Out, becomes, stays, withRoutes}
@@ -72,16 +72,6 @@ unfolding named
 named-far p r h =
     sym (fails (named p r) (λ k. h (sym (eqb-true (dst r) (dst p) ((simp and-iff at k) .0 .0 .0 .0 .0 .0 .0 .0 .0 .1)))))
 
-beyond : {A : Type 0} (l : List A) (i : ℕ) → length l ≤ i → getElem? l i ≡ none
-beyond [] i h = refl
-beyond (x ∷ l) zero h = absurd (omega arith)
-beyond (x ∷ l) (suc i) h = beyond l i (omega arith)
-
-within : {A : Type 0} (l : List A) (i : ℕ) (d : A) → i < length l → getElem? l i ≡ some (getD l i d)
-within [] i d h = absurd (omega arith)
-within (x ∷ l) zero d h = refl
-within (x ∷ l) (suc i) d h = within l i d (omega arith)
-
 module _ (p : Row) (st : State) (i : ℕ) (e : i ≡ placeOf (named p) (st .routes)) where
   place : first (named p) (st .routes) ≡ getElem? (st .routes) i
   place = first-at (named p) (st .routes) ∙ ap (getElem? (st .routes)) (sym e)
@@ -92,11 +82,11 @@ module _ (p : Row) (st : State) (i : ℕ) (e : i ≡ placeOf (named p) (st .rout
       let gone : removeFirst (named p) (st .routes) ≡ take i (st .routes) ++ drop (suc i) (st .routes) =
       remove-at (named p) (st .routes) ∙ ap (λ (n : ℕ). take n (st .routes) ++ drop (suc n) (st .routes)) (sym e)
       in
-      rw (place, within (st .routes) i [] b, gone)
+      rw (place, something-at (st .routes) i [] b, gone)
 
   pub del-none : length (st .routes) ≤ i → kernelDel4 p st ≡ stays st
   unfolding kernelDel4
-  del-none b = rw (place, beyond (st .routes) i b)
+  del-none b = rw (place, nothing-from (st .routes) i b)
 
 -- ---- a step known by an equation
 pub step-eq : {st : State} {o p : Out} {s ev₀ ev : List ℕ} {r : ℕ} → o ≡ p → Step weight st p s ev₀ ev r → Step weight st o s ev₀ ev r

@@ -11,7 +11,7 @@ use Rattle.lists.specs.All.{test-case}
 use Rattle.lists.specs.Keep.{not-not}
 use Rattle.prefix.specs.Mask.{network}
 use Rattle.layout.specs.Address.{address, prefix, scope, flags, secondary}
-use Rattle.address.specs.Bits.{has-and}
+use Rattle.layout.specs.Bits.{has-and}
 use Rattle.definition.specs.Reference.Addresses.{covers, hostScope}
 use Rattle.definition.specs.Reference.Source.{eligible, reaches}
 use Rattle.source.specs.Selected.{wanted}

@@ -17,7 +17,7 @@ use Rattle.lists.specs.Laid.{Laid, Lays, laid-length, laid-part, laid-fit, laid
 use Rattle.layout.specs.Address.{prefix, local, fitAddress}
 use Rattle.definition.specs.Kept.Fit.{fields-address}
 use Rattle.definition.specs.Reference.Source.{eligible, reaches, select4, localOf, orElse}
-use Rattle.lookup.specs.Best.{nothing-from, something-at}
+use Rattle.lists.specs.Place.{nothing-from, something-at}
 
 -- the address at place i, as it is lent
 abbrev pub part : List ℕ → ℕ → Row

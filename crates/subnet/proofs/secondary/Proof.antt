@@ -1,5 +1,5 @@
 use lib.ListN.{getD}
-use Rattle.address.specs.Bits.{has-and}
+use Rattle.layout.specs.Bits.{has-and}
 use borrow.Author.Needs.{needs}
 use Rattle.subnet.proofs.secondary.Statement.{statement}
 use Rattle.subnet.proofs.secondary.Tie as tie
