@@ -1,4 +1,4 @@
--- One address goes, step by step: itself, those of its routes that none wants, what falls with it, the device's routes.
+-- What goes with an address, step by step: those of its routes that none wants, what falls with it, the device's routes.
 -- Assumes nothing.
 use Prim.Native.Nat.{ℕ, zero, suc, _+_, _-_, _*_, _≤_, _<_}
 use mathlib.Core.Path.{_≡_, refl, sym, ap, _∙_}
@@ -26,7 +26,7 @@ use Rattle.events.specs.Turns.{Like, like-refl, like-sym, like-trans, like-eq, 
 
 -- ---- routes that none wants
 -- a route goes unless an address wants it
-pub unlessWanted : Row → State → Out
+unfoldable pub unlessWanted : Row → State → Out
 unlessWanted r st = cond (wanted (st .addresses) r) (stays st) (kernelDel4 r st)
 
 -- the addresses stay, so each route may be looked at when its turn comes
@@ -42,7 +42,7 @@ unwanted-turns left (r ∷ l) st e =
     (unwanted-turns left l ((kernelDel4 r st) .state) ((kernelDel4-away r st) .sameAddresses ∙ e))))
 
 -- from route j on
-pub from : List Row → ℕ → State → Out
+unfoldable pub from : List Row → ℕ → State → Out
 from l j st = through unlessWanted (drop j l) st
 
 pub from-start : (l : List Row) (st : State) → from l 0 st ≡ through unlessWanted l st
@@ -69,46 +69,13 @@ loses-any left (r ∷ l) =
     test-case (wanted left r) (λ e. rw (e, loses-any left l)) (λ e. rw (e, loses-any left l))
 
 -- what falls, where that is so
-pub fallFrom : ℕ → Bool → State → Out
+unfoldable pub fallFrom : ℕ → Bool → State → Out
 fallFrom ip lost st =
     cond (lost && not (local4 st ip)) (through kernelDel4 (cond (listed mainTable st) (keep (straysFrom ip) (st .routes)) []) st) (stays st)
 
 pub fall-from : (a : Row) (left l : List Row) (st : State) → fall a (keep (λ r. not (wanted left r)) l) st ≡ fallFrom (local a) (any (loses left) l) st
 unfolding fall fallFrom
 fall-from a left l st = rw (loses-any left l)
-
--- ---- an address that is there
-pub record Present (a : Row) (s ev : List ℕ) : Type 0 where
-  pub state : State
-  pub fits : Fits weight state s ev
-  pub there : any (eqRow a) (state .addresses) ≡ true
-
--- it goes, and is told
-abbrev pub goneFrom : Row → State → Out
-goneFrom a st = becomes (withAddresses (removeFirst (eqRow a) (st .addresses)) st) (delAddr4 a ∷ [])
-
-pub gone-lighter : (a : Row) (st : State) → any (eqRow a) (st .addresses) ≡ true → 1 + weight (withAddresses (removeFirst (eqRow a) (st .addresses)) st) ≤ weight st
-gone-lighter a st h = omega (arith, length-removeFirst (eqRow a) (st .addresses) h, count-removeFirst live (eqRow a) (st .addresses))
-
--- ---- the whole
-abbrev pub byParts : Row → State → Out
-byParts a st =
-    let left = removeFirst (eqRow a) (st .addresses) in
-    let l = leaving (st .addresses) a in
-    also (also (also (goneFrom a st) (through unlessWanted l)) (fallFrom (local a) (any (loses left) l))) disable
-
-pub one-parts : (a : Row) (st : State) → Like (removeOne a st) (byParts a st)
-unfolding removeOne unwanted
-one-parts a st =
-    let left = removeFirst (eqRow a) (st .addresses) in
-    let l = leaving (st .addresses) a in
-    let routes = keep (λ r. not (wanted left r)) l in
-    let gone = goneFrom a st in
-    also-like disable disable
-    (also-like (fall a routes) (fallFrom (local a) (any (loses left) l))
-    (also-like (through kernelDel4 routes) (through unlessWanted l) (like-refl gone) (unwanted-turns left l (gone .state) refl))
-    (like-eq (fall-from a left l ((also gone (through kernelDel4 routes)) .state))))
-    (like-refl _)
 
 -- a step that says nothing, behind another
 pub step-quiet : {st : State} {o : Out} {s ev₀ ev : List ℕ} {r : ℕ} (f : State → Out) {s′ : List ℕ} → Step weight st o s ev₀ ev r
