@@ -1,3 +1,4 @@
 -- What a reader may want to know of the definitions before trusting them.
 pub mod Lookup
 pub mod Expire
+pub mod Private

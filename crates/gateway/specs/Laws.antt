@@ -20,7 +20,7 @@ use Rattle.definition.specs.Reference.Routes as Routes
 use Rattle.definition.specs.Reference.Routes.{by, refused, tableNamed, onlinkFlag, then, refuse, toGateway, usable, foundOr, reachedBy, plain}
 use Rattle.lookup.specs.AddrType.{typeRows}
 use Rattle.lookup.specs.Answer.{lookupRows, foundBy, placed}
-use Rattle.lookup.specs.Best.{nothing-from, something-at}
+use Rattle.lists.specs.Place.{nothing-from, something-at}
 use Rattle.lookup.specs.Pass.{laid-count}
 use Rattle.lookup.specs.declared.Looked.{Looked}
 use Rattle.lookup.specs.declared.Looked.the-variants.{At, Refused}

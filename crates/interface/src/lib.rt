@@ -3,13 +3,13 @@ use lookup::Flow;
 use lookup::Looked;
 use source::Selected;
 ghost use mathlib.Core.Path.{_≡_};
-ghost use mathlib.Core.Bool.{Bool, true};
-ghost use Prim.Native.Nat.{_+_, _*_, _≤_};
-ghost use lib.Dec.{leb};
-ghost use lib.ListN.{length};
+ghost use mathlib.Core.List.{[]};
+ghost use Prim.Native.Nat.{_≤_, _<_};
+ghost use lib.ListN.{length, getD};
 ghost use Rattle.lists.specs.Lists.{flat, put};
 ghost use Rattle.lookup.specs.Flow.{flowOf};
 ghost use Rattle.definition.specs.State.{State};
+ghost use Rattle.definition.specs.Words.{routeCount};
 ghost use Rattle.definition.specs.Reference.Lookup.{lookupIn};
 ghost use Rattle.definition.specs.Step.{lookup4Call, lookup4FlowCall, local4Call, source4Call, sourceCall, select4Call};
 ghost use Rattle.state.specs.Holds.{Holds, Valid};
@@ -57,6 +57,16 @@ pub fn checked(s: &[u32], buffers: bool, handed: bool, request: bool) -> u32
     0
 }
 
+// Route i, copied into the buffer.
+fn copy_route(s: &[u32], i: usize, row: &mut [u32])
+    requires { ⌜ Valid (now s) × (i < routeCount (now s)) × (32 ≤ length (now row)) ⌝ }
+    ensures { λ _. ⌜ ((st : State) → Holds (now (s .entry)) st → now (row .exit) ≡ put 0 (getD (st .routes) i []) (now (row .entry))) ⌝ }
+{
+    let at = 1283 + 32 * i;
+    let end = at + 32;
+    words::store(row, 0, &s[at..end]);
+}
+
 // The route of a flow, copied into the buffer.
 fn look(s: &[u32], row: &mut [u32], f: Flow) -> Found
     requires { ⌜ Valid (now s) × (32 ≤ length (now row)) ⌝ }
@@ -66,9 +76,7 @@ fn look(s: &[u32], row: &mut [u32], f: Flow) -> Found
     let looked = view::lookup4_in(s, f);
     match looked {
         Looked::At(i) => {
-            let at = 1283 + 32 * i;
-            let end = at + 32;
-            words::store(row, 0, &s[at..end]);
+            copy_route(s, i, row);
             Found::Row
         }
         Looked::Refused(n) => Found::Refused(n),

@@ -1,12 +1,12 @@
 -- A pass over rows that lie one after the other in a list: what is left of them from row i on.
 -- Assumes nothing.
-use Prim.Native.Nat.{ℕ, suc, _+_, _-_, _*_, _≤_, _<_}
-use mathlib.Core.Path.{_≡_, refl, sym, ap, ap₂, _∙_}
+use Prim.Native.Nat.{ℕ, zero, suc, _+_, _-_, _*_, _≤_, _<_}
+use mathlib.Core.Path.{_≡_, refl, sym, ap, _∙_}
 use mathlib.Core.Bool.{Bool, true, _&&_, and-assoc}
 use mathlib.Core.List.{List, [], _∷_}
-use native.Mathlib.Nat.{mul-zero}
+use native.Mathlib.Nat.{mul-zero, mul-suc, not-suc-le-zero, le-of-suc-le-suc}
 use native.Mathlib.Omega.{arith}
-use lib.ListN.{length, getD, take, drop}
+use lib.ListN.{getD, take, drop}
 use lib.Seq.{getD-take, getD-drop, drop-drop}
 use Rattle.lists.specs.Lists.{Row, all, chop}
 
@@ -48,3 +48,12 @@ module _ (k n : ℕ) (l : List ℕ) where
 -- word j of row i, where the rows start at m
 pub chop-word-from : (k m : ℕ) (l : List ℕ) (i j : ℕ) → j < k → getD (take k (drop (k * i) (drop m l))) j 0 ≡ getD l (m + (k * i + j)) 0
 chop-word-from k m l i j h = getD-take k (drop (k * i) (drop m l)) j 0 h ∙ getD-drop (k * i) (drop m l) j 0 ∙ getD-drop m l (k * i + j) 0
+
+-- row i of rows chopped off a list
+pub chop-at : (k n : ℕ) (l : List ℕ) (i : ℕ) → i < n → take k (drop (k * i) l) ≡ getD (chop k n l) i []
+unfolding chop
+chop-at k zero l i h = absurd (not-suc-le-zero h)
+chop-at k (suc n) l zero h = rw mul-zero
+chop-at k (suc n) l (suc i) h =
+    let on : k * suc i ≡ k + k * i = rw mul-suc (omega arith) in
+    rw (on, ← drop-drop (k * i) k l) (chop-at k n (drop k l) i (le-of-suc-le-suc h))

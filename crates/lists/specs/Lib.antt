@@ -12,3 +12,4 @@ pub mod Put
 pub mod At
 pub mod Region
 pub mod Split
+pub mod Block

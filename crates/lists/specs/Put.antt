@@ -2,11 +2,11 @@
 -- Assumes nothing.
 use Prim.Native.Nat.{ℕ, zero, suc, _+_, _-_, _≤_, _<_}
 use mathlib.Core.Path.{_≡_, refl, sym, ap, _∙_}
-use mathlib.Core.List.{List, [], _∷_, _++_, append-assoc}
+use mathlib.Core.List.{List, [], _∷_, _++_, append-assoc, append-nil}
 use native.Mathlib.Nat.{add-zero, add-assoc}
 use native.Mathlib.Numerals.{add-one}
 use native.Mathlib.Omega.{arith}
-use lib.ListN.{length, getD, set, take, drop, length-append, length-drop, take-append-drop, List·getD-append}
+use lib.ListN.{length, getD, set, take, drop, length-append, length-drop, take-append-drop, List·getD-append, drop-of-length-le}
 use lib.Seq.{length-take-le, take-at, drop-at, set-at, drop-cons, take-suc, set-split, drop-append-add, drop-drop, take-add, getD-take, getD-drop, getD-append-add}
 use Rattle.lists.specs.Lists.{zeros, span, put}
 use Rattle.lists.specs.Rows.{length-zeros, length-span}
@@ -242,3 +242,8 @@ put-part a k at vs l h g =
     ∙ regrouped
     ∙ sym (put-at p (span at (length vs) m) (drop (at + length vs) m ++ q) vs (a + at) lp (length-span at (length vs) m (omega arith)))
     ∙ ap (put (a + at) vs) (sym there)
+
+-- as many words in place of all
+pub put-whole : (vs l : List ℕ) → length vs ≡ length l → put 0 vs l ≡ vs
+unfolding put
+put-whole vs l e = rw (drop-of-length-le l {i = 0 + length vs} (omega arith)) (append-nil vs)

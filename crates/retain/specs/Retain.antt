@@ -13,6 +13,8 @@ use lib.Seq.{drop-at, drop-drop}
 use borrow.Author.Tests.{eq-eqb, ne-eqb}
 use Rattle.lists.specs.Lists.{Row, all, keep, flat, span, put, chop, zeros, pad}
 use Rattle.lists.specs.All.{all-keep}
+use Rattle.lists.specs.Keep.{keep-append}
+use Rattle.lists.specs.Count.{length-keep, count-most}
 use Rattle.lists.specs.Rows.{length-flat, length-chop, sized-chop, chop-pad, length-zeros, length-span}
 use Rattle.lists.specs.Put.{put-behind, put-none, span-put-behind}
 use Rattle.lists.specs.At.{flat-append, flat-cons}
@@ -38,21 +40,8 @@ chop-more k (suc i) l =
     (chop-more k i (drop k l)
     ∙ ap (λ (x : List ℕ). chop k i (drop k l) ++ (take k x ∷ [])) (drop-drop (k * i) k l ∙ ap (λ (n : ℕ). drop n l) on))
 
-pub keep-append : (p : Row → Bool) (a b : List Row) → keep p (a ++ b) ≡ keep p a ++ keep p b
-keep-append p [] b = refl
-keep-append p (r ∷ a) b = go (p r) (keep-append p a b)
-  where
-    go : (t : Bool) → keep p (a ++ b) ≡ keep p a ++ keep p b → cond t (r ∷ keep p (a ++ b)) (keep p (a ++ b)) ≡ cond t (r ∷ keep p a) (keep p a) ++ keep p b
-    go true e = ap (λ (x : List Row). r ∷ x) e
-    go false e = e
-
 pub keep-le : (p : Row → Bool) (l : List Row) → length (keep p l) ≤ length l
-keep-le p [] = omega arith
-keep-le p (r ∷ l) = go (p r) (keep-le p l)
-  where
-    go : (t : Bool) → length (keep p l) ≤ length l → length (cond t (r ∷ keep p l) (keep p l)) ≤ suc (length l)
-    go true e = omega arith
-    go false e = omega arith
+keep-le p l = omega (arith, length-keep p l, count-most p l)
 
 -- ---- rows of k words from base on, of which the first i have been looked at
 abbrev pub rowsOf : ℕ → ℕ → List ℕ → ℕ → List Row

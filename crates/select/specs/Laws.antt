@@ -1,24 +1,22 @@
 -- What the code's tests of a row come to, and the search for the first that is named.
 -- Assumes nothing.
-use Prim.Native.Nat.{ℕ, zero, suc, _+_, _-_, _*_, _≤_, _<_}
-use mathlib.Core.Path.{_≡_, refl, sym, ap, ap₂, _∙_}
-use mathlib.Core.Bool.{Bool, true, false, not, _&&_, _||_, and-assoc, and-false}
-use mathlib.Core.List.{List, [], _∷_}
-use native.Mathlib.Nat.{mul-zero, mul-suc, not-suc-le-zero, le-of-suc-le-suc}
+use Prim.Native.Nat.{ℕ, _+_, _*_, _≤_, _<_}
+use mathlib.Core.Path.{_≡_, sym, ap, ap₂, _∙_}
+use mathlib.Core.Bool.{Bool, true, false, _&&_, _||_, and-assoc}
+use mathlib.Core.List.{List, []}
 use native.Mathlib.Omega.{arith}
 use lib.Dec.{eqb, leb, lit<}
 use lib.ListN.{length, getD, take, drop, drop-of-length-le}
-use lib.Seq.{drop-drop}
-use borrow.Author.Tests.{leb-true, eqb-true}
+use borrow.Author.Tests.{leb-true}
 use Rattle.lists.specs.Lists.{Row, all, chop}
 use Rattle.lists.specs.All.{and-iff}
 use Rattle.lists.specs.At.{all-at}
 use Rattle.lists.specs.Rows.{length-chop}
-use Rattle.lists.specs.Chop.{chopFrom, chop-start, pass-all, pass-all-end, chop-word-from}
+use Rattle.lists.specs.Chop.{chopFrom, chop-start, chop-at, pass-all, pass-all-end, chop-word-from}
 use Rattle.lists.specs.Laid.{Laid, Lays, laid-part, laid-width}
 use Rattle.lists.specs.Place.{placeOf, place-here, place-past}
 use Rattle.layout.specs.Route.{fitRoute, table, dst, len, tos, priority, kind, proto, scope, prefsrcPresent, prefsrc, gatewayPresent, gateway, device}
-use Rattle.layout.specs.Request.{oif, listPresent, pairCount, pairs, pairIndex, pairValue, fitPairs, fitDelRoute4}
+use Rattle.layout.specs.Request.{oif, listPresent, pairCount, pairIndex, pairValue, fitPairs, fitDelRoute4}
 use Rattle.definition.specs.Reference.Routes.{selects, hasMetrics, tableNamed}
 use Rattle.lookup.specs.Pass.{part, laid-count}
 
@@ -47,15 +45,6 @@ module _ (q : Row) (t : ℕ) (r : Row) (named : t ≡ tableNamed q) where
   pub selects-rest : (b f m : Bool) → b ≡ samePlace q t r → b ≡ true → f ≡ sameFields q r → m ≡ hasMetrics q r → (f && m) ≡ selects q r
   selects-rest b f m e g h k =
       ap₂ (λ (x y : Bool). x && y) h k ∙ sym (ap (λ (x : Bool). x && (sameFields q r && hasMetrics q r)) (sym e ∙ g)) ∙ selects-parts
-
--- row i of rows chopped off a list
-chop-at : (k n : ℕ) (l : List ℕ) (i : ℕ) → i < n → take k (drop (k * i) l) ≡ getD (chop k n l) i []
-unfolding chop
-chop-at k zero l i h = absurd (not-suc-le-zero h)
-chop-at k (suc n) l zero h = rw mul-zero
-chop-at k (suc n) l (suc i) h =
-    let on : k * suc i ≡ k + k * i = rw mul-suc (omega arith) in
-    rw (on, ← drop-drop (k * i) k l) (chop-at k n (drop k l) i (le-of-suc-le-suc h))
 
 -- ---- the metrics, pair by pair
 abbrev pub hasPair : Row → Row → Bool

@@ -17,6 +17,14 @@ pub fn store(s: &mut [u32], at: usize, vs: &[u32])
     }
 }
 
+// All the words of another slice: a state into a local, and back.
+pub fn copy(to: &mut [u32], from: &[u32])
+    requires { ⌜ length (now from) ≡ length (now to) ⌝ }
+    ensures { λ _. ⌜ now (to .exit) ≡ now (from .entry) ⌝ }
+{
+    store(to, 0, from);
+}
+
 // n zeros from the place at on.
 pub fn clear(s: &mut [u32], at: usize, n: usize)
     requires { ⌜ at + n ≤ length (now s) ⌝ }

@@ -1,10 +1,10 @@
-//! A port held against the model: all that is written by hand, then
+//! Ports held against the model: all that is written by hand, then
 //! generated cases, then pairs of runs. This is what a port behind the C
 //! ABI is handed to.
-use crate::call::NAMES;
+use crate::call::{KINDS, NAMES};
 use crate::checks::Checks;
-use crate::compare::{Case, Cut, Difference, compare};
-use crate::generate::cases::{Cases, Origin, USUAL};
+use crate::compare::{Case, Cut, Difference, against, compare, expected};
+use crate::generate::cases::{Cases, USUAL};
 use crate::pairs;
 use crate::port::{Port, Words};
 use crate::rng::Rng;
@@ -25,11 +25,112 @@ pub struct Amount {
 pub struct Summary {
     pub by_hand: usize,
     pub cases: usize,
+    /// Pairs of runs that came out alike, counted for each port.
     pub pairs: usize,
     /// Pairs left out, since a call was refused for want of space.
     pub no_space: usize,
-    /// How often each call gave each number.
+    /// Calls made on all ports together, those of pairs too.
+    pub calls: usize,
+    /// How often each call gave each number, on a port at least.
     pub answers: BTreeMap<(&'static str, u32), usize>,
+}
+
+/// The kinds of call that are compared, by their codes less one.
+pub type Kinds = [bool; KINDS];
+
+/// Ports that are compared on the same cases, each for some kinds of call.
+/// The cases and the pairs come from the seed alone.
+pub struct Campaign<'a> {
+    ports: Vec<(&'a mut dyn Port, Kinds)>,
+    seed: u64,
+    cases: Cases,
+    pairs: Rng,
+    pairs_drawn: usize,
+    pub summary: Summary,
+}
+
+impl<'a> Campaign<'a> {
+    pub fn new(seed: u64) -> Self {
+        Self {
+            ports: Vec::new(),
+            seed,
+            cases: Cases::new(seed, USUAL),
+            pairs: Rng::new(seed),
+            pairs_drawn: 0,
+            summary: Summary::default(),
+        }
+    }
+
+    /// Compares `port` too, for calls of these kinds.
+    pub fn with(mut self, port: &'a mut dyn Port, kinds: Kinds) -> Self {
+        self.ports.push((port, kinds));
+        self
+    }
+
+    /// All calls that are written by hand.
+    pub fn by_hand(&mut self) -> Result<(), String> {
+        for case in by_hand() {
+            self.summary.by_hand += usize::from(self.one(&case)?);
+        }
+        Ok(())
+    }
+
+    /// The next `count` generated cases.
+    pub fn cases(&mut self, count: usize) -> Result<(), String> {
+        for _ in 0..count {
+            let (origin, case) = self.cases.next_case();
+            let compared = self
+                .one(&case)
+                .map_err(|what| format!("{what}\n(of {origin:?}, seed {})", self.seed))?;
+            self.summary.cases += usize::from(compared);
+        }
+        Ok(())
+    }
+
+    /// The next `count` pairs of runs, on ports with all kinds of call.
+    pub fn pairs(&mut self, count: usize) -> Result<(), String> {
+        for _ in 0..count {
+            let pair = pairs::pair(&mut self.pairs);
+            let i = self.pairs_drawn;
+            self.pairs_drawn += 1;
+            for (port, kinds) in &mut self.ports {
+                if !kinds.iter().all(|&compared| compared) {
+                    continue;
+                }
+                match pairs::try_pair(&mut Words(&mut **port), &pair) {
+                    pairs::Result::Alike { .. } => self.summary.pairs += 1,
+                    pairs::Result::NoSpace => self.summary.no_space += 1,
+                    pairs::Result::Apart(what) => {
+                        let name = port.name();
+                        return Err(format!(
+                            "{name}: pair {i} of seed {} parts: {what}",
+                            self.seed
+                        ));
+                    }
+                }
+                self.summary.calls += pair.lists[0].len() + pair.lists[1].len();
+            }
+        }
+        Ok(())
+    }
+
+    /// One case on every port. Whether any port was compared on it.
+    fn one(&mut self, case: &Case) -> Result<bool, String> {
+        let kind = case.call.code() as usize - 1;
+        if !self.ports.iter().any(|(_, kinds)| kinds[kind]) {
+            return Ok(false);
+        }
+        let expected = expected(case);
+        for (port, kinds) in &mut self.ports {
+            if kinds[kind] {
+                against(*port, case, &expected).map_err(|found| smallest(*port, case, found))?;
+                self.summary.calls += 1;
+            }
+        }
+        let answer = (NAMES[kind], expected.reply.number);
+        *self.summary.answers.entry(answer).or_default() += 1;
+        Ok(true)
+    }
 }
 
 /// The calls of all examples and differences, with their states.
@@ -49,54 +150,21 @@ pub fn by_hand() -> Vec<Case> {
 /// Compares `port` with the model. Gives the first difference with the
 /// smallest case found for it, as text.
 pub fn run(port: &mut dyn Port, amount: Amount) -> Result<Summary, String> {
-    let mut summary = Summary::default();
-    for case in by_hand() {
-        one(port, &case, &mut summary)?;
-        summary.by_hand += 1;
-    }
-    let mut cases = Cases::new(amount.seed, USUAL);
-    for _ in 0..amount.cases {
-        let (origin, case) = cases.next_case();
-        one(port, &case, &mut summary).map_err(|what| from(origin, amount.seed, &what))?;
-        summary.cases += 1;
-    }
-    let mut rng = Rng::new(amount.seed);
-    for i in 0..amount.pairs {
-        let pair = pairs::pair(&mut rng);
-        match pairs::try_pair(&mut Words(&mut *port), &pair) {
-            pairs::Result::Alike { .. } => summary.pairs += 1,
-            pairs::Result::NoSpace => summary.no_space += 1,
-            pairs::Result::Apart(what) => {
-                return Err(format!("pair {i} of seed {} parts: {what}", amount.seed));
-            }
-        }
-    }
-    Ok(summary)
+    let mut campaign = Campaign::new(amount.seed).with(port, [true; KINDS]);
+    campaign.by_hand()?;
+    campaign.cases(amount.cases)?;
+    campaign.pairs(amount.pairs)?;
+    Ok(campaign.summary)
 }
 
-fn from(origin: Origin, seed: u64, what: &str) -> String {
-    format!("{what}\n(of {origin:?}, seed {seed})")
-}
-
-fn one(port: &mut dyn Port, case: &Case, summary: &mut Summary) -> Result<(), String> {
-    match compare(port, case) {
-        Ok(effect) => {
-            let name = NAMES[case.call.code() as usize - 1];
-            *summary
-                .answers
-                .entry((name, effect.reply.number))
-                .or_default() += 1;
-            Ok(())
-        }
-        Err(difference) => {
-            let (small, difference) = shrink(port, case.clone(), difference);
-            let cut = match small.cut {
-                cut if cut == Cut::default() => String::new(),
-                cut => format!(" with bytes cut off: {cut:?}"),
-            };
-            Err(format!("{difference}{cut}\n{}", json::line(&small)))
-        }
-    }
+/// A difference with the smallest case found for it.
+fn smallest(port: &mut dyn Port, case: &Case, difference: Difference) -> String {
+    let (small, difference) = shrink(port, case.clone(), difference);
+    let cut = match small.cut {
+        cut if cut == Cut::default() => String::new(),
+        cut => format!(" with bytes cut off: {cut:?}"),
+    };
+    format!("{difference}{cut}\n{}", json::line(&small))
 }
 
 /// Takes out of the state each row without which the port and the model

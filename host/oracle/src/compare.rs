@@ -88,7 +88,18 @@ fn shortened(words: &[u32], cut: usize) -> Vec<u8> {
 
 /// Runs the case on both. Gives the model's effect where they agree.
 pub fn compare(port: &mut dyn Port, case: &Case) -> Result<Effect, Difference> {
-    let expected = effect(&mut Bytes(Model), case);
+    let expected = expected(case);
+    against(port, case, &expected)?;
+    Ok(expected)
+}
+
+/// The model's effect.
+pub fn expected(case: &Case) -> Effect {
+    effect(&mut Bytes(Model), case)
+}
+
+/// Runs the case on `port`, whose effect must be the one expected.
+pub fn against(port: &mut dyn Port, case: &Case, expected: &Effect) -> Result<(), Difference> {
     let found = effect(port, case);
     let what = if found.reply != expected.reply {
         Some(format!(
@@ -101,7 +112,7 @@ pub fn compare(port: &mut dyn Port, case: &Case) -> Result<Effect, Difference> {
         first_other("buffer", &found.buffer, &expected.buffer)
     };
     match what {
-        None => Ok(expected),
+        None => Ok(()),
         Some(what) => Err(Difference {
             port: port.name(),
             call: case.call.clone(),
@@ -111,6 +122,9 @@ pub fn compare(port: &mut dyn Port, case: &Case) -> Result<Effect, Difference> {
 }
 
 fn first_other(name: &str, found: &[u8], expected: &[u8]) -> Option<String> {
+    if found == expected {
+        return None;
+    }
     let at = found.iter().zip(expected).position(|(f, e)| f != e)?;
     let word = |b: &[u8]| {
         b[at / 4 * 4..]

@@ -114,23 +114,19 @@ impl<W: WordPort> Bytes<W> {
 
 /// The words of `bytes`; one to three bytes after the last are left out.
 pub fn words(bytes: &[u8]) -> Vec<u32> {
-    bytes
-        .chunks_exact(4)
-        .map(|four| u32::from_le_bytes([four[0], four[1], four[2], four[3]]))
-        .collect()
+    let (fours, _) = bytes.as_chunks();
+    fours.iter().map(|four| u32::from_le_bytes(*four)).collect()
 }
 
 pub fn bytes(words: &[u32]) -> Vec<u8> {
-    let mut bytes = Vec::with_capacity(4 * words.len());
-    for word in words {
-        bytes.extend_from_slice(&word.to_le_bytes());
-    }
+    let mut bytes = vec![0; 4 * words.len()];
+    write_back(words, &mut bytes);
     bytes
 }
 
 fn write_back(words: &[u32], bytes: &mut [u8]) {
-    for (four, word) in bytes.chunks_exact_mut(4).zip(words) {
-        four.copy_from_slice(&word.to_le_bytes());
+    for (four, word) in bytes.as_chunks_mut().0.iter_mut().zip(words) {
+        *four = word.to_le_bytes();
     }
 }
 

@@ -1,5 +1,8 @@
 //! The child module of `interface.rs` that fills its lists from rows, runs
 //! one call, and reads the lists back as rows. Both copies have it.
+#[path = "native.rs"]
+pub(crate) mod native;
+
 use super::*;
 use crate::{AddressRow, Answer, EventRow, Lists, Request, RouteRow};
 

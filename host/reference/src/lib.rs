@@ -5,6 +5,7 @@
 
 include!(concat!(env!("OUT_DIR"), "/modules.rs"));
 mod peaks;
+pub use interface::access::native::{Arguments, Native, Told};
 
 /// The SHA-256 of the file that was compiled.
 pub const INTERFACE_SHA256: &str = env!("INTERFACE_SHA256");

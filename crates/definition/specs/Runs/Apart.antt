@@ -96,7 +96,7 @@ module _ (chosen : ℕ → Bool) (choice : Choice chosen) where
   same (Call.select4 dstPresent dst scope) h st = level _ st (reads-level _ _ _ _ st refl)
 
   -- ---- a call that is struck
-  changes-hidden : (buffers request : Bool) (f : State → Outcome) (st : State) → Hidden chosen choice st (f st) → without chosen (freely (changing-by buffers request f) st .state) ≡ without chosen st
+  changes-hidden : (buffers request : Bool) (f : State → Outcome) (st : State) → Hidden chosen st (f st) → without chosen (freely (changing-by buffers request f) st .state) ≡ without chosen st
   unfolding freely
   changes-hidden false request f st h = refl
   changes-hidden true false f st h = refl

@@ -14,7 +14,7 @@ use Rattle.layout.specs.Route.{table, before, alike, prefsrcPresent}
 use Rattle.layout.specs.Request.{nlmFlags}
 use Rattle.definition.specs.State.{State, withRoutes}
 use Rattle.definition.specs.Words.{ordered}
-use Rattle.definition.specs.Reference.Lookup.{localTable, listed}
+use Rattle.definition.specs.Reference.Lookup.{localTable, mainTable, listed}
 use Rattle.definition.specs.Reference.Insert.{Inserted, put, nothing, addTable, listTable, create4, ahead, behind, insert4, isRow, exclFlag, replaceFlag, createFlag, appendFlag}
 use Rattle.definition.specs.Reference.Addresses.{Outcome}
 use Rattle.definition.specs.Reference.Routes.{Reached, by, refused, tableNamed, badPrefix, formCheck, reachCheck, validPrefsrc4, askedRoute, insertedAs, routed, addRoute4, selects, deletedRoute, delRoute4Request}
@@ -45,7 +45,7 @@ create4-routes : (t : ℕ) (st : State) → create4 t st .routes ≡ st .routes
 unfolding create4
 create4-routes t st = refl
 
-module _ (chosen : ℕ → Bool) (choice : Choice chosen) where
+module _ (chosen : ℕ → Bool) where
   -- a row of a chosen table between others isn't seen
   between-unseen : (new : Row) → outside chosen new ≡ false → (l m : List Row) → keep (outside chosen) (l ++ (new ∷ m)) ≡ keep (outside chosen) (l ++ m)
   between-unseen new c l m =
@@ -103,28 +103,19 @@ module _ (chosen : ℕ → Bool) (choice : Choice chosen) where
   hidden-cond true st o p h k = h
   hidden-cond false st o p h k = k
 
-  module _ (q : Row) (c : chosen (table q) ≡ true) where
-    -- the table is named as it is
-    named-itself : tableNamed q ≡ table q
-    named-itself =
-        test-case (eqb (table q) 0)
-        (λ e. absurd (true≢false (sym c ∙ ap chosen (eqb-true (table q) 0 e) ∙ choice .not-0))) (λ e. rw e)
-
-    named-chosen : unchosen chosen (tableNamed q) ≡ false
-    named-chosen = rw (named-itself, c)
-
-    addTable-unseen : (l : List ℕ) → keep (unchosen chosen) (addTable (tableNamed q) l) ≡ keep (unchosen chosen) l
-    addTable-unseen l =
-        test-case (among (tableNamed q) l) (λ e. rw e)
-        (λ e. rw (e, keep-append (unchosen chosen) l (tableNamed q ∷ []), named-chosen) (append-nil (keep (unchosen chosen) l)))
+  -- a request for a chosen table; 255 brings 254 along, so that is chosen too where it names 255
+  module _ (q : Row) (named-chosen : unchosen chosen (tableNamed q) ≡ false) (along : eqb (tableNamed q) localTable ≡ true → unchosen chosen mainTable ≡ false) where
+    addTable-unseen : (t : ℕ) → unchosen chosen t ≡ false → (l : List ℕ) → keep (unchosen chosen) (addTable t l) ≡ keep (unchosen chosen) l
+    addTable-unseen t c l =
+        test-case (among t l) (λ e. rw e)
+        (λ e. rw (e, keep-append (unchosen chosen) l (t ∷ []), c) (append-nil (keep (unchosen chosen) l)))
 
     create4-unseen : (st : State) → without chosen (create4 (tableNamed q) st) ≡ without chosen st
     unfolding create4 listTable
     create4-unseen st =
-        let not-local : eqb (tableNamed q) localTable ≡ false =
-        contrary (eqb (tableNamed q) localTable) (unchosen chosen (tableNamed q)) (λ e. rw (eqb-true (tableNamed q) localTable e) (ap not (choice .not-255))) named-chosen
-        in
-        rw (not-local, addTable-unseen (st .tables))
+        test-case (eqb (tableNamed q) localTable)
+        (λ e. rw (e, addTable-unseen (tableNamed q) named-chosen (addTable mainTable (st .tables)), addTable-unseen mainTable (along e) (st .tables)))
+        (λ e. rw (e, addTable-unseen (tableNamed q) named-chosen (st .tables)))
 
     insertedAs-unseen : (new : Row) (i : Inserted) (st : State) → Unseen (st .routes) i → Hidden st (insertedAs new i st)
     insertedAs-unseen new i st (unseen flags e) = record { same = ap (λ l. withRoutes l (without chosen st)) e }
@@ -139,9 +130,9 @@ module _ (chosen : ℕ → Bool) (choice : Choice chosen) where
         hidden-cond (eqb (prefsrcPresent q) 1 && not (validPrefsrc4 q st)) _ _ _ (record { same = refl })
         (insertedAs-unseen new (insert4 new (nlmFlags q) (st .routes)) st (insert4-unseen new named-chosen (st .routes) o (nlmFlags q)))
 
-    pub addRoute4-unseen : (st : State) → ordered (st .routes) ≡ true → Hidden st (addRoute4 q st)
+    pub addRoute4-hidden : (st : State) → ordered (st .routes) ≡ true → Hidden st (addRoute4 q st)
     unfolding addRoute4
-    addRoute4-unseen st o =
+    addRoute4-hidden st o =
         let made = create4 (tableNamed q) st in
         hidden-cond (eqb (formCheck q) 0) _ _ _
         (record { same = routed-unseen (reachCheck q made) made (rw (create4-routes (tableNamed q) st) o) .same ∙ create4-unseen st })
@@ -157,9 +148,28 @@ module _ (chosen : ℕ → Bool) (choice : Choice chosen) where
             chosen-as (tableNamed q) (table r) named-chosen
             (test-case (eqb (table r) (tableNamed q)) (λ e. e) (λ e. absurd (false≢true (unfold selects in rw e at h))))
 
-    pub delRoute4Request-unseen : (st : State) → Hidden st (delRoute4Request q st)
+    pub delRoute4Request-hidden : (st : State) → Hidden st (delRoute4Request q st)
     unfolding delRoute4Request
-    delRoute4Request-unseen st =
+    delRoute4Request-hidden st =
         hidden-cond (listed (tableNamed q) st) _ _ _
         (hidden-cond (badPrefix q) _ _ _ (record { same = refl }) (deletedRoute-unseen (first (selects q) (st .routes)) st))
         (record { same = refl })
+
+-- ---- the tables of a choice: a request names one as it is, and never 255
+module _ (chosen : ℕ → Bool) (choice : Choice chosen) (q : Row) (c : chosen (table q) ≡ true) where
+  named-itself : tableNamed q ≡ table q
+  named-itself =
+      test-case (eqb (table q) 0)
+      (λ e. absurd (true≢false (sym c ∙ ap chosen (eqb-true (table q) 0 e) ∙ choice .not-0))) (λ e. rw e)
+
+  choice-named : unchosen chosen (tableNamed q) ≡ false
+  choice-named = rw (named-itself, c)
+
+  never-local : eqb (tableNamed q) localTable ≡ true → unchosen chosen mainTable ≡ false
+  never-local e = absurd (true≢false (ap not (sym (choice .not-255)) ∙ ap (unchosen chosen) (sym (eqb-true (tableNamed q) localTable e)) ∙ choice-named))
+
+  pub addRoute4-unseen : (st : State) → ordered (st .routes) ≡ true → Hidden chosen st (addRoute4 q st)
+  addRoute4-unseen st o = addRoute4-hidden chosen q choice-named never-local st o
+
+  pub delRoute4Request-unseen : (st : State) → Hidden chosen st (delRoute4Request q st)
+  delRoute4Request-unseen st = delRoute4Request-hidden chosen q choice-named never-local st

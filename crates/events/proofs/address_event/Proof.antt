@@ -22,16 +22,23 @@ slice-write-ev : tie.Need-slice-write-ev
 slice-write-ev c = search needs
 
 slice-write-ev-2 : tie.Need-slice-write-ev-2
-slice-write-ev-2 c = simp length-set (omega (arith, (c .before .before .clear .kept .0 ∙ c .before .before .before .before .before .before .store .kept .0), c .before .before .before .before .before .before .before .before .before .before .pre))
+slice-write-ev-2 c =
+    let at-clear = c .before .before .clear in
+    let at-store = c .before .before .before .before .before .before .store in
+    let start = c .before .before .before .before .before .before .before .before .before .before in
+    simp length-set (omega (arith, (at-clear .kept .0 ∙ at-store .kept .0), start .pre))
 
 same-length : tie.Need-same-length
 same-length c = simp length-set (c .before .before .clear .kept .0 ∙ c .before .before .before .before .before .before .store .kept .0)
 
 returns : tie.Need-returns
 returns c =
-    let a = c .before .before .before .before .before .before .before .before .before .before .args in
-    ap (λ (l : List ℕ). set (set l 1 0) 0 (a .kind)) (c .before .before .clear .ensures ∙ ap (put 22 (zeros 12)) (c .before .before .before .before .before .before .store .ensures))
-    ∙ address-written (a .kind) (now (a .a)) (now (a .ev)) (c .before .before .before .before .before .before .before .before .before .before .pre .1) (c .before .before .before .before .before .before .before .before .before .before .pre .0)
+    let start = c .before .before .before .before .before .before .before .before .before .before in
+    let at-clear = c .before .before .clear in
+    let at-store = c .before .before .before .before .before .before .store in
+    let a = start .args in
+    ap (λ (l : List ℕ). set (set l 1 0) 0 (a .kind)) (at-clear .ensures ∙ ap (put 22 (zeros 12)) (at-store .ensures))
+    ∙ address-written (a .kind) (now (a .a)) (now (a .ev)) (start .pre .1) (start .pre .0)
 
 pub address-event-spec : {M : Type 1} → statement M
 address-event-spec =

@@ -25,9 +25,11 @@ same-length c = search needs
 
 returns : tie.Need-returns
 returns c =
-    let a = c .before .before .before .before .before .before .args in
-    ap (λ (l : List ℕ). set (set l 1 (a .flags)) 0 (a .kind)) (c .before .before .store .ensures)
-    ∙ row-written (a .kind) (a .flags) (now (a .r)) (now (a .ev)) (omega (arith, c .before .before .before .before .before .before .pre))
+    let start = c .before .before .before .before .before .before in
+    let at-store = c .before .before .store in
+    let a = start .args in
+    ap (λ (l : List ℕ). set (set l 1 (a .flags)) 0 (a .kind)) (at-store .ensures)
+    ∙ row-written (a .kind) (a .flags) (now (a .r)) (now (a .ev)) (omega (arith, start .pre))
 
 pub route-event-spec : {M : Type 1} → statement M
 route-event-spec =

@@ -67,7 +67,12 @@ before-requires : tie.Need-before-requires Inv-loop μ-loop
 before-requires c κs = search needs
 
 returns : tie.Need-returns Inv-loop μ-loop
-returns c = sym (c .before .before .before .before .before .loop .inv .1 ∙ past-run (chop 32 (c .before .before .before .before .before .before .before .args .n) (now (c .before .before .before .before .before .before .before .args .p))) (getD (chop 32 (c .before .before .before .before .before .before .before .args .n) (now (c .before .before .before .before .before .before .before .args .p))) (c .before .before .before .before .before .before .before .args .i) []) (c .before .before .before .before .before .loop .j) (c .before .before .before .before .before .before .before .pre .2) (omega (arith, length-chop 32 (c .before .before .before .before .before .before .before .args .n) (now (c .before .before .before .before .before .before .before .args .p)), c .before .before .before .before .loop-test .taken)) (two-before (c .before .before .before .before .before .before .before .args .n) (now (c .before .before .before .before .before .before .before .args .p)) (c .before .before .before .before .before .before .before .args .i) (c .before .before .before .before .before .before .before .pre .0) (c .before .before .before .before .before .loop .j) (c .before .before .before .before .before .before .before .pre .1) (c .before .before .before .before .loop-test .taken) true (c .before .before2 .ensures) (c .if1 .taken)))
+returns c =
+    let at-loop = c .before .before .before .before .before .loop in
+    let start = c .before .before .before .before .before .before .before in
+    let at-loop-test = c .before .before .before .before .loop-test in
+    let at-before2 = c .before .before2 in
+    sym (at-loop .inv .1 ∙ past-run (chop 32 (start .args .n) (now (start .args .p))) (getD (chop 32 (start .args .n) (now (start .args .p))) (start .args .i) []) (at-loop .j) (start .pre .2) (omega (arith, length-chop 32 (start .args .n) (now (start .args .p)), at-loop-test .taken)) (two-before (start .args .n) (now (start .args .p)) (start .args .i) (start .pre .0) (at-loop .j) (start .pre .1) (at-loop-test .taken) true (at-before2 .ensures) (c .if1 .taken)))
 
 mul-same-words : tie.Need-mul-same-words Inv-loop μ-loop
 mul-same-words c = search needs
@@ -97,7 +102,11 @@ same-words-requires : tie.Need-same-words-requires Inv-loop μ-loop
 same-words-requires c κs = search needs
 
 returns-2 : tie.Need-returns-2 Inv-loop μ-loop
-returns-2 c = sym (c .before .before .before .before .before .before .before .before .before .loop .inv .1 ∙ two-same (c .before .before .before .before .before .before .before .before .before .before .before .args .n) (now (c .before .before .before .before .before .before .before .before .before .before .before .args .p)) (c .before .before .before .before .before .before .before .before .before .before .before .args .i) (c .before .before .before .before .before .before .before .before .before .before .before .pre .0) (c .before .before .before .before .before .before .before .before .before .loop .j) (c .before .before .before .before .before .before .before .before .before .before .before .pre .1) (c .before .before .before .before .before .before .before .before .loop-test .taken) true (c .before .same-words .ensures) (c .if2 .taken))
+returns-2 c =
+    let at-loop = c .before .before .before .before .before .before .before .before .before .loop in
+    let start = c .before .before .before .before .before .before .before .before .before .before .before in
+    let at-loop-test = c .before .before .before .before .before .before .before .before .loop-test in
+    sym (at-loop .inv .1 ∙ two-same (start .args .n) (now (start .args .p)) (start .args .i) (start .pre .0) (at-loop .j) (start .pre .1) (at-loop-test .taken) true (c .before .same-words .ensures) (c .if2 .taken))
 
 add-j-2 : tie.Need-add-j-2 Inv-loop μ-loop
 add-j-2 c = search needs
@@ -106,10 +115,16 @@ loop-less : tie.Need-loop-less Inv-loop μ-loop
 loop-less c = search needs
 
 loop-again : tie.Need-loop-again Inv-loop μ-loop
-loop-again c = (omega arith, c .before .before .before .before .before .before .before .before .before .loop .inv .1 ∙ two-same (c .before .before .before .before .before .before .before .before .before .before .before .args .n) (now (c .before .before .before .before .before .before .before .before .before .before .before .args .p)) (c .before .before .before .before .before .before .before .before .before .before .before .args .i) (c .before .before .before .before .before .before .before .before .before .before .before .pre .0) (c .before .before .before .before .before .before .before .before .before .loop .j) (c .before .before .before .before .before .before .before .before .before .before .before .pre .1) (c .before .before .before .before .before .before .before .before .loop-test .taken) false (c .before .same-words .ensures) (c .if2 .left))
+loop-again c =
+    let at-loop = c .before .before .before .before .before .before .before .before .before .loop in
+    let start = c .before .before .before .before .before .before .before .before .before .before .before in
+    let at-loop-test = c .before .before .before .before .before .before .before .before .loop-test in
+    (omega arith, at-loop .inv .1 ∙ two-same (start .args .n) (now (start .args .p)) (start .args .i) (start .pre .0) (at-loop .j) (start .pre .1) (at-loop-test .taken) false (c .before .same-words .ensures) (c .if2 .left))
 
 returns-3 : tie.Need-returns-3 Inv-loop μ-loop
-returns-3 c = sym (c .before .loop .inv .1 ∙ all-end (λ (b : Row). not (eqRow (getD (chop 32 (c .before .before .before .args .n) (now (c .before .before .before .args .p))) (c .before .before .before .args .i) []) b)) (chop 32 (c .before .before .before .args .n) (now (c .before .before .before .args .p))) (c .before .loop .j) (omega (arith, length-chop 32 (c .before .before .before .args .n) (now (c .before .before .before .args .p)), c .loop-test .left)))
+returns-3 c =
+    let start = c .before .before .before in
+    sym (c .before .loop .inv .1 ∙ all-end (λ (b : Row). not (eqRow (getD (chop 32 (start .args .n) (now (start .args .p))) (start .args .i) []) b)) (chop 32 (start .args .n) (now (start .args .p))) (c .before .loop .j) (omega (arith, length-chop 32 (start .args .n) (now (start .args .p)), c .loop-test .left)))
 
 pub apart-spec : {M : Type 1} → statement M
 apart-spec =

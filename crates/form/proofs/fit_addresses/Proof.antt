@@ -51,16 +51,25 @@ loop-less : tie.Need-loop-less Inv-loop μ-loop
 loop-less c = search needs
 
 loop-again : tie.Need-loop-again Inv-loop μ-loop
-loop-again c = (
-  omega arith,
-  c .before .before .before .before .loop .inv .1 ∙ fit-turn 20 (c .before .before .before .before .before .before .args .n) (now (c .before .before .before .before .before .before .args .p)) (c .before .before .before .before .loop .i) (c .before .before .before .before .before .before .pre) fitAddress true (c .before .before .before .loop-test .taken) (c .before .fit-address .ensures) (c .if1 .taken),
-)
+loop-again c =
+    let at-loop = c .before .before .before .before .loop in
+    let start = c .before .before .before .before .before .before in
+    let at-loop-test = c .before .before .before .loop-test in (
+      omega arith,
+      at-loop .inv .1 ∙ fit-turn 20 (start .args .n) (now (start .args .p)) (at-loop .i) (start .pre) fitAddress true (at-loop-test .taken) (c .before .fit-address .ensures) (c .if1 .taken),
+    )
 
 returns : tie.Need-returns Inv-loop μ-loop
-returns c = sym (c .before .before .before .before .loop .inv .1 ∙ fit-turn 20 (c .before .before .before .before .before .before .args .n) (now (c .before .before .before .before .before .before .args .p)) (c .before .before .before .before .loop .i) (c .before .before .before .before .before .before .pre) fitAddress false (c .before .before .before .loop-test .taken) (c .before .fit-address .ensures) (c .if1 .left))
+returns c =
+    let at-loop = c .before .before .before .before .loop in
+    let start = c .before .before .before .before .before .before in
+    let at-loop-test = c .before .before .before .loop-test in
+    sym (at-loop .inv .1 ∙ fit-turn 20 (start .args .n) (now (start .args .p)) (at-loop .i) (start .pre) fitAddress false (at-loop-test .taken) (c .before .fit-address .ensures) (c .if1 .left))
 
 returns-2 : tie.Need-returns-2 Inv-loop μ-loop
-returns-2 c = sym (c .before .loop .inv .1 ∙ all-end fitAddress (chop 20 (c .before .before .before .args .n) (now (c .before .before .before .args .p))) (c .before .loop .i) (omega (arith, length-chop 20 (c .before .before .before .args .n) (now (c .before .before .before .args .p)), c .loop-test .left)))
+returns-2 c =
+    let start = c .before .before .before in
+    sym (c .before .loop .inv .1 ∙ all-end fitAddress (chop 20 (start .args .n) (now (start .args .p))) (c .before .loop .i) (omega (arith, length-chop 20 (start .args .n) (now (start .args .p)), c .loop-test .left)))
 
 pub fit-addresses-spec : {M : Type 1} → statement M
 fit-addresses-spec =

@@ -63,7 +63,12 @@ before-requires : tie.Need-before-requires Inv-loop μ-loop
 before-requires c κs = search needs
 
 returns : tie.Need-returns Inv-loop μ-loop
-returns c = sym (c .before .before .before .before .before .loop .inv .1 ∙ order-broken (chop 32 (c .before .before .before .before .before .before .before .args .n) (now (c .before .before .before .before .before .before .before .args .p))) (c .before .before .before .before .before .loop .i) (omega (arith, length-chop 32 (c .before .before .before .before .before .before .before .args .n) (now (c .before .before .before .before .before .before .before .args .p)), c .before .before .before .before .loop-test .taken)) (order-turn (c .before .before .before .before .before .before .before .args .n) (now (c .before .before .before .before .before .before .before .args .p)) (c .before .before .before .before .before .loop .i) (c .before .before .before .before .before .before .before .pre) true (omega (arith, c .before .before .before .before .loop-test .taken)) (c .before .before2 .ensures) (c .if1 .taken)))
+returns c =
+    let at-loop = c .before .before .before .before .before .loop in
+    let start = c .before .before .before .before .before .before .before in
+    let at-loop-test = c .before .before .before .before .loop-test in
+    let at-before2 = c .before .before2 in
+    sym (at-loop .inv .1 ∙ order-broken (chop 32 (start .args .n) (now (start .args .p))) (at-loop .i) (omega (arith, length-chop 32 (start .args .n) (now (start .args .p)), at-loop-test .taken)) (order-turn (start .args .n) (now (start .args .p)) (at-loop .i) (start .pre) true (omega (arith, at-loop-test .taken)) (at-before2 .ensures) (c .if1 .taken)))
 
 add-i : tie.Need-add-i Inv-loop μ-loop
 add-i c = search needs
@@ -72,13 +77,19 @@ loop-less : tie.Need-loop-less Inv-loop μ-loop
 loop-less c = search needs
 
 loop-again : tie.Need-loop-again Inv-loop μ-loop
-loop-again c = (
-  omega arith,
-  c .before .before .before .before .before .loop .inv .1 ∙ order-next (chop 32 (c .before .before .before .before .before .before .before .args .n) (now (c .before .before .before .before .before .before .before .args .p))) (c .before .before .before .before .before .loop .i) (omega (arith, length-chop 32 (c .before .before .before .before .before .before .before .args .n) (now (c .before .before .before .before .before .before .before .args .p)), c .before .before .before .before .loop-test .taken)) (order-turn (c .before .before .before .before .before .before .before .args .n) (now (c .before .before .before .before .before .before .before .args .p)) (c .before .before .before .before .before .loop .i) (c .before .before .before .before .before .before .before .pre) false (omega (arith, c .before .before .before .before .loop-test .taken)) (c .before .before2 .ensures) (c .if1 .left)),
-)
+loop-again c =
+    let at-loop = c .before .before .before .before .before .loop in
+    let start = c .before .before .before .before .before .before .before in
+    let at-loop-test = c .before .before .before .before .loop-test in
+    let at-before2 = c .before .before2 in (
+      omega arith,
+      at-loop .inv .1 ∙ order-next (chop 32 (start .args .n) (now (start .args .p))) (at-loop .i) (omega (arith, length-chop 32 (start .args .n) (now (start .args .p)), at-loop-test .taken)) (order-turn (start .args .n) (now (start .args .p)) (at-loop .i) (start .pre) false (omega (arith, at-loop-test .taken)) (at-before2 .ensures) (c .if1 .left)),
+    )
 
 returns-2 : tie.Need-returns-2 Inv-loop μ-loop
-returns-2 c = sym (c .before .loop .inv .1 ∙ order-end (chop 32 (c .before .before .before .args .n) (now (c .before .before .before .args .p))) (c .before .loop .i) (omega (arith, length-chop 32 (c .before .before .before .args .n) (now (c .before .before .before .args .p)), c .loop-test .left)))
+returns-2 c =
+    let start = c .before .before .before in
+    sym (c .before .loop .inv .1 ∙ order-end (chop 32 (start .args .n) (now (start .args .p))) (c .before .loop .i) (omega (arith, length-chop 32 (start .args .n) (now (start .args .p)), c .loop-test .left)))
 
 pub in-order-spec : {M : Type 1} → statement M
 in-order-spec =

@@ -46,7 +46,11 @@ among-requires : tie.Need-among-requires Inv-loop μ-loop
 among-requires c κs = search needs
 
 returns : tie.Need-returns Inv-loop μ-loop
-returns c = sym (c .before .before .before .before .before .loop .inv .1 ∙ none-turn (now (c .before .before .before .before .before .before .before .args .l)) (c .before .before .before .before .before .loop .i) true (c .before .before .before .before .loop-test .taken) (c .before .among .ensures) (c .if1 .taken))
+returns c =
+    let at-loop = c .before .before .before .before .before .loop in
+    let start = c .before .before .before .before .before .before .before in
+    let at-loop-test = c .before .before .before .before .loop-test in
+    sym (at-loop .inv .1 ∙ none-turn (now (start .args .l)) (at-loop .i) true (at-loop-test .taken) (c .before .among .ensures) (c .if1 .taken))
 
 add-i : tie.Need-add-i Inv-loop μ-loop
 add-i c = search needs
@@ -55,10 +59,16 @@ loop-less : tie.Need-loop-less Inv-loop μ-loop
 loop-less c = search needs
 
 loop-again : tie.Need-loop-again Inv-loop μ-loop
-loop-again c = (omega arith, c .before .before .before .before .before .loop .inv .1 ∙ none-turn (now (c .before .before .before .before .before .before .before .args .l)) (c .before .before .before .before .before .loop .i) false (c .before .before .before .before .loop-test .taken) (c .before .among .ensures) (c .if1 .left))
+loop-again c =
+    let at-loop = c .before .before .before .before .before .loop in
+    let start = c .before .before .before .before .before .before .before in
+    let at-loop-test = c .before .before .before .before .loop-test in
+    (omega arith, at-loop .inv .1 ∙ none-turn (now (start .args .l)) (at-loop .i) false (at-loop-test .taken) (c .before .among .ensures) (c .if1 .left))
 
 returns-2 : tie.Need-returns-2 Inv-loop μ-loop
-returns-2 c = sym (c .before .loop .inv .1 ∙ none-end (now (c .before .before .before .args .l)) (c .before .loop .i) (c .loop-test .left))
+returns-2 c =
+    let start = c .before .before .before in
+    sym (c .before .loop .inv .1 ∙ none-end (now (start .args .l)) (c .before .loop .i) (c .loop-test .left))
 
 pub none-twice-spec : {M : Type 1} → statement M
 none-twice-spec =

@@ -19,10 +19,16 @@ all-apart-requires : tie.Need-all-apart-requires
 all-apart-requires c κs = (c .before .before .before .before .pre, sym (c .before .in-order .ensures) ∙ c .if1 .taken)
 
 returns : tie.Need-returns
-returns c = routes-tests (chop 32 (c .before .before .before .before .before .args .n) (now (c .before .before .before .before .before .args .p))) (c .before .before .before .fit-routes .ensures) (c .before .before .in-order .ensures) (c .before .if1 .taken) (c .all-apart .ensures)
+returns c =
+    let start = c .before .before .before .before .before in
+    let at-fit-routes = c .before .before .before .fit-routes in
+    let at-in-order = c .before .before .in-order in
+    routes-tests (chop 32 (start .args .n) (now (start .args .p))) (at-fit-routes .ensures) (at-in-order .ensures) (c .before .if1 .taken) (c .all-apart .ensures)
 
 returns-2 : tie.Need-returns-2
-returns-2 c = routes-broken (chop 32 (c .before .before .before .before .args .n) (now (c .before .before .before .before .args .p))) (c .before .in-order .ensures) (c .if1 .left)
+returns-2 c =
+    let start = c .before .before .before .before in
+    routes-broken (chop 32 (start .args .n) (now (start .args .p))) (c .before .in-order .ensures) (c .if1 .left)
 
 pub routes-form-spec : {M : Type 1} → statement M
 routes-form-spec =

@@ -86,7 +86,14 @@ all-zero-requires-3 : tie.Need-all-zero-requires-3
 all-zero-requires-3 c κs = search needs
 
 returns : tie.Need-returns
-returns c = unused-tests (now (c .before .before .before .before .before .before .before .before .before .before .before .before .before .args .s)) (c .before .before .before .before .before .before .before .before .before .before .before .before .before .pre .0) (c .before .before .before .before .before .before .before .before .before .before .wide .ensures) (c .before .before .before .before .before .before .before .before .wide2 .ensures) (c .before .before .before .before .before .before .wide3 .ensures) (c .before .before .before .before .all-zero .ensures) (c .before .before .all-zero2 .ensures) (c .all-zero3 .ensures)
+returns c =
+    let start = c .before .before .before .before .before .before .before .before .before .before .before .before .before in
+    let at-wide = c .before .before .before .before .before .before .before .before .before .before .wide in
+    let at-wide2 = c .before .before .before .before .before .before .before .before .wide2 in
+    let at-wide3 = c .before .before .before .before .before .before .wide3 in
+    let at-all-zero = c .before .before .before .before .all-zero in
+    let at-all-zero2 = c .before .before .all-zero2 in
+    unused-tests (now (start .args .s)) (start .pre .0) (at-wide .ensures) (at-wide2 .ensures) (at-wide3 .ensures) (at-all-zero .ensures) (at-all-zero2 .ensures) (c .all-zero3 .ensures)
 
 pub unused-zero-spec : {M : Type 1} → statement M
 unused-zero-spec =

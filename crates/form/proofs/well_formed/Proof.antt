@@ -27,13 +27,22 @@ wide-requires-3 : tie.Need-wide-requires-3
 wide-requires-3 c κs = search needs
 
 returns : tie.Need-returns
-returns c = too-many-addresses (now (c .before .before .before .before .before .before .before .before .args .s)) (omega (arith, c .before .before .before .before .before .wide .ensures, c .if1 .taken))
+returns c =
+    let start = c .before .before .before .before .before .before .before .before in
+    let at-wide = c .before .before .before .before .before .wide in
+    too-many-addresses (now (start .args .s)) (omega (arith, at-wide .ensures, c .if1 .taken))
 
 returns-2 : tie.Need-returns-2
-returns-2 c = too-many-routes (now (c .before .before .before .before .before .before .before .before .before .args .s)) (omega (arith, c .before .before .before .before .wide2 .ensures, c .if2 .taken))
+returns-2 c =
+    let start = c .before .before .before .before .before .before .before .before .before in
+    let at-wide2 = c .before .before .before .before .wide2 in
+    too-many-routes (now (start .args .s)) (omega (arith, at-wide2 .ensures, c .if2 .taken))
 
 returns-3 : tie.Need-returns-3
-returns-3 c = too-many-tables (now (c .before .before .before .before .before .before .before .before .before .before .args .s)) (omega (arith, c .before .before .before .wide3 .ensures, c .if3 .taken))
+returns-3 c =
+    let start = c .before .before .before .before .before .before .before .before .before .before in
+    let at-wide3 = c .before .before .before .wide3 in
+    too-many-tables (now (start .args .s)) (omega (arith, at-wide3 .ensures, c .if3 .taken))
 
 mul-behind-a : tie.Need-mul-behind-a
 mul-behind-a c = search needs
@@ -90,7 +99,17 @@ unused-zero-requires : tie.Need-unused-zero-requires
 unused-zero-requires c κs = search needs
 
 returns-4 : tie.Need-returns-4
-returns-4 c = form-parts (now (c .before .before .before .before .before .before .before .before .before .before .before .before .before .before .before .before .before .args .s)) (c .before .before .before .before .before .before .before .before .before .before .before .before .before .before .before .before .before .pre) (c .before .before .before .before .before .before .before .before .before .before .before .before .before .before .wide .ensures) (c .before .before .before .before .before .before .before .before .before .before .before .before .wide2 .ensures) (c .before .before .before .before .before .before .before .before .before .before .wide3 .ensures) (c .before .before .before .before .before .before .before .before .before .if1 .left) (c .before .before .before .before .before .before .before .before .if2 .left) (c .before .before .before .before .before .before .before .if3 .left) (c .before .before .before .before .before .fit-addresses .ensures) (c .before .before .before .routes-form .ensures) (c .before .none-twice .ensures) (c .unused-zero .ensures)
+returns-4 c =
+    let start = c .before .before .before .before .before .before .before .before .before .before .before .before .before .before .before .before .before in
+    let at-wide = c .before .before .before .before .before .before .before .before .before .before .before .before .before .before .wide in
+    let at-wide2 = c .before .before .before .before .before .before .before .before .before .before .before .before .wide2 in
+    let at-wide3 = c .before .before .before .before .before .before .before .before .before .before .wide3 in
+    let at-if1 = c .before .before .before .before .before .before .before .before .before .if1 in
+    let at-if2 = c .before .before .before .before .before .before .before .before .if2 in
+    let at-if3 = c .before .before .before .before .before .before .before .if3 in
+    let at-fit-addresses = c .before .before .before .before .before .fit-addresses in
+    let at-routes-form = c .before .before .before .routes-form in
+    form-parts (now (start .args .s)) (start .pre) (at-wide .ensures) (at-wide2 .ensures) (at-wide3 .ensures) (at-if1 .left) (at-if2 .left) (at-if3 .left) (at-fit-addresses .ensures) (at-routes-form .ensures) (c .before .none-twice .ensures) (c .unused-zero .ensures)
 
 pub well-formed-spec : {M : Type 1} → statement M
 well-formed-spec =

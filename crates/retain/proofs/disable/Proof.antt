@@ -19,7 +19,10 @@ same-length : tie.Need-same-length
 same-length c = search needs
 
 returns : tie.Need-returns
-returns c = λ st h. rw (← (is-disable st (sym (count-addresses h) ∙ c .before .before .before .before .if1 .taken))) (c .before .before .retain .ensures st h)
+returns c = λ st h.
+    let at-if1 = c .before .before .before .before .if1 in
+    let at-retain = c .before .before .retain in
+    rw (← (is-disable st (sym (count-addresses h) ∙ at-if1 .taken))) (at-retain .ensures st h)
 
 returns-2 : tie.Need-returns-2
 returns-2 c = λ st h. rw (← (no-disable st (λ e. c .if1 .left (count-addresses h ∙ e)))) h

@@ -15,16 +15,23 @@ shared-slice-read-if1 : tie.Need-shared-slice-read-if1
 shared-slice-read-if1 c = search needs
 
 returns : tie.Need-returns
-returns c = off-device (c .before .before .args .host) (now (c .before .before .args .r)) (c .if1 .taken)
+returns c =
+    let start = c .before .before in
+    off-device (start .args .host) (now (start .args .r)) (c .if1 .taken)
 
 shared-slice-read-result : tie.Need-shared-slice-read-result
 shared-slice-read-result c = search needs
 
 returns-2 : tie.Need-returns-2
-returns-2 c = sym (on-device (c .before .before .before .before .args .host) (now (c .before .before .before .before .args .r)) (c .before .before .if1 .left) ∙ ap (λ (b : Bool). b && eqb (scope (now (c .before .before .before .before .args .r))) 254) (c .before .if2 .taken))
+returns-2 c =
+    let start = c .before .before .before .before in
+    let at-if1 = c .before .before .if1 in
+    sym (on-device (start .args .host) (now (start .args .r)) (at-if1 .left) ∙ ap (λ (b : Bool). b && eqb (scope (now (start .args .r))) 254) (c .before .if2 .taken))
 
 returns-3 : tie.Need-returns-3
-returns-3 c = sym (on-device (c .before .before .before .args .host) (now (c .before .before .before .args .r)) (c .before .if1 .left) ∙ ap (λ (b : Bool). b && eqb (scope (now (c .before .before .before .args .r))) 254) (c .if2 .left))
+returns-3 c =
+    let start = c .before .before .before in
+    sym (on-device (start .args .host) (now (start .args .r)) (c .before .if1 .left) ∙ ap (λ (b : Bool). b && eqb (scope (now (start .args .r))) 254) (c .if2 .left))
 
 pub remains-spec : {M : Type 1} → statement M
 remains-spec =

@@ -25,50 +25,98 @@ wide-requires : tie.Need-wide-requires Inv-loop μ-loop
 wide-requires c κs = search needs
 
 loop-holds : tie.Need-loop-holds Inv-loop μ-loop
-loop-holds c = (omega arith, unfold Rattle.lists.specs.Lists.chop in refl, none-kept (remains (c .before .before .before .args .host)) (now (c .before .before .before .args .s)), sizes-valid (c .before .before .before .pre) .long)
+loop-holds c =
+    let start = c .before .before .before in
+    (omega arith, unfold Rattle.lists.specs.Lists.chop in refl, none-kept (remains (start .args .host)) (now (start .args .s)), sizes-valid (start .pre) .long)
 
 settle-requires : tie.Need-settle-requires Inv-loop μ-loop
-settle-requires c κs = omega (arith, sizes-valid (c .before .before .before .before .before .before .pre), kept-few (remains (c .before .before .before .before .before .before .args .host)) 1283 32 (now (c .before .before .before .before .before .before .args .s)) (c .before .before .loop .i), c .before .before .loop .inv, c .before .before .before .wide .ensures)
+settle-requires c κs =
+    let start = c .before .before .before .before .before .before in
+    let at-loop = c .before .before .loop in
+    let at-wide = c .before .before .before .wide in
+    omega (arith, sizes-valid (start .pre), kept-few (remains (start .args .host)) 1283 32 (now (start .args .s)) (at-loop .i), at-loop .inv, at-wide .ensures)
 
 add-i : tie.Need-add-i Inv-loop μ-loop
-add-i c = omega (arith, sizes-valid (c .before .before .before .before .before .before .before .before .before .pre), kept-few (remains (c .before .before .before .before .before .before .before .before .before .args .host)) 1283 32 (now (c .before .before .before .before .before .before .before .before .before .args .s)) (c .before .before .before .before .before .loop .i), c .before .before .before .before .before .loop .inv, c .before .before .before .before .before .before .wide .ensures)
+add-i c =
+    let start = c .before .before .before .before .before .before .before .before .before in
+    let at-loop = c .before .before .before .before .before .loop in
+    let at-wide = c .before .before .before .before .before .before .wide in
+    omega (arith, sizes-valid (start .pre), kept-few (remains (start .args .host)) 1283 32 (now (start .args .s)) (at-loop .i), at-loop .inv, at-wide .ensures)
 
 loop-less : tie.Need-loop-less Inv-loop μ-loop
 loop-less c = search needs
 
 loop-again : tie.Need-loop-again Inv-loop μ-loop
 loop-again c =
-    let a = c .before .before .before .before .before .before .before .before .before .args in
-    let n = next-both (remains (a .host)) 1283 32 (now (a .s)) (c .before .before .before .before .before .loop .i) (omega (arith, sizes-valid (c .before .before .before .before .before .before .before .before .before .pre), c .before .before .before .before .before .before .wide .ensures, c .before .before .before .before .loop-test .taken)) (c .before .before .before .before .before .loop .inv .1) (c .before .before .before .before .before .loop .inv .2) (c .before .before .settle .ensures .0) (c .before .before .settle .ensures .1) in
-    (omega (arith, c .before .before .before .before .loop-test .taken), n .0, n .1, c .before .before .settle .kept .0 ∙ c .before .before .before .before .before .loop .inv .3)
+    let start = c .before .before .before .before .before .before .before .before .before in
+    let at-loop = c .before .before .before .before .before .loop in
+    let at-wide = c .before .before .before .before .before .before .wide in
+    let at-loop-test = c .before .before .before .before .loop-test in
+    let at-settle = c .before .before .settle in
+    let a = start .args in
+    let n = next-both (remains (a .host)) 1283 32 (now (a .s)) (at-loop .i) (omega (arith, sizes-valid (start .pre), at-wide .ensures, at-loop-test .taken)) (at-loop .inv .1) (at-loop .inv .2) (at-settle .ensures .0) (at-settle .ensures .1) in
+    (omega (arith, at-loop-test .taken), n .0, n .1, at-settle .kept .0 ∙ at-loop .inv .3)
 
 mul-clear : tie.Need-mul-clear Inv-loop μ-loop
-mul-clear c = omega (arith, sizes-valid (c .before .before .before .before .before .before .pre), kept-few (remains (c .before .before .before .before .before .before .args .host)) 1283 32 (now (c .before .before .before .before .before .before .args .s)) (c .before .before .loop .i), c .before .before .loop .inv, c .before .before .before .wide .ensures)
+mul-clear c =
+    let start = c .before .before .before .before .before .before in
+    let at-loop = c .before .before .loop in
+    let at-wide = c .before .before .before .wide in
+    omega (arith, sizes-valid (start .pre), kept-few (remains (start .args .host)) 1283 32 (now (start .args .s)) (at-loop .i), at-loop .inv, at-wide .ensures)
 
 add-clear : tie.Need-add-clear Inv-loop μ-loop
-add-clear c = omega (arith, sizes-valid (c .before .before .before .before .before .before .pre), kept-few (remains (c .before .before .before .before .before .before .args .host)) 1283 32 (now (c .before .before .before .before .before .before .args .s)) (c .before .before .loop .i), c .before .before .loop .inv, c .before .before .before .wide .ensures)
+add-clear c =
+    let start = c .before .before .before .before .before .before in
+    let at-loop = c .before .before .loop in
+    let at-wide = c .before .before .before .wide in
+    omega (arith, sizes-valid (start .pre), kept-few (remains (start .args .host)) 1283 32 (now (start .args .s)) (at-loop .i), at-loop .inv, at-wide .ensures)
 
 sub-clear : tie.Need-sub-clear Inv-loop μ-loop
-sub-clear c = omega (arith, sizes-valid (c .before .before .before .before .before .before .pre), kept-few (remains (c .before .before .before .before .before .before .args .host)) 1283 32 (now (c .before .before .before .before .before .before .args .s)) (c .before .before .loop .i), c .before .before .loop .inv, c .before .before .before .wide .ensures)
+sub-clear c =
+    let start = c .before .before .before .before .before .before in
+    let at-loop = c .before .before .loop in
+    let at-wide = c .before .before .before .wide in
+    omega (arith, sizes-valid (start .pre), kept-few (remains (start .args .host)) 1283 32 (now (start .args .s)) (at-loop .i), at-loop .inv, at-wide .ensures)
 
 mul-clear-2 : tie.Need-mul-clear-2 Inv-loop μ-loop
-mul-clear-2 c = omega (arith, sizes-valid (c .before .before .before .before .before .before .pre), kept-few (remains (c .before .before .before .before .before .before .args .host)) 1283 32 (now (c .before .before .before .before .before .before .args .s)) (c .before .before .loop .i), c .before .before .loop .inv, c .before .before .before .wide .ensures)
+mul-clear-2 c =
+    let start = c .before .before .before .before .before .before in
+    let at-loop = c .before .before .loop in
+    let at-wide = c .before .before .before .wide in
+    omega (arith, sizes-valid (start .pre), kept-few (remains (start .args .host)) 1283 32 (now (start .args .s)) (at-loop .i), at-loop .inv, at-wide .ensures)
 
 clear-requires : tie.Need-clear-requires Inv-loop μ-loop
-clear-requires c κs = omega (arith, sizes-valid (c .before .before .before .before .before .before .pre), kept-few (remains (c .before .before .before .before .before .before .args .host)) 1283 32 (now (c .before .before .before .before .before .before .args .s)) (c .before .before .loop .i), c .before .before .loop .inv, c .before .before .before .wide .ensures)
+clear-requires c κs =
+    let start = c .before .before .before .before .before .before in
+    let at-loop = c .before .before .loop in
+    let at-wide = c .before .before .before .wide in
+    omega (arith, sizes-valid (start .pre), kept-few (remains (start .args .host)) 1283 32 (now (start .args .s)) (at-loop .i), at-loop .inv, at-wide .ensures)
 
 narrow-requires : tie.Need-narrow-requires Inv-loop μ-loop
-narrow-requires c κs = omega (arith, sizes-valid (c .before .before .before .before .before .before .before .before .before .pre), kept-few (remains (c .before .before .before .before .before .before .before .before .before .args .host)) 1283 32 (now (c .before .before .before .before .before .before .before .before .before .args .s)) (c .before .before .before .before .before .loop .i), c .before .before .before .before .before .loop .inv, c .before .before .before .before .before .before .wide .ensures)
+narrow-requires c κs =
+    let start = c .before .before .before .before .before .before .before .before .before in
+    let at-loop = c .before .before .before .before .before .loop in
+    let at-wide = c .before .before .before .before .before .before .wide in
+    omega (arith, sizes-valid (start .pre), kept-few (remains (start .args .host)) 1283 32 (now (start .args .s)) (at-loop .i), at-loop .inv, at-wide .ensures)
 
 slice-write-s : tie.Need-slice-write-s Inv-loop μ-loop
 slice-write-s c = omega (arith, c .before .before .before .clear .kept, c .before .before .before .before .before .before .loop .inv)
 
 same-length : tie.Need-same-length Inv-loop μ-loop
-same-length c = simp length-set (c .before .before .before .clear .kept .0 ∙ c .before .before .before .before .before .before .loop .inv .3 ∙ sym ((sizes-valid (c .before .before .before .before .before .before .before .before .before .before .pre)) .long))
+same-length c =
+    let at-clear = c .before .before .before .clear in
+    let at-loop = c .before .before .before .before .before .before .loop in
+    let start = c .before .before .before .before .before .before .before .before .before .before in
+    simp length-set (at-clear .kept .0 ∙ at-loop .inv .3 ∙ sym ((sizes-valid (start .pre)) .long))
 
 returns : tie.Need-returns Inv-loop μ-loop
 returns c = λ st h.
-    ended (remains (c .before .before .before .before .before .before .before .before .before .before .args .host)) h (c .before .before .before .before .before .before .before .wide .ensures) (omega (arith, c .before .before .before .before .before .before .loop .inv .0, c .before .before .before .before .before .loop-test .left)) (c .before .before .before .before .before .before .loop .inv .1) (c .before .before .before .before .before .before .loop .inv .2) (c .before .before .before .clear .ensures) (c .narrow .ensures)
+    let start = c .before .before .before .before .before .before .before .before .before .before in
+    let at-wide = c .before .before .before .before .before .before .before .wide in
+    let at-loop = c .before .before .before .before .before .before .loop in
+    let at-loop-test = c .before .before .before .before .before .loop-test in
+    let at-clear = c .before .before .before .clear in
+    ended (remains (start .args .host)) h (at-wide .ensures) (omega (arith, at-loop .inv .0, at-loop-test .left)) (at-loop .inv .1) (at-loop .inv .2) (at-clear .ensures) (c .narrow .ensures)
 
 pub retain-spec : {M : Type 1} → statement M
 retain-spec =

@@ -54,14 +54,18 @@ same-length c = search needs
 returns : tie.Need-returns
 unfolding span
 returns c =
-    let a = c .before .before .before .before .before .before .before .before .before .args in
+    let start = c .before .before .before .before .before .before .before .before .before in
+    let at-remains = c .before .before .before .before .before .remains in
+    let at-if1 = c .before .before .before .before .if1 in
+    let at-move-down = c .before .before .move-down in
+    let a = start .args in
     let i : ℕ = a .i in
     let w = now (a .s) in
     let size : 1283 + 32 * i + 32 - (1283 + 32 * i) ≡ 32 = omega arith in
     let b : remains (a .host) (span (1283 + 32 * i) 32 w) ≡ true =
-    ap (λ (m : ℕ). remains (a .host) (take m (drop (1283 + 32 * i) w))) (sym size) ∙ sym (c .before .before .before .before .before .remains .ensures) ∙ c .before .before .before .before .if1 .taken
+    ap (λ (m : ℕ). remains (a .host) (take m (drop (1283 + 32 * i) w))) (sym size) ∙ sym (at-remains .ensures) ∙ at-if1 .taken
     in
-    (rw b, c .before .before .move-down .ensures ∙ sym (rw b))
+    (rw b, at-move-down .ensures ∙ sym (rw b))
 
 same-length-2 : tie.Need-same-length-2
 same-length-2 c = search needs
@@ -69,7 +73,8 @@ same-length-2 c = search needs
 returns-2 : tie.Need-returns-2
 unfolding span
 returns-2 c =
-    let a = c .before .before .before .before .before .args in
+    let start = c .before .before .before .before .before in
+    let a = start .args in
     let i : ℕ = a .i in
     let w = now (a .s) in
     let size : 1283 + 32 * i + 32 - (1283 + 32 * i) ≡ 32 = omega arith in

@@ -71,7 +71,15 @@ shared-slice-read-result-6 : tie.Need-shared-slice-read-result-6
 shared-slice-read-result-6 c = search needs
 
 returns-3 : tie.Need-returns-3
-returns-3 c = fit-tests (now (c .before .before .before .before .before .before .before .before .before .before .before .before .before .before .before .before .before .before .before .before .before .args .r)) (c .before .before .before .before .before .before .before .before .before .before .before .before .before .before .before .before .before .before .before .if1 .left) (c .before .before .before .before .before .before .before .before .before .before .before .before .before .before .before .before .before .if2 .left) (c .before .before .before .before .before .before .before .before .before .before .before .before .before .before .host-bits4 .ensures) (c .before .before .before .before .before .before .before .before .before .before .before .is-kind .ensures) (c .before .before .before .before .before .before .fit-optional .ensures) (c .before .before .before .fit-optional2 .ensures)
+returns-3 c =
+    let start = c .before .before .before .before .before .before .before .before .before .before .before .before .before .before .before .before .before .before .before .before .before in
+    let at-if1 = c .before .before .before .before .before .before .before .before .before .before .before .before .before .before .before .before .before .before .before .if1 in
+    let at-if2 = c .before .before .before .before .before .before .before .before .before .before .before .before .before .before .before .before .before .if2 in
+    let at-host-bits4 = c .before .before .before .before .before .before .before .before .before .before .before .before .before .before .host-bits4 in
+    let at-is-kind = c .before .before .before .before .before .before .before .before .before .before .before .is-kind in
+    let at-fit-optional = c .before .before .before .before .before .before .fit-optional in
+    let at-fit-optional2 = c .before .before .before .fit-optional2 in
+    fit-tests (now (start .args .r)) (at-if1 .left) (at-if2 .left) (at-host-bits4 .ensures) (at-is-kind .ensures) (at-fit-optional .ensures) (at-fit-optional2 .ensures)
 
 pub fit-route-spec : {M : Type 1} → statement M
 fit-route-spec =

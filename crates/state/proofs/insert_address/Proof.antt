@@ -34,7 +34,9 @@ mul-insert-2 : tie.Need-mul-insert-2
 mul-insert-2 c = omega (arith, sizes-valid (c .before .before .before .before .before .pre .0))
 
 insert-requires : tie.Need-insert-requires
-insert-requires c κs = omega (arith, sizes-valid (c .before .before .before .before .before .pre .0), length-address (now (c .before .before .before .before .before .args .row)) (c .before .before .before .before .before .pre .1 .1))
+insert-requires c κs =
+    let start = c .before .before .before .before .before in
+    omega (arith, sizes-valid (start .pre .0), length-address (now (start .args .row)) (start .pre .1 .1))
 
 add-s : tie.Need-add-s
 add-s c = omega (arith, sizes-valid (c .before .before .before .before .before .before .before .before .pre .0))
@@ -47,12 +49,15 @@ same-length c = search needs
 
 returns : tie.Need-returns
 returns c = λ st h.
-    let a = c .before .before .before .before .before .before .before .before .args in
+    let start = c .before .before .before .before .before .before .before .before in
+    let at-insert = c .before .before .insert in
+    let at-wide = c .before .before .before .wide in
+    let a = start .args in
     let i : ℕ = a .i in
     let w = now (a .s) in
     let n = addressCount w in
-    rw (ap (λ (l : List ℕ). set l 0 (n + 1)) (c .before .before .insert .ensures ∙ ap (λ (m : ℕ). put (3 + 20 * i) (now (a .row) ++ span (3 + 20 * i) (20 * (m - i)) w) w) (c .before .before .before .wide .ensures)))
-    (insert-address h i (now (a .row)) (omega (arith, count-addresses h, c .before .before .before .before .before .before .before .before .pre .1 .0)) (omega (arith, count-addresses h, c .before .before .before .before .before .before .before .before .pre .1 .0)) (c .before .before .before .before .before .before .before .before .pre .1 .1))
+    rw (ap (λ (l : List ℕ). set l 0 (n + 1)) (at-insert .ensures ∙ ap (λ (m : ℕ). put (3 + 20 * i) (now (a .row) ++ span (3 + 20 * i) (20 * (m - i)) w) w) (at-wide .ensures)))
+    (insert-address h i (now (a .row)) (omega (arith, count-addresses h, start .pre .1 .0)) (omega (arith, count-addresses h, start .pre .1 .0)) (start .pre .1 .1))
 
 pub insert-address-spec : {M : Type 1} → statement M
 insert-address-spec =

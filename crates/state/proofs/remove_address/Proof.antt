@@ -46,12 +46,15 @@ same-length c = search needs
 
 returns : tie.Need-returns
 returns c = λ st h.
-    let a = c .before .before .before .before .before .before .before .args in
+    let start = c .before .before .before .before .before .before .before in
+    let at-remove = c .before .before .remove in
+    let at-wide = c .before .before .before .wide in
+    let a = start .args in
     let i : ℕ = a .i in
     let w = now (a .s) in
     let n = addressCount w - 1 in
-    rw (ap (λ (l : List ℕ). set l 0 n) (c .before .before .remove .ensures ∙ ap (λ (m : ℕ). put (3 + 20 * i) (span (3 + 20 * i + 20) (20 * (m - i)) w ++ zeros 20) w) (c .before .before .before .wide .ensures)))
-    (remove-address h i (omega (arith, count-addresses h, c .before .before .before .before .before .before .before .pre .1)))
+    rw (ap (λ (l : List ℕ). set l 0 n) (at-remove .ensures ∙ ap (λ (m : ℕ). put (3 + 20 * i) (span (3 + 20 * i + 20) (20 * (m - i)) w ++ zeros 20) w) (at-wide .ensures)))
+    (remove-address h i (omega (arith, count-addresses h, start .pre .1)))
 
 pub remove-address-spec : {M : Type 1} → statement M
 remove-address-spec =

@@ -46,12 +46,15 @@ same-length c = search needs
 
 returns : tie.Need-returns
 returns c = λ st h.
-    let a = c .before .before .before .before .before .before .before .args in
+    let start = c .before .before .before .before .before .before .before in
+    let at-remove = c .before .before .remove in
+    let at-wide = c .before .before .before .wide in
+    let a = start .args in
     let i : ℕ = a .i in
     let w = now (a .s) in
     let n = routeCount w - 1 in
-    rw (ap (λ (l : List ℕ). set l 1 n) (c .before .before .remove .ensures ∙ ap (λ (m : ℕ). put (1283 + 32 * i) (span (1283 + 32 * i + 32) (32 * (m - i)) w ++ zeros 32) w) (c .before .before .before .wide .ensures)))
-    (remove-route h i (omega (arith, count-routes h, c .before .before .before .before .before .before .before .pre .1)))
+    rw (ap (λ (l : List ℕ). set l 1 n) (at-remove .ensures ∙ ap (λ (m : ℕ). put (1283 + 32 * i) (span (1283 + 32 * i + 32) (32 * (m - i)) w ++ zeros 32) w) (at-wide .ensures)))
+    (remove-route h i (omega (arith, count-routes h, start .pre .1)))
 
 pub remove-route-spec : {M : Type 1} → statement M
 remove-route-spec =

@@ -17,15 +17,19 @@ add-store : tie.Need-add-store
 add-store c = omega (arith, sizes-valid (c .before .before .before .pre .0))
 
 store-requires : tie.Need-store-requires
-store-requires c κs = omega (arith, sizes-valid (c .before .before .before .pre .0), length-route (now (c .before .before .before .args .row)) (c .before .before .before .pre .1 .1))
+store-requires c κs =
+    let start = c .before .before .before in
+    omega (arith, sizes-valid (start .pre .0), length-route (now (start .args .row)) (start .pre .1 .1))
 
 same-length : tie.Need-same-length
 same-length c = search needs
 
 returns : tie.Need-returns
 returns c = λ st h.
-    let a = c .before .before .before .before .before .before .args in
-    rw (c .before .before .store .ensures) (replace-route h (a .i) (now (a .row)) (omega (arith, count-routes h, c .before .before .before .before .before .before .pre .1 .0)) (c .before .before .before .before .before .before .pre .1 .1))
+    let start = c .before .before .before .before .before .before in
+    let at-store = c .before .before .store in
+    let a = start .args in
+    rw (at-store .ensures) (replace-route h (a .i) (now (a .row)) (omega (arith, count-routes h, start .pre .1 .0)) (start .pre .1 .1))
 
 pub replace-route-spec : {M : Type 1} → statement M
 replace-route-spec = tie.close (tie.spec mul-store add-store store-requires same-length returns)

@@ -19,7 +19,9 @@ same-length : tie.Need-same-length
 same-length c = search needs
 
 returns : tie.Need-returns
-returns c = λ st h. add-there h (c .before .before .before .before .args .t) (sym (c .before .listed .ensures) ∙ c .if1 .taken)
+returns c = λ st h.
+    let start = c .before .before .before .before in
+    add-there h (start .args .t) (sym (c .before .listed .ensures) ∙ c .if1 .taken)
 
 slice-read-n : tie.Need-slice-read-n
 slice-read-n c = omega (arith, sizes-valid (c .before .before .before .before .before .pre .0))
@@ -34,7 +36,11 @@ mul-s : tie.Need-mul-s
 mul-s c = omega (arith, sizes-valid (c .before .before .before .before .before .before .pre .0))
 
 slice-write-s : tie.Need-slice-write-s
-slice-write-s c = omega (arith, sizes-valid (c .before .before .before .before .before .before .pre .0), length-listed (c .before .before .before .before .before .before .pre .0 .holds), length-new (c .before .before .before .before .before .before .args .t) (tablesOf (now (c .before .before .before .before .before .before .args .s))) (sym (c .before .before .before .listed .ensures) ∙ c .before .before .if1 .left), c .before .before .before .before .before .before .pre .1)
+slice-write-s c =
+    let start = c .before .before .before .before .before .before in
+    let at-listed = c .before .before .before .listed in
+    let at-if1 = c .before .before .if1 in
+    omega (arith, sizes-valid (start .pre .0), length-listed (start .pre .0 .holds), length-new (start .args .t) (tablesOf (now (start .args .s))) (sym (at-listed .ensures) ∙ at-if1 .left), start .pre .1)
 
 add-s : tie.Need-add-s
 add-s c = omega (arith, sizes-valid (c .before .before .before .before .before .before .pre .0))
@@ -47,8 +53,11 @@ same-length-2 c = search needs
 
 returns-2 : tie.Need-returns-2
 returns-2 c = λ st h.
-    rw (ap (λ (m : ℕ). set (set (now (c .before .before .before .before .before .before .args .s)) (9475 + m) (c .before .before .before .before .before .before .args .t)) 2 (tableCount (now (c .before .before .before .before .before .before .args .s)) + 1)) (c .wide .ensures))
-    (add-new h (c .before .before .before .before .before .before .args .t) (sym (c .before .before .before .listed .ensures) ∙ c .before .before .if1 .left) (c .before .before .before .before .before .before .pre .1))
+    let start = c .before .before .before .before .before .before in
+    let at-listed = c .before .before .before .listed in
+    let at-if1 = c .before .before .if1 in
+    rw (ap (λ (m : ℕ). set (set (now (start .args .s)) (9475 + m) (start .args .t)) 2 (tableCount (now (start .args .s)) + 1)) (c .wide .ensures))
+    (add-new h (start .args .t) (sym (at-listed .ensures) ∙ at-if1 .left) (start .pre .1))
 
 pub add-table-spec : {M : Type 1} → statement M
 add-table-spec =

@@ -35,10 +35,12 @@ among-requires c κs = search needs
 returns : tie.Need-returns
 unfolding span
 returns c =
-    let w = now (c .before .before .before .before .before .args .s) in
-    let n : ℕ = c .before .before .wide .result in
+    let start = c .before .before .before .before .before in
+    let at-wide = c .before .before .wide in
+    let w = now (start .args .s) in
+    let n : ℕ = at-wide .result in
     let size : 9475 + n - 9475 ≡ n = omega arith in
-    c .among .ensures ∙ ap (λ (m : ℕ). among (c .before .before .before .before .before .args .t) (take m (drop 9475 w))) (size ∙ c .before .before .wide .ensures)
+    c .among .ensures ∙ ap (λ (m : ℕ). among (start .args .t) (take m (drop 9475 w))) (size ∙ at-wide .ensures)
 
 pub listed-spec : {M : Type 1} → statement M
 listed-spec =

@@ -16,7 +16,9 @@ with-table-requires : tie.Need-with-table-requires
 with-table-requires c κs = search needs
 
 returns : tie.Need-returns
-returns c = c .with-table .ensures ∙ sym (ap length (list-other (c .before .before .before .args .t) (tablesOf (now (c .before .before .before .args .s))) (c .before .if1 .taken)))
+returns c =
+    let start = c .before .before .before in
+    c .with-table .ensures ∙ sym (ap length (list-other (start .args .t) (tablesOf (now (start .args .s))) (c .before .if1 .taken)))
 
 listed-requires : tie.Need-listed-requires
 listed-requires c κs = search needs
@@ -26,20 +28,29 @@ with-table-requires-2 c κs = search needs
 
 returns-2 : tie.Need-returns-2
 returns-2 c =
-    let l = tablesOf (now (c .before .before .before .before .before .args .s)) in
-    let t : ℕ = c .before .before .before .before .before .args .t in
-    let e : t ≡ 255 = c .before .before .before .if1 .left in
-    let f : among 254 l ≡ Bool.true = sym (c .before .before .listed .ensures) ∙ c .before .if2 .taken in
+    let start = c .before .before .before .before .before in
+    let at-if1 = c .before .before .before .if1 in
+    let at-listed = c .before .before .listed in
+    let l = tablesOf (now (start .args .s)) in
+    let t : ℕ = start .args .t in
+    let e : t ≡ 255 = at-if1 .left in
+    let f : among 254 l ≡ Bool.true = sym (at-listed .ensures) ∙ c .before .if2 .taken in
     c .with-table2 .ensures ∙ sym (rw (list-local t l e, f))
 
 with-table-requires-3 : tie.Need-with-table-requires-3
 with-table-requires-3 c κs = search needs
 
 add-result : tie.Need-add-result
-add-result c = omega (arith, c .with-table3 .ensures, at-most (c .before .before .before .before .before .args .t) (c .before .before .before .before .before .pre))
+add-result c =
+    let start = c .before .before .before .before .before in
+    omega (arith, c .with-table3 .ensures, at-most (start .args .t) (start .pre))
 
 returns-3 : tie.Need-returns-3
-returns-3 c = ap (λ (n : ℕ). n + 1) (c .with-table3 .ensures) ∙ sym (length-local (c .before .before .before .before .before .args .t) (tablesOf (now (c .before .before .before .before .before .args .s))) (c .before .before .before .if1 .left) (sym (c .before .before .listed .ensures) ∙ c .before .if2 .left))
+returns-3 c =
+    let start = c .before .before .before .before .before in
+    let at-if1 = c .before .before .before .if1 in
+    let at-listed = c .before .before .listed in
+    ap (λ (n : ℕ). n + 1) (c .with-table3 .ensures) ∙ sym (length-local (start .args .t) (tablesOf (now (start .args .s))) (at-if1 .left) (sym (at-listed .ensures) ∙ c .before .if2 .left))
 
 pub tables-after-spec : {M : Type 1} → statement M
 tables-after-spec =

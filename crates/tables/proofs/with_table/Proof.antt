@@ -20,7 +20,11 @@ wide-requires : tie.Need-wide-requires
 wide-requires c κs = search needs
 
 returns : tie.Need-returns
-returns c = c .wide .ensures ∙ length-listed (c .before .before .before .before .before .pre .holds) ∙ sym (length-there (c .before .before .before .before .before .args .t) (tablesOf (now (c .before .before .before .before .before .args .s))) (sym (c .before .before .before .listed .ensures) ∙ c .before .before .if1 .taken))
+returns c =
+    let start = c .before .before .before .before .before in
+    let at-listed = c .before .before .before .listed in
+    let at-if1 = c .before .before .if1 in
+    c .wide .ensures ∙ length-listed (start .pre .holds) ∙ sym (length-there (start .args .t) (tablesOf (now (start .args .s))) (sym (at-listed .ensures) ∙ at-if1 .taken))
 
 shared-slice-read-wide-2 : tie.Need-shared-slice-read-wide-2
 shared-slice-read-wide-2 c = omega (arith, sizes-valid (c .before .before .before .before .pre))
@@ -32,7 +36,11 @@ add-result : tie.Need-add-result
 add-result c = omega (arith, sizes-valid (c .before .before .before .before .before .pre), c .wide2 .ensures)
 
 returns-2 : tie.Need-returns-2
-returns-2 c = ap (λ (n : ℕ). n + 1) (c .wide2 .ensures ∙ length-listed (c .before .before .before .before .before .pre .holds)) ∙ sym (length-new (c .before .before .before .before .before .args .t) (tablesOf (now (c .before .before .before .before .before .args .s))) (sym (c .before .before .before .listed .ensures) ∙ c .before .before .if1 .left))
+returns-2 c =
+    let start = c .before .before .before .before .before in
+    let at-listed = c .before .before .before .listed in
+    let at-if1 = c .before .before .if1 in
+    ap (λ (n : ℕ). n + 1) (c .wide2 .ensures ∙ length-listed (start .pre .holds)) ∙ sym (length-new (start .args .t) (tablesOf (now (start .args .s))) (sym (at-listed .ensures) ∙ at-if1 .left))
 
 pub with-table-spec : {M : Type 1} → statement M
 with-table-spec =

@@ -31,10 +31,13 @@ shared-slice-read-if1 c = search needs
 
 returns : tie.Need-returns Inv-loop μ-loop
 returns c =
-    let i : ℕ = c .before .before .before .loop .i in
-    let l = now (c .before .before .before .before .args .l) in
-    let n : ℕ = c .before .before .before .before .args .n in
-    sym (c .before .before .before .loop .inv .1 ∙ any-next (eqb n) l i (c .before .before .loop-test .taken) ∙ ap (λ (b : Bool). b || any (eqb n) (drop (i + 1) l)) (eq-eqb n (getD l i 0) (sym (c .if1 .taken))))
+    let at-loop = c .before .before .before .loop in
+    let start = c .before .before .before .before in
+    let at-loop-test = c .before .before .loop-test in
+    let i : ℕ = at-loop .i in
+    let l = now (start .args .l) in
+    let n : ℕ = start .args .n in
+    sym (at-loop .inv .1 ∙ any-next (eqb n) l i (at-loop-test .taken) ∙ ap (λ (b : Bool). b || any (eqb n) (drop (i + 1) l)) (eq-eqb n (getD l i 0) (sym (c .if1 .taken))))
 
 add-i : tie.Need-add-i Inv-loop μ-loop
 add-i c = search needs
@@ -44,16 +47,20 @@ loop-less c = search needs
 
 loop-again : tie.Need-loop-again Inv-loop μ-loop
 loop-again c =
-    let i : ℕ = c .before .before .before .loop .i in
-    let l = now (c .before .before .before .before .args .l) in
-    let n : ℕ = c .before .before .before .before .args .n in (
+    let at-loop = c .before .before .before .loop in
+    let start = c .before .before .before .before in
+    let at-loop-test = c .before .before .loop-test in
+    let i : ℕ = at-loop .i in
+    let l = now (start .args .l) in
+    let n : ℕ = start .args .n in (
       omega arith,
-      c .before .before .before .loop .inv .1 ∙ any-next (eqb n) l i (c .before .before .loop-test .taken) ∙ ap (λ (b : Bool). b || any (eqb n) (drop (i + 1) l)) (ne-eqb n (getD l i 0) (λ e. c .if1 .left (sym e))),
+      at-loop .inv .1 ∙ any-next (eqb n) l i (at-loop-test .taken) ∙ ap (λ (b : Bool). b || any (eqb n) (drop (i + 1) l)) (ne-eqb n (getD l i 0) (λ e. c .if1 .left (sym e))),
     )
 
 returns-2 : tie.Need-returns-2 Inv-loop μ-loop
 returns-2 c =
-    let w = c .before .before .args in
+    let start = c .before .before in
+    let w = start .args in
     sym (c .before .loop .inv .1 ∙ ap (any (eqb (w .n))) (drop-of-length-le (now (w .l)) {i = c .before .loop .i} (c .loop-test .left)))
 
 pub among-spec : {M : Type 1} → statement M

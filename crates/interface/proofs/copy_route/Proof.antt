@@ -1,0 +1,70 @@
+use Prim.Native.Nat.{ℕ}
+use native.Mathlib.Omega.{arith}
+use mathlib.Core.Path.{ap, _∙_}
+use mathlib.Core.List.{List}
+use Rattle.lists.specs.Lists.{put}
+use Rattle.interface.specs.Laws.{at-end, found-at}
+use borrow.Author.Needs.{needs}
+use Rattle.interface.proofs.copy_route.Statement.{statement}
+use Rattle.interface.proofs.copy_route.Tie as tie
+use Rattle.interface.proofs.copy_route.Reads as reads
+use Rattle.interface.proofs.copy_route.Lts as lts
+use Rattle.words.proofs.store.Reads as store-reads
+
+-- src/lib.rt:65:21
+mul-at : tie.Need-mul-at
+mul-at c = record { fits = omega (arith, at-end (c .before .before .pre .0) (c .before .before .pre .1)) }
+
+-- src/lib.rt:65:14
+add-at : tie.Need-add-at
+add-at c = record { fits = omega (arith, at-end (c .before .before .pre .0) (c .before .before .pre .1)) }
+
+-- src/lib.rt:66:15
+add-end : tie.Need-add-end
+add-end c = record { fits = omega (arith, at-end (c .before .before .pre .0) (c .before .before .pre .1)) }
+
+-- src/lib.rt:67:26
+mul-store : tie.Need-mul-store
+mul-store c =
+    record { fits = omega (arith, at-end (c .before .before .before .pre .0) (c .before .before .before .pre .1)) }
+
+-- src/lib.rt:67:26
+sub-store : tie.Need-sub-store
+sub-store c = search needs
+
+-- src/lib.rt:67:26
+part-store-start : tie.Need-part-store-start
+part-store-start c = search needs
+
+-- src/lib.rt:67:26
+part-store-end : tie.Need-part-store-end
+part-store-end c = omega (arith, at-end (c .before .before .before .pre .0) (c .before .before .before .pre .1))
+
+-- src/lib.rt:67:5
+store-requires : tie.Need-store-requires
+store-requires c κs = search needs
+
+-- src/lib.rt:61:1
+same-length : tie.Need-same-length
+same-length c = search needs
+
+-- src/lib.rt:61:1
+returns : tie.Need-returns
+returns c =
+    let k = c .before .before .before .before .before .before .before in
+    λ st h. c .before .before .store .ensures ∙ ap (λ (x : List ℕ). put 0 x (k .args .row .now)) (found-at (k .args .s .now) st h (k .args .i) (k .pre .1))
+
+pub copy-route-spec : {M : Type 1} → statement M
+copy-route-spec =
+    tie.close
+    (tie.spec
+    mul-at
+    add-at
+    add-end
+    mul-store
+    sub-store
+    part-store-start
+    part-store-end
+    store-requires
+    same-length
+    returns)

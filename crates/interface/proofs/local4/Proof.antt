@@ -1,0 +1,35 @@
+use mathlib.Core.Bool.{true}
+use Rattle.definition.specs.Words.{decode}
+use Rattle.interface.specs.Laws.{valid, held, local-no, local-yes}
+use borrow.Author.Needs.{needs}
+use Rattle.interface.proofs.local4.Statement.{statement}
+use Rattle.interface.proofs.local4.Tie as tie
+use Rattle.interface.proofs.local4.Reads as reads
+use Rattle.interface.proofs.local4.Lts as lts
+use Rattle.interface.proofs.checked.Reads as checked-reads
+use Rattle.view.proofs.local4.Reads as local4-reads
+
+-- src/lib.rt:121:9
+checked-requires : tie.Need-checked-requires
+checked-requires c κs = search needs
+
+-- src/lib.rt:123:9
+returns : tie.Need-returns
+returns c =
+    let a = c .before .before .before .args in
+    local-no (a .state .now) (c .before .checked .result) (a .ip) (c .before .checked .ensures) (c .if1 .taken)
+
+-- src/lib.rt:125:15
+local4-requires : tie.Need-local4-requires
+local4-requires c κs = valid true true true (c .before .before .before .args .state .now) (c .before .checked .result) (c .before .checked .ensures) (c .if1 .left)
+
+-- src/lib.rt:118:1
+returns-2 : tie.Need-returns-2
+returns-2 c =
+    let k = c .before .before in
+    let a = k .before .before .args in
+    local-yes (a .state .now) (k .checked .result) (a .ip) (c .local4 .result) (k .checked .ensures) (c .before .if1 .left)
+    (c .local4 .ensures (decode (a .state .now)) (held true true true (a .state .now) (k .checked .result) (k .checked .ensures) (c .before .if1 .left)))
+
+pub local4-spec : {M : Type 1} → statement M
+local4-spec = tie.close (tie.spec checked-requires returns local4-requires returns-2)

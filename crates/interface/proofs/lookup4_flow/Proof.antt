@@ -1,0 +1,56 @@
+use mathlib.Core.Bool.{true}
+use lib.Dec.{leb, ltb}
+use lib.ListN.{length}
+use borrow.Author.Tests.{leb-true}
+use Rattle.definition.specs.Words.{decode}
+use Rattle.definition.specs.Step.{lookup4FlowCall}
+use Rattle.definition.specs.Reference.Lookup.{lookup4Flow}
+use Rattle.interface.specs.Laws.{passed, valid, held, look-no, look-yes}
+use borrow.Author.Needs.{needs}
+use Rattle.interface.proofs.lookup4_flow.Statement.{statement}
+use Rattle.interface.proofs.lookup4_flow.Tie as tie
+use Rattle.interface.proofs.lookup4_flow.Reads as reads
+use Rattle.interface.proofs.lookup4_flow.Lts as lts
+use Rattle.interface.proofs.checked.Reads as checked-reads
+use Rattle.interface.proofs.look.Reads as look-reads
+
+-- src/lib.rt:102:9
+checked-requires : tie.Need-checked-requires
+checked-requires c κs = search needs
+
+-- src/lib.rt:104:9
+returns : tie.Need-returns
+unfolding lookup4FlowCall lookup4Flow
+returns c =
+    let k = c .before in
+    let a = k .before .before .before .args in
+    look-no (a .state .now) (a .row .now) (k .checked .result) (ltb (a .tos) 256) (record { ip = a .ip; tos = a .tos; scope = 0; oif = a .oif }) (k .checked .ensures) (c .if1 .taken)
+
+-- src/lib.rt:106:5
+look-requires : tie.Need-look-requires
+look-requires c κs =
+    let e = c .before in
+    let k = e .before in
+    let a = k .before .before .before .args in
+    let p = passed (leb 32 (length (a .row .now))) true (ltb (a .tos) 256) (a .state .now) (k .checked .result) (k .checked .ensures) (e .if1 .left) in
+    (valid (leb 32 (length (a .row .now))) true (ltb (a .tos) 256) (a .state .now) (k .checked .result) (k .checked .ensures) (e .if1 .left), leb-true 32 (length (a .row .now)) (p .room))
+
+-- src/lib.rt:98:1
+same-length : tie.Need-same-length
+same-length c = search needs
+
+-- src/lib.rt:98:1
+returns-2 : tie.Need-returns-2
+unfolding lookup4FlowCall lookup4Flow
+returns-2 c =
+    let y = c .before .before in
+    let e = y .before .before in
+    let k = e .before in
+    let a = k .before .before .before .args in
+    let h = held (leb 32 (length (a .row .now))) true (ltb (a .tos) 256) (a .state .now) (k .checked .result) (k .checked .ensures) (e .if1 .left) in
+    look-yes (a .state .now) (a .row .now) (k .checked .result) (ltb (a .tos) 256) (record { ip = a .ip; tos = a .tos; scope = 0; oif = a .oif }) (y .look .result) _ (k .checked .ensures) (e .if1 .left)
+    (y .look .ensures .0 (decode (a .state .now)) h) (y .look .ensures .1 (decode (a .state .now)) h)
+
+pub lookup4-flow-spec : {M : Type 1} → statement M
+lookup4-flow-spec =
+    tie.close (tie.spec checked-requires returns look-requires same-length returns-2)

@@ -1,0 +1,81 @@
+use mathlib.Core.Path.{sym, ap, _∙_}
+use mathlib.Core.Bool.{true, _&&_}
+use lib.Dec.{ltb}
+use Rattle.definition.specs.Words.{decode}
+use Rattle.interface.specs.Answer.{chosenFor}
+use Rattle.interface.specs.Laws.{valid, held, select-no, select-yes}
+use borrow.Author.Needs.{needs}
+use Rattle.interface.proofs.select4.Statement.{statement}
+use Rattle.interface.proofs.select4.Tie as tie
+use Rattle.interface.proofs.select4.Reads as reads
+use Rattle.interface.proofs.select4.Lts as lts
+use Rattle.address.proofs.fit_optional.Reads as fit-optional-reads
+use Rattle.interface.proofs.checked.Reads as checked-reads
+use Rattle.view.proofs.select4.Reads as select4-reads
+
+-- src/lib.rt:159:9
+fit-optional-requires : tie.Need-fit-optional-requires
+fit-optional-requires c κs = search needs
+
+-- src/lib.rt:155:9
+checked-requires : tie.Need-checked-requires
+checked-requires c κs = search needs
+
+-- src/lib.rt:162:9
+returns : tie.Need-returns
+returns c =
+    let k = c .before in
+    let r = k .before in
+    let a = r .before .before .args in
+    select-no (a .state .now) (k .checked .result) (a .dst-present) (a .dst) (a .scope) (r .fit-optional .result) (r .fit-optional .ensures) (k .checked .ensures) (c .if1 .taken)
+
+-- src/lib.rt:164:9
+select4-requires : tie.Need-select4-requires
+select4-requires c κs =
+    let k = c .before in
+    let r = k .before in
+    let a = r .before .before .args in
+    valid true true (r .fit-optional .result && ltb (a .scope) 256) (a .state .now) (k .checked .result) (k .checked .ensures) (c .if1 .left)
+
+-- src/lib.rt:166:25
+enum-known-selected : tie.Need-enum-known-selected
+enum-known-selected c = search needs
+
+-- src/lib.rt:167:30
+enum-told : tie.Need-enum-told
+enum-told c = search needs
+
+-- src/lib.rt:152:1
+returns-2 : tie.Need-returns-2
+returns-2 c =
+    let y = c .before .before .before in
+    let k = y .before .before in
+    let r = k .before in
+    let a = r .before .before .args in
+    ap chosenFor (sym (c .before .selected .given .1))
+    ∙ select-yes (a .state .now) (k .checked .result) (a .dst-present) (a .dst) (a .scope) (r .fit-optional .result) (r .fit-optional .ensures) (y .select4 .result) (k .checked .ensures) (y .before .if1 .left)
+    (y .select4 .ensures (decode (a .state .now)) (held true true (r .fit-optional .result && ltb (a .scope) 256) (a .state .now) (k .checked .result) (k .checked .ensures) (y .before .if1 .left)))
+
+-- src/lib.rt:152:1
+returns-3 : tie.Need-returns-3
+returns-3 c =
+    let y = c .before .before in
+    let k = y .before .before in
+    let r = k .before in
+    let a = r .before .before .args in
+    ap chosenFor (sym (c .enum-told .given .1))
+    ∙ select-yes (a .state .now) (k .checked .result) (a .dst-present) (a .dst) (a .scope) (r .fit-optional .result) (r .fit-optional .ensures) (y .select4 .result) (k .checked .ensures) (y .before .if1 .left)
+    (y .select4 .ensures (decode (a .state .now)) (held true true (r .fit-optional .result && ltb (a .scope) 256) (a .state .now) (k .checked .result) (k .checked .ensures) (y .before .if1 .left)))
+
+pub select4-spec : {M : Type 1} → statement M
+select4-spec =
+    tie.close
+    (tie.spec
+    fit-optional-requires
+    checked-requires
+    returns
+    select4-requires
+    enum-known-selected
+    enum-told
+    returns-2
+    returns-3)

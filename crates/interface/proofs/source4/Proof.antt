@@ -1,0 +1,84 @@
+use mathlib.Core.Path.{sym, ap, _∙_}
+use mathlib.Core.Bool.{true}
+use Rattle.definition.specs.Words.{decode}
+use Rattle.definition.specs.Kept.Fit.{length-route}
+use Rattle.interface.specs.Answer.{chosenFor}
+use Rattle.interface.specs.Laws.{valid, held, passed, source4-no, source4-yes}
+use borrow.Author.Needs.{needs}
+use Rattle.interface.proofs.source4.Statement.{statement}
+use Rattle.interface.proofs.source4.Tie as tie
+use Rattle.interface.proofs.source4.Reads as reads
+use Rattle.interface.proofs.source4.Lts as lts
+use Rattle.interface.proofs.checked.Reads as checked-reads
+use Rattle.route.proofs.fit_route.Reads as fit-route-reads
+use Rattle.view.proofs.source4.Reads as source4-reads
+
+-- src/lib.rt:141:34
+fit-route-requires : tie.Need-fit-route-requires
+fit-route-requires c κs = search needs
+
+-- src/lib.rt:141:9
+checked-requires : tie.Need-checked-requires
+checked-requires c κs = search needs
+
+-- src/lib.rt:143:9
+returns : tie.Need-returns
+returns c =
+    let k = c .before in
+    let r = k .before in
+    let a = r .before .before .before .args in
+    source4-no (a .state .now) (k .checked .result) (a .ip) (a .row .now) (r .fit-route .result) (r .fit-route .ensures) (k .checked .ensures) (c .if1 .taken)
+
+-- src/lib.rt:145:9
+source4-requires : tie.Need-source4-requires
+source4-requires c κs =
+    let k = c .before in
+    let r = k .before in
+    let a = r .before .before .before .args in
+    let p = passed true (r .fit-route .result) true (a .state .now) (k .checked .result) (k .checked .ensures) (c .if1 .left) in (
+      valid true (r .fit-route .result) true (a .state .now) (k .checked .result) (k .checked .ensures) (c .if1 .left),
+      length-route (a .row .now) (sym (r .fit-route .ensures) ∙ p .handed),
+    )
+
+-- src/lib.rt:147:25
+enum-known-selected : tie.Need-enum-known-selected
+enum-known-selected c = search needs
+
+-- src/lib.rt:148:30
+enum-told : tie.Need-enum-told
+enum-told c = search needs
+
+-- src/lib.rt:138:1
+returns-2 : tie.Need-returns-2
+returns-2 c =
+    let y = c .before .before .before in
+    let k = y .before .before in
+    let r = k .before in
+    let a = r .before .before .before .args in
+    ap chosenFor (sym (c .before .selected .given .1))
+    ∙ source4-yes (a .state .now) (k .checked .result) (a .ip) (a .row .now) (r .fit-route .result) (r .fit-route .ensures) (y .source4 .result) (k .checked .ensures) (y .before .if1 .left)
+    (y .source4 .ensures (decode (a .state .now)) (held true (r .fit-route .result) true (a .state .now) (k .checked .result) (k .checked .ensures) (y .before .if1 .left)))
+
+-- src/lib.rt:138:1
+returns-3 : tie.Need-returns-3
+returns-3 c =
+    let y = c .before .before in
+    let k = y .before .before in
+    let r = k .before in
+    let a = r .before .before .before .args in
+    ap chosenFor (sym (c .enum-told .given .1))
+    ∙ source4-yes (a .state .now) (k .checked .result) (a .ip) (a .row .now) (r .fit-route .result) (r .fit-route .ensures) (y .source4 .result) (k .checked .ensures) (y .before .if1 .left)
+    (y .source4 .ensures (decode (a .state .now)) (held true (r .fit-route .result) true (a .state .now) (k .checked .result) (k .checked .ensures) (y .before .if1 .left)))
+
+pub source4-spec : {M : Type 1} → statement M
+source4-spec =
+    tie.close
+    (tie.spec
+    fit-route-requires
+    checked-requires
+    returns
+    source4-requires
+    enum-known-selected
+    enum-told
+    returns-2
+    returns-3)

@@ -1,0 +1,5 @@
+pub mod Print
+pub mod Digits
+pub mod Wrote
+pub mod Pieces
+pub mod Lines

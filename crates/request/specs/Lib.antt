@@ -1,0 +1,4 @@
+pub mod Done
+pub mod Delete
+pub mod Check
+pub mod Add

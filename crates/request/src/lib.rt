@@ -1,0 +1,165 @@
+// Requests to add and to delete a route, over the state's words.
+use gateway::Reached;
+use insert::Inserted;
+ghost use mathlib.Core.Path.{_≡_};
+ghost use mathlib.Core.Bool.{true, _||_};
+ghost use lib.Dec.{eqb};
+ghost use Prim.Native.Nat.{_≤_};
+ghost use lib.ListN.{length};
+ghost use Rattle.layout.specs.Request.{nlmFlags, fitAddRoute4, fitDelRoute4};
+ghost use Rattle.definition.specs.State.{State};
+ghost use Rattle.definition.specs.Reference.Routes.{by, tableNamed, insertedAs, askedRoute, addRoute4, delRoute4Request};
+ghost use Rattle.definition.specs.Reference.Lookup.{listed};
+ghost use Rattle.definition.specs.Reference.Insert.{listTable, create4, insert4};
+ghost use Rattle.state.specs.Holds.{Holds, Valid};
+ghost use Rattle.lists.specs.Lists.{among};
+ghost use Rattle.tables.specs.Listed.{tablesOf};
+ghost use Rattle.gateway.specs.Rows.{reachedOf};
+ghost use Rattle.layout.specs.Route.{fitRoute};
+ghost use Rattle.definition.specs.Words.{fitState};
+ghost use Rattle.request.specs.Done.{Requested, Sound};
+ghost use Rattle.request.specs.Add.{fullOf, Tells};
+ghost use Rattle.request.specs.Check.{prefsrcCheck, checkAll};
+
+// How many event rows were told, a refusal's number, or that a list has no room: then all is as it was.
+pub enum Done {
+    Rows(usize),
+    Refused(u32),
+    Full,
+}
+
+const NO_SUCH: u32 = 3;
+
+const INVALID: u32 = 22;
+
+// The first row that the request names goes. No table is listed.
+pub fn del_route4(s: &mut [u32], ev: &mut [u32], q: &[u32]) -> Done
+    requires { ⌜ Valid (now s) ⌝ }
+    requires { ⌜ (length (now q) ≡ 49) × (fitDelRoute4 (now q) ≡ true) ⌝ }
+    requires { ⌜ 34 ≤ length (now ev) ⌝ }
+    ensures { λ r. ⌜ ((st : State) → Holds (now (s .entry)) st → Requested (delRoute4Request (now (q .entry)) st) st (now (s .exit)) (now (ev .entry)) (now (ev .exit)) r) ⌝ }
+{
+    let t = asked::table_named(q);
+    if !tables::listed(s, t) {
+        return Done::Refused(NO_SUCH);
+    }
+    if asked::bad_prefix(q) {
+        return Done::Refused(INVALID);
+    }
+    let n = state::route_count(s);
+    let place = select::select_route(view::routes(s), n, q);
+    if n <= place {
+        return Done::Refused(NO_SUCH);
+    }
+    let at = 1283 + 32 * place;
+    events::del_route4(ev, &s[at..at + 32]);
+    state::remove_route(s, place);
+    Done::Rows(1)
+}
+
+const TABLE_DEFAULT: u32 = 253;
+
+// The preferred source, once the table is listed.
+fn prefsrc_check(s: &[u32], q: &[u32], t: u32, local: bool, linked: bool) -> Reached
+    requires { ⌜ Valid (now s) ⌝ }
+    requires { ⌜ (length (now q) ≡ 34) × (t ≡ tableNamed (now q)) ⌝ }
+    ensures { λ r. ⌜ ((st : State) → Holds (now (s .entry)) st → local ≡ (listed 255 st || eqb 255 t) → reachedOf r ≡ prefsrcCheck (now (q .entry)) (by linked) (create4 (tableNamed (now (q .entry))) st)) ⌝ }
+{
+    if q[8] != 1 {
+        return Reached::By(linked);
+    }
+    let own = prefsrc::prefsrc_table(t);
+    let own_listed = tables::listed(s, own) | (own == t);
+    let n = state::route_count(s);
+    if prefsrc::valid_prefsrc4(view::routes(s), n, q, own_listed, local) {
+        return Reached::By(linked);
+    }
+    Reached::Refused(INVALID)
+}
+
+// Every check before the insertion, as it comes out once the table is listed: nothing is written yet.
+fn check(s: &[u32], q: &[u32]) -> Reached
+    requires { ⌜ Valid (now s) ⌝ }
+    requires { ⌜ (length (now q) ≡ 34) × (fitAddRoute4 (now q) ≡ true) ⌝ }
+    ensures { λ r. ⌜ ((st : State) → Holds (now (s .entry)) st → reachedOf r ≡ checkAll (now (q .entry)) (create4 (tableNamed (now (q .entry))) st)) ⌝ }
+{
+    let number = asked::form_check(q);
+    if number != 0 {
+        return Reached::Refused(number);
+    }
+    let t = asked::table_named(q);
+    let local = tables::listed(s, tables::LOCAL) | (tables::LOCAL == t);
+    let default = tables::listed(s, TABLE_DEFAULT) | (TABLE_DEFAULT == t);
+    let n = state::route_count(s);
+    let reached = gateway::reach_check(view::routes(s), n, q, local, default);
+    match reached {
+        Reached::Refused(error) => Reached::Refused(error),
+        Reached::By(linked) => prefsrc_check(s, q, t, local, linked),
+    }
+}
+
+fn full(i: Inserted) -> bool
+    ensures { λ r. ⌜ r ≡ fullOf i ⌝ }
+{
+    match i {
+        Inserted::Put(_) => false,
+        Inserted::Nothing => false,
+        Inserted::Refused(_) => false,
+        Inserted::Full => true,
+    }
+}
+
+// What an insertion comes to, a row put in told of.
+fn tell(ev: &mut [u32], new: &[u32], i: Inserted) -> Done
+    requires { ⌜ (34 ≤ length (now ev)) × (length (now new) ≡ 32) ⌝ }
+    ensures { λ r. ⌜ Tells (now (new .entry)) i (now (ev .entry)) (now (ev .exit)) r ⌝ }
+{
+    match i {
+        Inserted::Put(flags) => {
+            events::new_route4(ev, new, flags);
+            Done::Rows(1)
+        }
+        Inserted::Nothing => Done::Rows(0),
+        Inserted::Refused(error) => Done::Refused(error),
+        Inserted::Full => Done::Full,
+    }
+}
+
+// The row is put in before its table is listed: where it has no room, nothing is written.
+fn add_checked(s: &mut [u32], ev: &mut [u32], q: &[u32], t: u32, linked: bool) -> Done
+    requires { ⌜ Sound (now s) ⌝ }
+    requires { ⌜ length (listTable t (tablesOf (now s))) ≤ 32 ⌝ }
+    requires { ⌜ (length (now q) ≡ 34) × (fitRoute (askedRoute (now q) linked) ≡ true) ⌝ }
+    requires { ⌜ 34 ≤ length (now ev) ⌝ }
+    ensures { λ r. ⌜ ((st : State) → Holds (now (s .entry)) st → fitState st ≡ true → Requested (insertedAs (askedRoute (now (q .entry)) linked) (insert4 (askedRoute (now (q .entry)) linked) (nlmFlags (now (q .entry))) (st .routes)) (create4 t st)) st (now (s .exit)) (now (ev .entry)) (now (ev .exit)) r) ⌝ }
+{
+    let mut new = [0u32; 32];
+    asked::asked_route(q, linked, &mut new);
+    let inserted = insert::insert4(s, &new, q[14]);
+    if full(inserted) {
+        return Done::Full;
+    }
+    tables::list_table(s, t);
+    tell(ev, &new, inserted)
+}
+
+// The table is listed whatever comes of it, unless a list has no room.
+pub fn add_route4(s: &mut [u32], ev: &mut [u32], q: &[u32]) -> Done
+    requires { ⌜ Sound (now s) ⌝ }
+    requires { ⌜ (length (now q) ≡ 34) × (fitAddRoute4 (now q) ≡ true) ⌝ }
+    requires { ⌜ 34 ≤ length (now ev) ⌝ }
+    ensures { λ r. ⌜ ((st : State) → Holds (now (s .entry)) st → fitState st ≡ true → Requested (addRoute4 (now (q .entry)) st) st (now (s .exit)) (now (ev .entry)) (now (ev .exit)) r) ⌝ }
+{
+    let t = asked::table_named(q);
+    if 32 < tables::tables_after(s, t) {
+        return Done::Full;
+    }
+    let checked = check(s, q);
+    match checked {
+        Reached::Refused(error) => {
+            tables::list_table(s, t);
+            Done::Refused(error)
+        }
+        Reached::By(linked) => add_checked(s, ev, q, t, linked),
+    }
+}

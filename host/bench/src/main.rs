@@ -1,0 +1,224 @@
+//! How long each call takes: the unchanged Rust on its own lists, the Rust
+//! doing the port's job on lent words (plainly, and tuned), the port on
+//! words and on bytes. The tables are Markdown.
+mod measure;
+mod same_job;
+mod states;
+
+use measure::{Times, enough, measure, median, section};
+use naskrefim::words;
+use oracle::call::Call;
+use oracle::generate::cases::{Cases, USUAL};
+use oracle::model::{NO_SPACE, model};
+use std::hint::black_box;
+use std::process::ExitCode;
+
+const USAGE: &str = "usage: bench [--rounds N] [--only TEXT]
+  --rounds N     501 if it isn't said
+  --only TEXT    only calls whose name has TEXT in it; check: the check of a
+                 state alone";
+/// Cases on which the Rust on lent words is first compared with the model.
+const COMPARED: usize = 3_000;
+
+/// What is asked of the port, against the Rust doing the same job.
+const BYTES_MEAN: f64 = 0.4;
+const BYTES_MOST: f64 = 0.8;
+const WORDS_MEAN: f64 = 0.25;
+
+fn main() -> ExitCode {
+    let arguments: Vec<String> = std::env::args().skip(1).collect();
+    let Some((rounds, only)) = options(&arguments) else {
+        eprintln!("{USAGE}");
+        return ExitCode::FAILURE;
+    };
+    let wanted = |all: Vec<states::Measured>| -> Vec<states::Measured> {
+        let of = |one: &states::Measured| one.name.contains(only.as_str());
+        all.into_iter().filter(of).collect()
+    };
+    println!("interface.rs: sha256 {}", reference::INTERFACE_SHA256);
+    println!("library: {}", naskrefim::LIBRARY);
+    println!(
+        "The Rust on lent words: alike with the model on {} cases.",
+        same_job_is_right()
+    );
+    println!(
+        "Medians of {rounds} rounds, all ways in turn. Calls that may change their state are \
+         timed one by one, the state put back before each, outside the timed part; the others \
+         many at once. The clock's own time is taken off. Buffers are not cleared between calls. \
+         After a call's name: addresses, routes, tables."
+    );
+    let usual = wanted(states::usual());
+    if !usual.is_empty() {
+        let usual = table(&usual, rounds);
+        println!(
+            "\nAsked of the port, against the Rust on lent words: on words a geometric mean of \
+             at most {WORDS_MEAN}; on bytes of at most {BYTES_MEAN}, and no call above \
+             {BYTES_MOST}.\n"
+        );
+        summary("words", &usual, |t| t.words);
+        summary("bytes", &usual, |t| t.bytes);
+    }
+    let special = wanted(states::special());
+    if !special.is_empty() {
+        println!("\nThe longest jobs:");
+        table(&special, rounds);
+    }
+    if "check".contains(only.as_str()) {
+        println!(
+            "\nA lookup without the check of the state: n/a, none is exported.\n\n\
+             The check of a state alone (the port: `local4` on words, the cheapest call that \
+             looks at the whole state):\n"
+        );
+        check_alone(rounds);
+    }
+    ExitCode::SUCCESS
+}
+
+/// The rounds, and what a name must have in it.
+fn options(arguments: &[String]) -> Option<(usize, String)> {
+    let (mut rounds, mut only) = (501, String::new());
+    for pair in arguments.chunks(2) {
+        match pair {
+            [option, value] if option == "--rounds" => {
+                rounds = value.parse().ok().filter(|n| *n > 0)?;
+            }
+            [option, value] if option == "--only" => only.clone_from(value),
+            _ => return None,
+        }
+    }
+    Some((rounds, only))
+}
+
+/// Compares it with the model on generated cases, and gives their number.
+fn same_job_is_right() -> usize {
+    let mut cases = Cases::new(1, USUAL);
+    let mut compared = 0;
+    while compared < COMPARED {
+        let (_, case) = cases.next_case();
+        let (mut state, mut buffer) = (case.state.clone(), case.buffer.clone());
+        let expected = model(&case.call, &mut state, &mut buffer);
+        let (mut same_state, mut same_buffer) = (case.state.clone(), case.buffer.clone());
+        let found = if compared % 2 == 0 {
+            same_job::call::<true>(&case.call, &mut same_state, &mut same_buffer)
+        } else {
+            same_job::call::<false>(&case.call, &mut same_state, &mut same_buffer)
+        };
+        // 203 is not exact where a priority is changed
+        if matches!(case.call, Call::AddV4 { .. }) && expected.number == NO_SPACE {
+            continue;
+        }
+        assert_eq!(found, expected, "{}", case.call);
+        assert!(
+            same_state == state && same_buffer == buffer,
+            "{}: other words",
+            case.call
+        );
+        compared += 1;
+    }
+    compared
+}
+
+/// Measures and prints one table.
+fn table(all: &[states::Measured], rounds: usize) -> Vec<(String, Times)> {
+    println!(
+        "\n| call | the Rust, own lists | on lent words, plain | tuned | the port, words | bytes \
+         | words / plain | bytes / plain | words / tuned | bytes / tuned |"
+    );
+    println!("|---|---:|---:|---:|---:|---:|---:|---:|---:|---:|");
+    let mut measured = Vec::new();
+    for one in all {
+        let times = measure(one, rounds);
+        println!(
+            "| {} | {} | {} | {} | {} | {} | {} | {} | {} | {} |",
+            one.name,
+            time(Some(times.own)),
+            time(Some(times.plain)),
+            time(Some(times.tuned)),
+            time(times.words),
+            time(times.bytes),
+            ratio(times.words, times.plain),
+            ratio(times.bytes, times.plain),
+            ratio(times.words, times.tuned),
+            ratio(times.bytes, times.tuned)
+        );
+        measured.push((one.name.clone(), times));
+    }
+    measured
+}
+
+fn time(nanoseconds: Option<f64>) -> String {
+    match nanoseconds {
+        None => "n/a".to_string(),
+        Some(ns) if ns < 1_000.0 => format!("{ns:.0} ns"),
+        Some(ns) => format!("{:.2} µs", ns / 1_000.0),
+    }
+}
+
+fn ratio(port: Option<f64>, rust: f64) -> String {
+    port.map_or("n/a".to_string(), |port| format!("{:.2}", port / rust))
+}
+
+/// The geometric mean and the greatest ratio, against either Rust.
+fn summary(what: &str, all: &[(String, Times)], port: impl Fn(&Times) -> Option<f64>) {
+    for (against, rust) in [
+        ("plain", (|t| t.plain) as fn(&Times) -> f64),
+        ("tuned", |t| t.tuned),
+    ] {
+        let ratios: Vec<(&str, f64)> = all
+            .iter()
+            .filter_map(|(name, t)| Some((name.as_str(), port(t)? / rust(t))))
+            .collect();
+        let Some(most) = ratios.iter().max_by(|a, b| a.1.total_cmp(&b.1)) else {
+            println!("- the port on {what}: n/a");
+            return;
+        };
+        let logarithms = ratios.iter().map(|(_, r)| r.ln()).sum::<f64>();
+        println!(
+            "- the port on {what}, against the {against} Rust, {} rows: geometric mean {:.2}, \
+             greatest {:.2} ({})",
+            ratios.len(),
+            (logarithms / ratios.len() as f64).exp(),
+            most.1,
+            most.0
+        );
+    }
+}
+
+fn check_alone(rounds: usize) {
+    println!("| state | the port | the Rust, plain | tuned | all 9,507 words or-ed |");
+    println!("|---|---:|---:|---:|---:|");
+    let there = words::EXPORTED.contains(&"interface4w_local4");
+    for size in [[0, 0, 0], [64, 256, 32]] {
+        let state = states::of_size(size);
+        let port = || {
+            black_box(words::local4(black_box(&state), 0));
+        };
+        let plain = || {
+            black_box(same_job::well_formed::<false>(black_box(&state)));
+        };
+        let tuned = || {
+            black_box(same_job::well_formed::<true>(black_box(&state)));
+        };
+        let scan = || {
+            black_box(same_job::or_of(black_box(&state)));
+        };
+        let calls = [
+            if there { enough(port) } else { 1 },
+            enough(plain),
+            enough(tuned),
+            enough(scan),
+        ];
+        let mut times: [Vec<f64>; 4] = Default::default();
+        for _ in 0..rounds {
+            if there {
+                times[0].push(section(calls[0], port));
+            }
+            times[1].push(section(calls[1], plain));
+            times[2].push(section(calls[2], tuned));
+            times[3].push(section(calls[3], scan));
+        }
+        let [port, plain, tuned, scan] = times.map(|t| time((!t.is_empty()).then(|| median(t))));
+        let [a, r, t] = size;
+        println!("| {a}/{r}/{t} | {port} | {plain} | {tuned} | {scan} |");
+    }
+}

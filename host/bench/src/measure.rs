@@ -1,0 +1,266 @@
+//! One call measured five ways, in turn, many times over.
+use crate::same_job::call as job;
+use crate::states::Measured;
+use naskrefim::{bytes, words};
+use oracle::call::{Buffer, Call, Reply};
+use oracle::compare::filled;
+use oracle::port::bytes as bytes_of;
+use oracle::words::{ADDRESSES_AT, ROUTES_AT, TABLES_AT};
+use oracle::{fit, model};
+use reference::{Arguments, Native};
+use std::hint::black_box;
+use std::time::Instant;
+
+/// Nanoseconds for a call: medians. `None` where the linked library hasn't
+/// got it.
+pub struct Times {
+    pub own: f64,
+    pub plain: f64,
+    pub tuned: f64,
+    pub words: Option<f64>,
+    pub bytes: Option<f64>,
+}
+
+/// What a timed part of many calls shall take, in nanoseconds.
+const SECTION: f64 = 20_000.0;
+const MOST_CALLS: f64 = 2_000.0;
+
+/// The time of `calls` calls of `run`, for one of them.
+pub fn section(calls: usize, mut run: impl FnMut()) -> f64 {
+    let begin = Instant::now();
+    for _ in 0..calls {
+        run();
+    }
+    begin.elapsed().as_nanos() as f64 / calls as f64
+}
+
+pub fn median(mut times: Vec<f64>) -> f64 {
+    times.sort_by(f64::total_cmp);
+    times[times.len() / 2]
+}
+
+/// What the clock itself takes.
+fn clock() -> f64 {
+    median((0..1001).map(|_| section(1, || {})).collect())
+}
+
+/// How many calls a timed part has, so that the clock doesn't count.
+pub fn enough(mut run: impl FnMut()) -> usize {
+    let first = (0..5)
+        .map(|_| section(1, &mut run))
+        .fold(f64::MAX, f64::min);
+    (SECTION / first.max(1.0)).clamp(1.0, MOST_CALLS) as usize
+}
+
+/// The things that the ways work on.
+struct Stage<'a> {
+    measured: &'a Measured,
+    arguments: Arguments,
+    template: Native,
+    native: Native,
+    state: Vec<u32>,
+    buffer: Vec<u32>,
+    request: Vec<u8>,
+    first_bytes: Vec<u8>,
+    state_bytes: Vec<u8>,
+    buffer_bytes: Vec<u8>,
+}
+
+#[derive(Clone, Copy, PartialEq, Eq)]
+enum Way {
+    Own,
+    Plain,
+    Tuned,
+    Words,
+    Bytes,
+}
+
+const WAYS: [Way; 5] = [Way::Own, Way::Plain, Way::Tuned, Way::Words, Way::Bytes];
+
+impl<'a> Stage<'a> {
+    fn new(measured: &'a Measured) -> Self {
+        let (state, call) = (&measured.state, &measured.call);
+        let request = fit::request(call).expect("what is measured is fit");
+        let native = || {
+            let [a, r, t] = [0, 1, 2].map(|i| state[i] as usize);
+            Native::of(
+                &state[ADDRESSES_AT..].as_chunks().0[..a],
+                &state[ROUTES_AT..].as_chunks().0[..r],
+                &state[TABLES_AT..][..t],
+            )
+        };
+        let buffer = filled(call.buffer().least());
+        Self {
+            measured,
+            arguments: Arguments::of(&request),
+            template: native(),
+            native: native(),
+            state: state.clone(),
+            request: bytes_of(call.lent().unwrap_or(&[])),
+            first_bytes: bytes_of(state),
+            state_bytes: bytes_of(state),
+            buffer_bytes: bytes_of(&buffer),
+            buffer,
+        }
+    }
+
+    /// The state as it was before the call.
+    fn restore(&mut self, way: Way) {
+        match way {
+            Way::Own => self.native.copy_from(&self.template),
+            Way::Plain | Way::Tuned | Way::Words => {
+                self.state.copy_from_slice(&self.measured.state)
+            }
+            Way::Bytes => self.state_bytes.copy_from_slice(&self.first_bytes),
+        }
+    }
+
+    fn run(&mut self, way: Way) {
+        let call = black_box(&self.measured.call);
+        match way {
+            Way::Own => drop(black_box(self.native.call(black_box(&self.arguments)))),
+            Way::Plain => {
+                black_box(plain(call, &mut self.state, &mut self.buffer));
+            }
+            Way::Tuned => {
+                black_box(tuned(call, &mut self.state, &mut self.buffer));
+            }
+            Way::Words => {
+                black_box(on_words(call, &mut self.state, &mut self.buffer));
+            }
+            Way::Bytes => {
+                let (state, buffer) = (&mut self.state_bytes, &mut self.buffer_bytes);
+                black_box(on_bytes(call, state, &self.request, buffer));
+            }
+        }
+    }
+
+    fn there(&self, way: Way) -> bool {
+        let name = self.measured.call.name();
+        match way {
+            Way::Own | Way::Plain | Way::Tuned => true,
+            Way::Words => words::EXPORTED.contains(&format!("interface4w_{name}").as_str()),
+            Way::Bytes => bytes::EXPORTED.contains(&format!("interface4_{name}").as_str()),
+        }
+    }
+
+    /// Each way must do what the model does.
+    fn check(&mut self) {
+        let call = &self.measured.call;
+        let (mut state, mut buffer) = (self.measured.state.clone(), self.buffer.clone());
+        let reply = model::model(call, &mut state, &mut buffer);
+        let name = &self.measured.name;
+        let mut own = self.buffer.clone();
+        let told = self.native.call(&self.arguments).write(&mut own);
+        assert_eq!(told[0], reply.number, "{name}: the Rust on its own lists");
+        assert_eq!(own, buffer, "{name}: the Rust on its own lists");
+        for way in [Way::Plain, Way::Tuned, Way::Words] {
+            if self.there(way) {
+                let (mut s, mut b) = (self.measured.state.clone(), self.buffer.clone());
+                let found = match way {
+                    Way::Plain => plain(call, &mut s, &mut b),
+                    Way::Tuned => tuned(call, &mut s, &mut b),
+                    _ => on_words(call, &mut s, &mut b),
+                };
+                assert!((found, s) == (reply, state.clone()), "{name}: on words");
+                assert!(b == buffer, "{name}: on words, the buffer");
+            }
+        }
+        if self.there(Way::Bytes) {
+            let (mut s, mut b) = (self.first_bytes.clone(), self.buffer_bytes.clone());
+            let found = on_bytes(call, &mut s, &self.request, &mut b);
+            assert!((found, s) == (reply, bytes_of(&state)), "{name}: on bytes");
+            assert!(b == bytes_of(&buffer), "{name}: on bytes, the buffer");
+        }
+    }
+}
+
+/// Measures the call each way, in `rounds` rounds. Where a call may change
+/// its state, each is timed alone, with the state put back before, outside
+/// the timed part; others are timed many at once.
+pub fn measure(measured: &Measured, rounds: usize) -> Times {
+    let mut stage = Stage::new(measured);
+    stage.check();
+    let changing = measured.call.buffer() == Buffer::Events;
+    let clock = clock();
+    let mut calls = [1; WAYS.len()];
+    for (way, calls) in WAYS.into_iter().zip(&mut calls) {
+        if stage.there(way) && !changing {
+            stage.restore(way);
+            *calls = enough(|| stage.run(way));
+        }
+    }
+    let mut times: [Vec<f64>; WAYS.len()] = Default::default();
+    for round in 0..rounds {
+        for k in 0..WAYS.len() {
+            let i = (round + k) % WAYS.len();
+            let way = WAYS[i];
+            if stage.there(way) {
+                stage.restore(way);
+                let time = section(calls[i], || stage.run(way));
+                times[i].push((time - clock / calls[i] as f64).max(0.0));
+            }
+        }
+    }
+    let [own, plain, tuned, words, bytes] = times.map(|t| (!t.is_empty()).then(|| median(t)));
+    Times {
+        own: own.unwrap_or(f64::NAN),
+        plain: plain.unwrap_or(f64::NAN),
+        tuned: tuned.unwrap_or(f64::NAN),
+        words,
+        bytes,
+    }
+}
+
+fn plain(call: &Call, state: &mut [u32], buffer: &mut [u32]) -> Reply {
+    job::<false>(call, state, buffer)
+}
+
+fn tuned(call: &Call, state: &mut [u32], buffer: &mut [u32]) -> Reply {
+    job::<true>(call, state, buffer)
+}
+
+fn reply(r: naskrefim::Reply) -> Reply {
+    Reply {
+        number: r.number,
+        present: r.present,
+        value: r.value,
+        second: r.second,
+    }
+}
+
+macro_rules! dispatch {
+    ($module:ident, $call:ident, $state:ident, $request:expr, $buffer:ident) => {
+        reply(match *$call {
+            Call::Up { now } => $module::up($state, $buffer, now),
+            Call::Down => $module::down($state, $buffer),
+            Call::AddV4 { now, .. } => $module::add_v4($state, $request, $buffer, now),
+            Call::DelV4 { .. } => $module::del_v4($state, $request, $buffer),
+            Call::Expire { now } => $module::expire($state, $buffer, now),
+            Call::AddRoute4 { .. } => $module::add_route4($state, $request, $buffer),
+            Call::DelRoute4 { .. } => $module::del_route4($state, $request, $buffer),
+            Call::Dump4 => $module::dump4($state, $buffer),
+            Call::Lookup4 { ip } => $module::lookup4($state, $buffer, ip),
+            Call::Lookup4Flow { ip, tos, oif } => {
+                $module::lookup4_flow($state, $buffer, ip, tos, oif)
+            }
+            Call::Local4 { ip } => $module::local4($state, ip),
+            Call::Source4 { ip, .. } => $module::source4($state, $request, ip),
+            Call::Source { ip } => $module::source($state, ip),
+            Call::Select4 {
+                present,
+                dst,
+                scope,
+            } => $module::select4($state, present, dst, scope),
+            Call::Left { now, .. } => $module::left($request, now),
+        })
+    };
+}
+
+fn on_words(call: &Call, state: &mut [u32], buffer: &mut [u32]) -> Reply {
+    dispatch!(words, call, state, call.lent().unwrap_or(&[]), buffer)
+}
+
+fn on_bytes(call: &Call, state: &mut [u8], request: &[u8], buffer: &mut [u8]) -> Reply {
+    dispatch!(bytes, call, state, request, buffer)
+}

@@ -1,0 +1,162 @@
+//! A library with the exported functions of the port, over the oracle's
+//! model. It stands in for the port where the boundary itself is tested:
+//! with no fault the comparison must find nothing, and with each of the
+//! faults that MOCK_FAULT names, ones that only a boundary can have, it
+//! must find that.
+use oracle::call::{Buffer, Call};
+use oracle::model::model;
+use oracle::port::{Bytes, Model, make};
+use std::slice::from_raw_parts_mut;
+
+#[repr(C)]
+pub struct Reply {
+    number: u32,
+    present: u32,
+    value: u32,
+    second: u32,
+}
+
+/// What a call is lent; what it isn't lent is empty.
+struct Lent<'a, E> {
+    state: &'a mut [E],
+    request: &'a mut [E],
+    buffer: &'a mut [E],
+}
+
+/// Bytes or words.
+trait Element: Copy + Default {
+    const ALIGNED: bool;
+    fn model(
+        call: Call,
+        state: &mut [Self],
+        request: &[Self],
+        buffer: &mut [Self],
+    ) -> oracle::call::Reply;
+}
+
+impl Element for u8 {
+    const ALIGNED: bool = false;
+    fn model(
+        call: Call,
+        state: &mut [u8],
+        request: &[u8],
+        buffer: &mut [u8],
+    ) -> oracle::call::Reply {
+        make(&mut Bytes(Model), &call, state, request, buffer)
+    }
+}
+
+impl Element for u32 {
+    const ALIGNED: bool = true;
+    fn model(
+        mut call: Call,
+        state: &mut [u32],
+        request: &[u32],
+        buffer: &mut [u32],
+    ) -> oracle::call::Reply {
+        if let Some(words) = call.lent_mut() {
+            *words = request.to_vec();
+        }
+        model(&call, state, buffer)
+    }
+}
+
+fn run<E: Element>(call: Call, lent: Lent<E>) -> Reply {
+    let fault = std::env::var("MOCK_FAULT").unwrap_or_default();
+    let changing = call.buffer() == Buffer::Events;
+    let misaligned = !lent.state.as_ptr().addr().is_multiple_of(4);
+    let call = match (fault.as_str(), call) {
+        ("swapped numbers", Call::Lookup4Flow { ip, tos, oif }) => Call::Lookup4Flow {
+            ip,
+            tos: oif,
+            oif: tos,
+        },
+        ("half a clock", Call::Expire { now }) => Call::Expire {
+            now: u64::from(now as u32),
+        },
+        ("another function", Call::Source { ip }) => Call::Local4 { ip },
+        (_, call) => call,
+    };
+    let reply = if changing {
+        E::model(call, lent.state, lent.request, lent.buffer)
+    } else {
+        E::model(call, &mut lent.state.to_vec(), lent.request, lent.buffer)
+    };
+    let mut reply = Reply {
+        number: reply.number,
+        present: reply.present,
+        value: reply.value,
+        second: reply.second,
+    };
+    match fault.as_str() {
+        "swapped reply" => (reply.value, reply.second) = (reply.second, reply.value),
+        // SAFETY: none, this is the fault; the comparison lends guarded slices
+        "past the end" if changing => unsafe {
+            lent.buffer.as_mut_ptr_range().end.write(E::default());
+        },
+        "before the start" if changing => unsafe {
+            lent.state.as_mut_ptr().sub(1).write(E::default());
+        },
+        "writes the request" => lent.request.fill(E::default()),
+        "writes what it reads" if !changing => lent.state.fill(E::default()),
+        "aligned alone" if misaligned && !E::ALIGNED => reply.number = 200,
+        "words unlike bytes" if E::ALIGNED && reply.number == 203 => reply.number = 202,
+        _ => {}
+    }
+    reply
+}
+
+macro_rules! exports {
+    ($element:ty: $(
+        $name:ident($($slice:ident $length:ident),*; $($number:ident: $of:ty),*) $call:expr;
+    )*) => {$(
+        /// # Safety
+        /// Each pointer and length are those of one slice.
+        #[unsafe(no_mangle)]
+        pub unsafe extern "C" fn $name(
+            $($slice: *mut $element, $length: usize,)* $($number: $of),*
+        ) -> Reply {
+            #[allow(unused_mut)]
+            let mut lent = Lent { state: &mut [], request: &mut [], buffer: &mut [] };
+            $(lent.$slice = unsafe { from_raw_parts_mut($slice, $length) };)*
+            run::<$element>($call, lent)
+        }
+    )*};
+}
+
+const NONE: Vec<u32> = Vec::new();
+
+macro_rules! all {
+    ($element:ty: $up:ident $down:ident $add_v4:ident $del_v4:ident $expire:ident
+        $add_route4:ident $del_route4:ident $dump4:ident $lookup4:ident $lookup4_flow:ident
+        $local4:ident $source4:ident $source:ident $select4:ident $left:ident) => {
+        exports! { $element:
+            $up(state a, buffer b; now: u64) Call::Up { now };
+            $down(state a, buffer b;) Call::Down;
+            $add_v4(state a, request b, buffer c; now: u64) Call::AddV4 { request: NONE, now };
+            $del_v4(state a, request b, buffer c;) Call::DelV4 { request: NONE };
+            $expire(state a, buffer b; now: u64) Call::Expire { now };
+            $add_route4(state a, request b, buffer c;) Call::AddRoute4 { request: NONE };
+            $del_route4(state a, request b, buffer c;) Call::DelRoute4 { request: NONE };
+            $dump4(state a, buffer b;) Call::Dump4;
+            $lookup4(state a, buffer b; ip: u32) Call::Lookup4 { ip };
+            $lookup4_flow(state a, buffer b; ip: u32, tos: u32, oif: u32)
+                Call::Lookup4Flow { ip, tos, oif };
+            $local4(state a; ip: u32) Call::Local4 { ip };
+            $source4(state a, request b; ip: u32) Call::Source4 { row: NONE, ip };
+            $source(state a; ip: u32) Call::Source { ip };
+            $select4(state a; present: u32, dst: u32, scope: u32)
+                Call::Select4 { present, dst, scope };
+            $left(request a; now: u64) Call::Left { row: NONE, now };
+        }
+    };
+}
+
+all! { u8: interface4_up interface4_down interface4_add_v4 interface4_del_v4 interface4_expire
+interface4_add_route4 interface4_del_route4 interface4_dump4 interface4_lookup4
+interface4_lookup4_flow interface4_local4 interface4_source4 interface4_source
+interface4_select4 interface4_left }
+all! { u32: interface4w_up interface4w_down interface4w_add_v4 interface4w_del_v4
+interface4w_expire interface4w_add_route4 interface4w_del_route4 interface4w_dump4
+interface4w_lookup4 interface4w_lookup4_flow interface4w_local4 interface4w_source4
+interface4w_source interface4w_select4 interface4w_left }

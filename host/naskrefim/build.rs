@@ -1,0 +1,111 @@
+//! Finds the port's static library, reads which functions it exports, and
+//! has it linked. NASKREFIM_LIB names the file; without it, it is looked
+//! for where `rt staticlib ffi` writes it.
+
+use std::path::{Path, PathBuf};
+use std::{env, fs, process};
+
+/// From the repository's root.
+const DEFAULT: &str = "target/staticlib/libffi.a";
+const CALLS: [&str; 15] = [
+    "up",
+    "down",
+    "add_v4",
+    "del_v4",
+    "expire",
+    "add_route4",
+    "del_route4",
+    "dump4",
+    "lookup4",
+    "lookup4_flow",
+    "local4",
+    "source4",
+    "source",
+    "select4",
+    "left",
+];
+
+fn main() {
+    println!("cargo::rerun-if-changed=build.rs");
+    println!("cargo::rerun-if-env-changed=NASKREFIM_LIB");
+    println!("cargo::rerun-if-env-changed=NASKREFIM_PARTIAL");
+    println!("cargo::rustc-check-cfg=cfg(exported, values(any()))");
+    if let Err(message) = build() {
+        println!("cargo::error={message}");
+        process::exit(1);
+    }
+}
+
+fn build() -> Result<(), String> {
+    let here = env::var_os("CARGO_MANIFEST_DIR").ok_or("CARGO_MANIFEST_DIR is not set")?;
+    let (library, named) = match env::var_os("NASKREFIM_LIB") {
+        Some(path) => (PathBuf::from(path), "NASKREFIM_LIB names"),
+        None => (
+            Path::new(&here).join("../..").join(DEFAULT),
+            "NASKREFIM_LIB is not set; the default is",
+        ),
+    };
+    println!("cargo::rerun-if-changed={}", library.display());
+    let library = library.canonicalize().map_err(|e| {
+        format!(
+            "the port's library cannot be found ({named} {}): {e}. `rt staticlib ffi` writes it; \
+             set NASKREFIM_LIB to the file, as a whole path",
+            library.display()
+        )
+    })?;
+    let archive = fs::read(&library).map_err(|e| format!("{}: {e}", library.display()))?;
+    let exported = symbols(&archive)
+        .ok_or_else(|| format!("{named} {}: no archive with an index", library.display()))?;
+    let (there, missing): (Vec<String>, Vec<String>) = wanted()
+        .into_iter()
+        .partition(|name| exported.contains(name));
+    if !missing.is_empty() && env::var_os("NASKREFIM_PARTIAL").is_none() {
+        return Err(format!(
+            "{named} {}, which lacks {}. With NASKREFIM_PARTIAL set, what it has is linked, and \
+             a call of the rest panics",
+            library.display(),
+            missing.join(", ")
+        ));
+    }
+    for name in there {
+        println!("cargo::rustc-cfg=exported=\"{name}\"");
+    }
+    let (Some(folder), Some(file)) = (library.parent(), library.file_name()) else {
+        return Err(format!("{} is no file", library.display()));
+    };
+    println!("cargo::rustc-env=NASKREFIM_LINKED={}", library.display());
+    println!("cargo::rustc-link-search=native={}", folder.display());
+    println!(
+        "cargo::rustc-link-lib=static:+verbatim={}",
+        file.to_string_lossy()
+    );
+    Ok(())
+}
+
+fn wanted() -> Vec<String> {
+    ["interface4_", "interface4w_"]
+        .iter()
+        .flat_map(|prefix| CALLS.iter().map(move |call| format!("{prefix}{call}")))
+        .collect()
+}
+
+/// The names in an archive's index: its first member, `/`, with a number,
+/// as many offsets (all big-endian), and the names, each ended by a 0.
+fn symbols(archive: &[u8]) -> Option<Vec<String>> {
+    let member = archive.strip_prefix(b"!<arch>\n")?;
+    let (header, rest) = member.split_at_checked(60)?;
+    if !header.starts_with(b"/ ") {
+        return None;
+    }
+    let size = std::str::from_utf8(&header[48..58]).ok()?.trim().parse();
+    let index = rest.get(..size.ok()?)?;
+    let (count, rest) = index.split_first_chunk()?;
+    let offsets = u32::from_be_bytes(*count) as usize;
+    let names = rest.get(offsets.checked_mul(4)?..)?;
+    let names = names.split(|&b| b == 0).filter(|name| !name.is_empty());
+    Some(
+        names
+            .map(|n| String::from_utf8_lossy(n).into_owned())
+            .collect(),
+    )
+}

@@ -1,0 +1,196 @@
+//! Records as document 01's words, and back.
+use crate::records::{Ask4, Event, Kind, Life, Route4, Select4, V4};
+use crate::{ADDRESS_WORDS, EVENT_WORDS, ROUTE_WORDS};
+use core::net::Ipv4Addr;
+
+fn optional(value: Option<Ipv4Addr>) -> [u32; 2] {
+    [u32::from(value.is_some()), value.map_or(0, u32::from)]
+}
+
+/// A label's length and its four words. One that is too long keeps its
+/// length, which the library refuses.
+fn label_words(label: &[u8]) -> [u32; 5] {
+    let mut bytes = [0; 16];
+    let kept = label.len().min(16);
+    bytes[..kept].copy_from_slice(&label[..kept]);
+    let mut words = [count(label.len()), 0, 0, 0, 0];
+    for (word, four) in words[1..].iter_mut().zip(bytes.as_chunks().0) {
+        *word = u32::from_le_bytes(*four);
+    }
+    words
+}
+
+/// A count or an index as a word; one that doesn't fit is refused.
+fn count(n: usize) -> u32 {
+    u32::try_from(n).unwrap_or(u32::MAX)
+}
+
+/// The 14 words that a request and a row have in common.
+fn address_words(a: &V4, words: &mut [u32]) {
+    words[..3].copy_from_slice(&[a.local.into(), a.address.into(), a.prefix.into()]);
+    words[3..5].copy_from_slice(&optional(a.broadcast));
+    words[5..8].copy_from_slice(&[a.scope.into(), a.flags, a.proto.into()]);
+    words[8..13].copy_from_slice(&label_words(&a.label));
+    words[13] = a.priority;
+}
+
+pub(crate) fn address_row(a: &V4) -> [u32; ADDRESS_WORDS] {
+    let mut row = [0; ADDRESS_WORDS];
+    address_words(a, &mut row);
+    row[14..16].copy_from_slice(&[a.life.valid, a.life.preferred]);
+    row[16..18].copy_from_slice(&halves(a.life.created));
+    row[18..20].copy_from_slice(&halves(a.life.changed));
+    row
+}
+
+pub(crate) fn add_v4(new: &V4, valid: u32, preferred: u32, replace: bool, up: bool) -> [u32; 18] {
+    let mut words = [0; 18];
+    address_words(new, &mut words);
+    words[14..].copy_from_slice(&[valid, preferred, replace.into(), up.into()]);
+    words
+}
+
+pub(crate) fn del_v4(
+    local: Option<Ipv4Addr>,
+    address: Option<Ipv4Addr>,
+    prefix: u8,
+    label: Option<&[u8]>,
+) -> [u32; 11] {
+    let mut words = [0; 11];
+    words[..2].copy_from_slice(&optional(local));
+    words[2..4].copy_from_slice(&optional(address));
+    words[4] = prefix.into();
+    words[5] = label.is_some().into();
+    words[6..].copy_from_slice(&label_words(label.unwrap_or(&[])));
+    words
+}
+
+/// The 12 words that requests and rows of routes begin with.
+macro_rules! route_words {
+    ($r:expr, $kind:expr, $words:expr) => {
+        $words[..5].copy_from_slice(&[
+            $r.table,
+            $r.dst.into(),
+            $r.len.into(),
+            $r.tos.into(),
+            $r.priority,
+        ]);
+        $words[5..8].copy_from_slice(&[$kind.into(), $r.proto.into(), $r.scope.into()]);
+        $words[8..10].copy_from_slice(&optional($r.prefsrc));
+        $words[10..12].copy_from_slice(&optional($r.gateway));
+    };
+}
+
+pub(crate) fn route_row(r: &Route4) -> [u32; ROUTE_WORDS] {
+    let mut row = [0; ROUTE_WORDS];
+    route_words!(r, r.kind.code(), row);
+    row[12..15].copy_from_slice(&[r.device.into(), r.onlink.into(), r.uses_gateway.into()]);
+    row[15..].copy_from_slice(&r.metrics);
+    row
+}
+
+pub(crate) fn add_route4(ask: &Ask4, up: bool) -> [u32; 34] {
+    let mut words = [0; 34];
+    route_words!(ask, ask.kind, words);
+    words[12..15].copy_from_slice(&[ask.oif, ask.flags, ask.request.into()]);
+    match &ask.metrics {
+        Ok(metrics) => words[16..33].copy_from_slice(metrics),
+        Err(error) => words[15] = error.number(),
+    }
+    words[33] = up.into();
+    words
+}
+
+pub(crate) fn del_route4(select: &Select4) -> [u32; 49] {
+    let mut words = [0; 49];
+    route_words!(select, select.kind, words);
+    words[12] = select.oif;
+    if let Some(pairs) = &select.metrics {
+        words[13] = 1;
+        words[14] = count(pairs.len());
+        for (two, &(index, value)) in words[15..].as_chunks_mut().0.iter_mut().zip(pairs) {
+            *two = [count(index), value];
+        }
+    }
+    words
+}
+
+fn halves(stamp: u64) -> [u32; 2] {
+    [stamp as u32, (stamp >> 32) as u32]
+}
+
+fn whole(words: &[u32]) -> u64 {
+    u64::from(words[0]) | u64::from(words[1]) << 32
+}
+
+/// A byte field of a row that the library wrote.
+fn byte(word: u32) -> u8 {
+    u8::try_from(word).expect("a byte field of a well-formed row")
+}
+
+fn present(words: &[u32]) -> Option<Ipv4Addr> {
+    (words[0] == 1).then(|| words[1].into())
+}
+
+/// The address of a well-formed row.
+pub(crate) fn address(row: &[u32]) -> V4 {
+    let mut label = Vec::with_capacity(16);
+    for word in &row[9..13] {
+        label.extend_from_slice(&word.to_le_bytes());
+    }
+    label.truncate(row[8] as usize);
+    V4 {
+        local: row[0].into(),
+        address: row[1].into(),
+        prefix: byte(row[2]),
+        broadcast: present(&row[3..5]),
+        scope: byte(row[5]),
+        flags: row[6],
+        proto: byte(row[7]),
+        label,
+        priority: row[13],
+        life: Life {
+            valid: row[14],
+            preferred: row[15],
+            created: whole(&row[16..18]),
+            changed: whole(&row[18..20]),
+        },
+    }
+}
+
+/// The route of a well-formed row.
+pub(crate) fn route(row: &[u32]) -> Route4 {
+    let mut metrics = [0; 17];
+    metrics.copy_from_slice(&row[15..ROUTE_WORDS]);
+    Route4 {
+        table: row[0],
+        dst: row[1].into(),
+        len: byte(row[2]),
+        tos: byte(row[3]),
+        priority: row[4],
+        kind: Kind::of(byte(row[5])).expect("a kind of a well-formed row"),
+        proto: byte(row[6]),
+        scope: byte(row[7]),
+        prefsrc: present(&row[8..10]),
+        gateway: present(&row[10..12]),
+        device: row[12] == 1,
+        onlink: row[13] == 1,
+        uses_gateway: row[14] == 1,
+        metrics,
+    }
+}
+
+/// The event of a row that the library wrote.
+pub(crate) fn event(row: &[u32; EVENT_WORDS]) -> Event {
+    let (head, rest) = row.split_at(2);
+    match head[0] {
+        1 => Event::NewAddr4(address(rest)),
+        2 => Event::DelAddr4(address(rest)),
+        3 => Event::NewRoute4(
+            route(rest),
+            u16::try_from(head[1]).expect("an event's flags have 16 bits"),
+        ),
+        4 => Event::DelRoute4(route(rest)),
+        other => panic!("an event row begins with 1 to 4, not {other}"),
+    }
+}

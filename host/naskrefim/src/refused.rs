@@ -1,0 +1,95 @@
+//! Why a call said no.
+use std::fmt;
+use std::num::NonZero;
+
+/// A refusal: one of document 01's numbers, or the metrics error that a
+/// request carried in. Nothing was changed, except that the table which a
+/// request to add a route names may be listed now.
+///
+/// ```
+/// use naskrefim::Refused;
+/// assert_eq!(Refused::NO_ROUTE_TO_NETWORK.number(), 101);
+/// assert_eq!(Refused::of(17), Some(Refused::THERE_ALREADY));
+/// assert_eq!(Refused::of(0), None);
+/// ```
+#[derive(Clone, Copy, PartialEq, Eq, PartialOrd, Ord, Hash)]
+pub struct Refused(NonZero<u32>);
+
+macro_rules! numbers {
+    ($($(#[$doc:meta])* $name:ident = $number:literal, $text:literal;)*) => {
+        impl Refused {
+            $($(#[$doc])* pub const $name: Self = Self(NonZero::new($number).unwrap());)*
+
+            /// What the number means.
+            fn text(self) -> &'static str {
+                match self {
+                    $(Self::$name => $text,)*
+                    _ => "the metrics error that the request carried",
+                }
+            }
+        }
+    };
+}
+
+numbers! {
+    /// ENOENT: a new route, and the request does not say create.
+    NO_CREATE_FLAG = 2, "a new route without the create flag";
+    /// ESRCH: a deletion finds no such route or table.
+    NO_SUCH_ROUTE = 3, "no such route or table";
+    /// EACCES: a route prohibits it.
+    PROHIBITED = 13, "a route prohibits it";
+    /// EEXIST: the address or the route is there.
+    THERE_ALREADY = 17, "an address or a route that is there already";
+    /// ENODEV: the device isn't the loopback.
+    WRONG_DEVICE = 19, "wrong device";
+    /// EINVAL: a bad route request; or a blackhole that a lookup meets.
+    INVALID = 22, "a bad route request, or a blackhole";
+    /// EOPNOTSUPP: a kind of route that isn't supported.
+    NOT_SUPPORTED = 95, "a kind of route that is not supported";
+    /// EADDRNOTAVAIL: a deletion finds no such address.
+    NO_SUCH_ADDRESS = 99, "no such address";
+    /// ENETDOWN: the device is down.
+    DOWN = 100, "the device is down";
+    /// ENETUNREACH: no route fits.
+    NO_ROUTE_TO_NETWORK = 101, "no route fits";
+    /// EHOSTUNREACH: a route says that it can't be reached.
+    UNREACHABLE = 113, "a route says unreachable";
+    /// A lent slice of the wrong length.
+    UNFIT_BUFFER = 200, "a lent slice of the wrong length";
+    /// A state that is not well-formed, or a row that could not stand in
+    /// one.
+    UNFIT_STATE = 201, "a state or a row that is not well-formed";
+    /// A request or a clock out of its range.
+    UNFIT_REQUEST = 202, "a request or a clock out of its range";
+    /// There would have been more than 64 addresses, 256 routes or 32
+    /// tables.
+    NO_SPACE = 203, "no space: 64 addresses, 256 routes, 32 tables";
+}
+
+impl Refused {
+    /// The refusal with this number; none has 0.
+    pub const fn of(number: u32) -> Option<Self> {
+        match NonZero::new(number) {
+            Some(number) => Some(Self(number)),
+            None => None,
+        }
+    }
+    /// Document 01's number.
+    pub const fn number(self) -> u32 {
+        self.0.get()
+    }
+}
+
+impl fmt::Debug for Refused {
+    fn fmt(&self, f: &mut fmt::Formatter) -> fmt::Result {
+        write!(f, "Refused({}: {})", self.0, self.text())
+    }
+}
+
+impl fmt::Display for Refused {
+    fn fmt(&self, f: &mut fmt::Formatter) -> fmt::Result {
+        write!(f, "refused {}: {}", self.0, self.text())
+    }
+}
+
+impl std::error::Error for Refused {}

@@ -1,0 +1,180 @@
+//! The linked library as ports: on bytes and on words.
+use crate::guarded::Guard;
+use crate::guarded::Lent::{Read, Write};
+use naskrefim::{bytes, words};
+use oracle::call::{Call, KINDS, NAMES, Reply};
+use oracle::campaign::Kinds;
+use oracle::port::{Port, WordPort};
+
+/// What guards hold: no row has such words by chance.
+const BYTE: u8 = 0xc3;
+const WORD: u32 = 0xc3d2_e1f0;
+
+/// The calls that the linked library has, of those whose exported names
+/// begin so.
+pub fn exported(names: &[&str], prefix: &str) -> Kinds {
+    let mut kinds = [false; KINDS];
+    for (kind, name) in kinds.iter_mut().zip(NAMES) {
+        *kind = names.contains(&format!("{prefix}{name}").as_str());
+    }
+    kinds
+}
+
+fn reply(reply: naskrefim::Reply) -> Reply {
+    Reply {
+        number: reply.number,
+        present: reply.present,
+        value: reply.value,
+        second: reply.second,
+    }
+}
+
+fn named(what: &str, guard: &Guard) -> String {
+    match guard.amiss {
+        None => what.to_string(),
+        Some(amiss) => format!("{what} ({amiss})"),
+    }
+}
+
+/// The library on bytes.
+#[derive(Default)]
+pub struct OnBytes(Guard);
+
+impl Port for OnBytes {
+    fn name(&self) -> String {
+        named("the library on bytes", &self.0)
+    }
+    fn up(&mut self, state: &mut [u8], events: &mut [u8], now: u64) -> Reply {
+        let lent = [Write(state), Write(events)];
+        reply(self.0.lend(BYTE, lent, |[s, e]| bytes::up(s, e, now)))
+    }
+    fn down(&mut self, state: &mut [u8], events: &mut [u8]) -> Reply {
+        let lent = [Write(state), Write(events)];
+        reply(self.0.lend(BYTE, lent, |[s, e]| bytes::down(s, e)))
+    }
+    fn add_v4(&mut self, state: &mut [u8], request: &[u8], events: &mut [u8], now: u64) -> Reply {
+        let lent = [Write(state), Read(request), Write(events)];
+        let call = |[s, r, e]: [&mut [u8]; 3]| bytes::add_v4(s, r, e, now);
+        reply(self.0.lend(BYTE, lent, call))
+    }
+    fn del_v4(&mut self, state: &mut [u8], request: &[u8], events: &mut [u8]) -> Reply {
+        let lent = [Write(state), Read(request), Write(events)];
+        let call = |[s, r, e]: [&mut [u8]; 3]| bytes::del_v4(s, r, e);
+        reply(self.0.lend(BYTE, lent, call))
+    }
+    fn expire(&mut self, state: &mut [u8], events: &mut [u8], now: u64) -> Reply {
+        let lent = [Write(state), Write(events)];
+        reply(self.0.lend(BYTE, lent, |[s, e]| bytes::expire(s, e, now)))
+    }
+    fn add_route4(&mut self, state: &mut [u8], request: &[u8], events: &mut [u8]) -> Reply {
+        let lent = [Write(state), Read(request), Write(events)];
+        let call = |[s, r, e]: [&mut [u8]; 3]| bytes::add_route4(s, r, e);
+        reply(self.0.lend(BYTE, lent, call))
+    }
+    fn del_route4(&mut self, state: &mut [u8], request: &[u8], events: &mut [u8]) -> Reply {
+        let lent = [Write(state), Read(request), Write(events)];
+        let call = |[s, r, e]: [&mut [u8]; 3]| bytes::del_route4(s, r, e);
+        reply(self.0.lend(BYTE, lent, call))
+    }
+    fn dump4(&mut self, state: &[u8], listing: &mut [u8]) -> Reply {
+        let lent = [Read(state), Write(listing)];
+        reply(self.0.lend(BYTE, lent, |[s, l]| bytes::dump4(s, l)))
+    }
+    fn lookup4(&mut self, state: &[u8], row: &mut [u8], ip: u32) -> Reply {
+        let lent = [Read(state), Write(row)];
+        reply(self.0.lend(BYTE, lent, |[s, r]| bytes::lookup4(s, r, ip)))
+    }
+    fn lookup4_flow(&mut self, state: &[u8], row: &mut [u8], ip: u32, tos: u32, oif: u32) -> Reply {
+        let lent = [Read(state), Write(row)];
+        let call = |[s, r]: [&mut [u8]; 2]| bytes::lookup4_flow(s, r, ip, tos, oif);
+        reply(self.0.lend(BYTE, lent, call))
+    }
+    fn local4(&mut self, state: &[u8], ip: u32) -> Reply {
+        let lent = [Read(state)];
+        reply(self.0.lend(BYTE, lent, |[s]| bytes::local4(s, ip)))
+    }
+    fn source4(&mut self, state: &[u8], row: &[u8], ip: u32) -> Reply {
+        let lent = [Read(state), Read(row)];
+        reply(self.0.lend(BYTE, lent, |[s, r]| bytes::source4(s, r, ip)))
+    }
+    fn source(&mut self, state: &[u8], ip: u32) -> Reply {
+        let lent = [Read(state)];
+        reply(self.0.lend(BYTE, lent, |[s]| bytes::source(s, ip)))
+    }
+    fn select4(&mut self, state: &[u8], present: u32, dst: u32, scope: u32) -> Reply {
+        let call = |[s]: [&mut [u8]; 1]| bytes::select4(s, present, dst, scope);
+        reply(self.0.lend(BYTE, [Read(state)], call))
+    }
+    fn left(&mut self, row: &[u8], now: u64) -> Reply {
+        let lent = [Read(row)];
+        reply(self.0.lend(BYTE, lent, |[r]| bytes::left(r, now)))
+    }
+}
+
+/// The library on words.
+#[derive(Default)]
+pub struct OnWords(Guard);
+
+impl WordPort for OnWords {
+    fn name(&self) -> String {
+        named("the library on words", &self.0)
+    }
+    fn call(&mut self, call: &Call, state: &mut [u32], buffer: &mut [u32]) -> Reply {
+        let given = &mut self.0;
+        let lent = call.lent().unwrap_or(&[]);
+        reply(match *call {
+            Call::Up { now } => given.lend(WORD, [Write(state), Write(buffer)], |[s, e]| {
+                words::up(s, e, now)
+            }),
+            Call::Down => given.lend(WORD, [Write(state), Write(buffer)], |[s, e]| {
+                words::down(s, e)
+            }),
+            Call::Expire { now } => {
+                let lent = [Write(state), Write(buffer)];
+                given.lend(WORD, lent, |[s, e]| words::expire(s, e, now))
+            }
+            Call::AddV4 { now, .. } => {
+                let lent = [Write(state), Read(lent), Write(buffer)];
+                given.lend(WORD, lent, |[s, r, e]| words::add_v4(s, r, e, now))
+            }
+            Call::DelV4 { .. } => {
+                let lent = [Write(state), Read(lent), Write(buffer)];
+                given.lend(WORD, lent, |[s, r, e]| words::del_v4(s, r, e))
+            }
+            Call::AddRoute4 { .. } => {
+                let lent = [Write(state), Read(lent), Write(buffer)];
+                given.lend(WORD, lent, |[s, r, e]| words::add_route4(s, r, e))
+            }
+            Call::DelRoute4 { .. } => {
+                let lent = [Write(state), Read(lent), Write(buffer)];
+                given.lend(WORD, lent, |[s, r, e]| words::del_route4(s, r, e))
+            }
+            Call::Dump4 => given.lend(WORD, [Read(state), Write(buffer)], |[s, l]| {
+                words::dump4(s, l)
+            }),
+            Call::Lookup4 { ip } => {
+                let lent = [Read(state), Write(buffer)];
+                given.lend(WORD, lent, |[s, r]| words::lookup4(s, r, ip))
+            }
+            Call::Lookup4Flow { ip, tos, oif } => {
+                let lent = [Read(state), Write(buffer)];
+                given.lend(WORD, lent, |[s, r]| words::lookup4_flow(s, r, ip, tos, oif))
+            }
+            Call::Local4 { ip } => given.lend(WORD, [Read(state)], |[s]| words::local4(s, ip)),
+            Call::Source4 { ip, .. } => {
+                let lent = [Read(state), Read(lent)];
+                given.lend(WORD, lent, |[s, r]| words::source4(s, r, ip))
+            }
+            Call::Source { ip } => given.lend(WORD, [Read(state)], |[s]| words::source(s, ip)),
+            Call::Select4 {
+                present,
+                dst,
+                scope,
+            } => {
+                let lent = [Read(state)];
+                given.lend(WORD, lent, |[s]| words::select4(s, present, dst, scope))
+            }
+            Call::Left { now, .. } => given.lend(WORD, [Read(lent)], |[r]| words::left(r, now)),
+        })
+    }
+}

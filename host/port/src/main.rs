@@ -1,0 +1,190 @@
+//! Holds the linked library against the Rust: on bytes, on words, and
+//! through `Addresses`. The exit status is 0 only if nothing was found.
+mod guarded;
+mod library;
+mod records;
+mod typed;
+
+use library::{OnBytes, OnWords, exported};
+use oracle::call::{KINDS, NAMES};
+use oracle::campaign::{Campaign, Kinds, Summary};
+use oracle::port::{Bytes, Port};
+use std::process::ExitCode;
+use std::time::{Duration, Instant, SystemTime};
+use typed::Typed;
+
+const USAGE: &str = "usage: port [OPTION VALUE]..
+  --seconds S        generated cases and pairs for S seconds (60 if nothing
+                     is said), in place of counts
+  --cases N          N generated cases, and
+  --pairs N          N pairs of runs
+  --seed N           where they come from; a fresh seed if it isn't given
+  --calls A,B,..     only these calls (then no pairs)
+  --boundary WHICH   bytes, words or addresses; all if it isn't given";
+
+/// Where `local4` stands among the calls.
+const LOCAL4: usize = 10;
+
+/// What comes between two looks at the clock.
+const BATCH: usize = 500;
+const PAIRS_PER_BATCH: usize = 3;
+
+struct Options {
+    seconds: u64,
+    counts: Option<(usize, usize)>,
+    seed: u64,
+    calls: Kinds,
+    /// One of [`BOUNDARIES`], or all.
+    boundary: Option<String>,
+}
+
+const BOUNDARIES: [&str; 3] = ["bytes", "words", "addresses"];
+
+fn main() -> ExitCode {
+    let arguments: Vec<String> = std::env::args().skip(1).collect();
+    match options(&arguments).and_then(|options| run(&options)) {
+        Ok(()) => ExitCode::SUCCESS,
+        Err(message) => {
+            println!("{message}");
+            ExitCode::FAILURE
+        }
+    }
+}
+
+fn options(arguments: &[String]) -> Result<Options, String> {
+    let mut options = Options {
+        seconds: 60,
+        counts: None,
+        seed: fresh(),
+        calls: [true; KINDS],
+        boundary: None,
+    };
+    if !arguments.len().is_multiple_of(2) {
+        return Err(USAGE.to_string());
+    }
+    for pair in arguments.chunks_exact(2) {
+        let value = &pair[1];
+        let (cases, pairs) = options.counts.unwrap_or_default();
+        match pair[0].as_str() {
+            "--seconds" => options.seconds = number(value)?,
+            "--cases" => options.counts = Some((number(value)?, pairs)),
+            "--pairs" => options.counts = Some((cases, number(value)?)),
+            "--seed" => options.seed = number(value)?,
+            "--calls" => options.calls = kinds(value)?,
+            "--boundary" if BOUNDARIES.contains(&value.as_str()) => {
+                options.boundary = Some(value.clone());
+            }
+            _ => return Err(USAGE.to_string()),
+        }
+    }
+    Ok(options)
+}
+
+fn number<T: std::str::FromStr>(text: &str) -> Result<T, String> {
+    text.parse()
+        .map_err(|_| format!("not a number: {text}\n{USAGE}"))
+}
+
+fn kinds(text: &str) -> Result<Kinds, String> {
+    let mut kinds = [false; KINDS];
+    for name in text.split(',') {
+        let kind = NAMES.iter().position(|known| *known == name);
+        kinds[kind.ok_or_else(|| format!("no such call: {name}\n{USAGE}"))?] = true;
+    }
+    Ok(kinds)
+}
+
+/// A seed that another run will not have.
+fn fresh() -> u64 {
+    let now = SystemTime::now().duration_since(SystemTime::UNIX_EPOCH);
+    now.map_or(1, |d| d.as_nanos() as u64)
+}
+
+fn run(options: &Options) -> Result<(), String> {
+    println!("interface.rs: sha256 {}", reference::INTERFACE_SHA256);
+    println!("library: {}", naskrefim::LIBRARY);
+    println!("seed {}", options.seed);
+    let on_bytes = exported(naskrefim::bytes::EXPORTED, "interface4_");
+    let on_words = exported(naskrefim::words::EXPORTED, "interface4w_");
+    // a state's words are taken up by way of one call
+    let typed = on_words.map(|there| there && on_words[LOCAL4]);
+    let mut ports: [(Box<dyn Port>, Kinds); 3] = [
+        (Box::new(OnBytes::default()), on_bytes),
+        (Box::new(Bytes(OnWords::default())), on_words),
+        (Box::new(Bytes(Typed::default())), typed),
+    ];
+    let mut campaign = Campaign::new(options.seed);
+    let mut any = false;
+    for (name, (port, there)) in BOUNDARIES.iter().zip(&mut ports) {
+        if options.boundary.as_ref().is_none_or(|asked| asked == name) {
+            let kinds = both(name, options.calls, *there);
+            any |= kinds.contains(&true);
+            campaign = campaign.with(&mut **port, kinds);
+        }
+    }
+    if !any {
+        return Err("the linked library has none of these calls".to_string());
+    }
+    let begin = Instant::now();
+    let found = compare(&mut campaign, options, begin);
+    say(&campaign.summary, begin.elapsed(), options.seed);
+    found.inspect(|()| println!("port: nothing found"))
+}
+
+fn compare(campaign: &mut Campaign, options: &Options, begin: Instant) -> Result<(), String> {
+    campaign.by_hand()?;
+    if let Some((cases, pairs)) = options.counts {
+        campaign.cases(cases)?;
+        return campaign.pairs(pairs);
+    }
+    while begin.elapsed() < Duration::from_secs(options.seconds) {
+        campaign.cases(BATCH)?;
+        campaign.pairs(PAIRS_PER_BATCH)?;
+    }
+    Ok(())
+}
+
+/// The calls asked for that are there; says which are not.
+fn both(what: &str, asked: Kinds, there: Kinds) -> Kinds {
+    let mut kinds = asked;
+    let mut missing = Vec::new();
+    for (i, kind) in kinds.iter_mut().enumerate() {
+        if *kind && !there[i] {
+            *kind = false;
+            missing.push(NAMES[i]);
+        }
+    }
+    if !missing.is_empty() {
+        println!(
+            "on {what}: NOT COMPARED, not in the library: {}",
+            missing.join(", ")
+        );
+    }
+    kinds
+}
+
+fn say(summary: &Summary, time: Duration, seed: u64) {
+    for name in NAMES {
+        let answers = summary
+            .answers
+            .iter()
+            .filter(|((call, _), _)| *call == name);
+        let counts: Vec<(u32, usize)> = answers.map(|((_, n), k)| (*n, *k)).collect();
+        let text: Vec<String> = counts.iter().map(|(n, k)| format!("{n}: {k}")).collect();
+        let all: usize = counts.iter().map(|(_, k)| k).sum();
+        if all > 0 {
+            println!("{name:13} {all:8} cases ({})", text.join(", "));
+        }
+    }
+    println!(
+        "{} calls by hand, {} cases; {} pairs of runs, counted for each boundary ({} more left \
+         out for want of space); {} calls of the library in {:.1} s, {:.0} a second; seed {seed}",
+        summary.by_hand,
+        summary.cases,
+        summary.pairs,
+        summary.no_space,
+        summary.calls,
+        time.as_secs_f64(),
+        summary.calls as f64 / time.as_secs_f64().max(1e-9)
+    );
+}
