@@ -8,10 +8,11 @@ use mathlib.Core.List.{List, [], _∷_, _++_, map, append-nil, append-assoc}
 use mathlib.Core.Option.{Option, none, some}
 use native.Mathlib.Omega.{arith}
 use native.Mathlib.Numerals.{add-one}
-use lib.Dec.{eqb}
+use lib.Dec.{eqb, ltb}
+use borrow.Author.Tests.{lt-ltb, le-ltb}
 use lib.ListN.{length, getD, take, drop, set, length-set, take-append-drop, length-append}
 use lib.Seq.{drop-cons, set-split, take-all, take-at, length-take-le}
-use Rattle.lists.specs.Lists.{Row, any, keep, first, until, onward, removeFirst, eqRow}
+use Rattle.lists.specs.Lists.{Row, all, any, keep, first, until, onward, removeFirst, eqRow}
 use Rattle.lists.specs.All.{or-false, or-left, or-right, any-none, and-iff, test-case, eqRow-refl, fails, true-false}
 use Rattle.lists.specs.At.{all-at}
 use Rattle.lists.specs.Count.{tick, tick-one, tick-none, count, count-append, length-removeFirst, length-removeFirst-most}
@@ -233,3 +234,65 @@ module _ (allowance now : ℕ) where
         let back : l ++ [] ≡ l = append-nil l in
         like-trans (like-eq (expire-last allowance now st (ap (first (due allowance now)) (sym back) ∙ first-behind l [] whole)))
         (fade-stays st (ap fadedList (sym back) ∙ faded-front l [] whole ∙ back) (ap toldOf (sym back) ∙ told-front l [] whole))
+
+  -- ---- a turn
+  -- what comes of the address at i
+  unfoldable pub expireTurn : ℕ → State → Out
+  expireTurn i st =
+      cond (due allowance now (getD (st .addresses) i [])) (removeV4 (getD (st .addresses) i []) st)
+      (cond (fades allowance now (getD (st .addresses) i []))
+      (becomes (withAddresses (set (st .addresses) i (faded (getD (st .addresses) i []))) st) (newAddr4 (faded (getD (st .addresses) i [])) ∷ []))
+      (stays st))
+
+  -- of the addresses those before i don't stir
+  pub record Quiet (i : ℕ) (st : State) : Type 0 where
+    pub clean : any stirs (take i (st .addresses)) ≡ false
+    pub within : i ≤ length (st .addresses)
+
+-- the place that is next: the first one again where addresses went
+abbrev pub nextPlace : ℕ → ℕ → ℕ → ℕ
+nextPlace i before after = cond (ltb after before) 0 (i + 1)
+
+-- ---- a removal leaves fewer addresses
+through-fewer : (l : List Row) (st : State) → length ((through removeOne l st) .state .addresses) ≤ length (st .addresses)
+unfolding through also
+through-fewer [] st = omega arith
+through-fewer (b ∷ l) st =
+    omega (arith, through-fewer l ((removeOne b st) .state), ap length ((removeOne-removes b st) .rest), length-removeFirst-most (eqRow b) (st .addresses))
+
+pub removed-fewer : (a : Row) (st : State) → any (eqRow a) (st .addresses) ≡ true → length ((removeV4 a st) .state .addresses) < length (st .addresses)
+removed-fewer a st t =
+    let o = secondaries a st in
+    let parts : length ((removeV4 a st) .state .addresses) ≡ length ((also o (removeOne a)) .state .addresses) = ap (λ (s : State). length (s .addresses)) ((remove-parts a st) .leaves) in
+    let last : (also o (removeOne a)) .state .addresses ≡ removeFirst (eqRow a) (o .state .addresses) = also-state o (removeOne a) ∙ (removeOne-removes a (o .state)) .rest in
+    omega (arith, parts, ap length last, length-removeFirst (eqRow a) (o .state .addresses) (primary-there a st t), fewer-secondaries a st)
+  where
+    also-state : (o : Out) (f : State → Out) → (also o f) .state .addresses ≡ (f (o .state)) .state .addresses
+    also-state o f = unfold also in refl
+
+    fewer-secondaries : (a : Row) (st : State) → length ((secondaries a st) .state .addresses) ≤ length (st .addresses)
+    fewer-secondaries a st = unfold secondaries in through-fewer (keep (goesWith a) (st .addresses)) st
+
+module _ (allowance now : ℕ) (i : ℕ) (st : State) (h : Quiet allowance now i st) (fit : all fitAddress (st .addresses) ≡ true) (b : i < length (st .addresses)) where
+  abbrev here : Row
+  here = getD (st .addresses) i []
+
+  -- what is left is expire, and the front doesn't stir
+  pub expire-turn : (j : ℕ) → j ≡ nextPlace i (length (st .addresses)) (length ((expireTurn allowance now i st) .state .addresses))
+      → Like (expire allowance now st) (also (expireTurn allowance now i st) (expire allowance now)) × Quiet allowance now j ((expireTurn allowance now i st) .state)
+  unfolding expireTurn
+  expire-turn j q =
+      test-case (due allowance now here)
+      (λ d.
+      let fewer = removed-fewer here st (any-here (eqRow here) (st .addresses) i [] b (eqRow-refl here)) in
+      let none : j ≡ 0 = q ∙ rw (d, lt-ltb (length ((removeV4 here st) .state .addresses)) (length (st .addresses)) fewer) in
+      rw (none, d) (expire-due allowance now st i (h .clean) b d, record { clean = refl; within = omega arith }))
+      (λ d. test-case (fades allowance now here)
+      (λ e.
+      let f : fitAddress here ≡ true = all-at fitAddress i (st .addresses) [] b fit in
+      let same : length (set (st .addresses) i (faded here)) ≡ length (st .addresses) = length-set (st .addresses) i (faded here) in
+      let next : j ≡ i + 1 = q ∙ rw (d, e, le-ltb (length (set (st .addresses) i (faded here))) (length (st .addresses)) (omega arith)) in
+      rw (next, d, e) (expire-fades allowance now st i (h .clean) b f d e, record { clean = fades-clean allowance now st i (h .clean) b f d e; within = omega arith }))
+      (λ e.
+      let next : j ≡ i + 1 = q ∙ rw (d, e, le-ltb (length (st .addresses)) (length (st .addresses)) (omega arith)) in
+      rw (next, d, e) (like-sym (stays-also st (expire allowance now)), record { clean = front-more (stirs allowance now) i (st .addresses) [] (h .clean) b (rw (d, e)); within = omega arith })))

@@ -63,7 +63,7 @@ still-there a x l n h =
 
 module _ (a : Row) where
   -- ---- a removal, in two parts
-  pub secondaries : State → Out
+  unfoldable pub secondaries : State → Out
   secondaries st = through removeOne (keep (goesWith a) (st .addresses)) st
 
   pub remove-parts : (st : State) → Like (removeV4 a st) (also (secondaries st) (removeOne a))
