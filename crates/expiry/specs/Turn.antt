@@ -13,7 +13,7 @@ use borrow.Author.Tests.{lt-ltb, le-ltb}
 use lib.ListN.{length, getD, take, drop, set, length-set, take-append-drop, length-append}
 use lib.Seq.{drop-cons, set-split, take-all, take-at, length-take-le}
 use Rattle.lists.specs.Lists.{Row, all, any, keep, first, until, onward, removeFirst, eqRow}
-use Rattle.lists.specs.All.{or-false, or-left, or-right, any-none, and-iff, test-case, eqRow-refl, fails, true-false}
+use Rattle.lists.specs.All.{or-false, or-left, or-right, any-none, and-iff, test-case, cond-case, eqRow-refl, fails, true-false}
 use Rattle.lists.specs.At.{all-at}
 use Rattle.lists.specs.Count.{tick, tick-one, tick-none, count, count-append, length-removeFirst, length-removeFirst-most}
 use Rattle.life.specs.Life.{reached, clock}
@@ -217,16 +217,6 @@ module _ (allowance now : ℕ) where
             in
             rw there (any-joined stirs (take i l) (faded a ∷ []) clean (rw two))
 
-        -- and it counts no longer
-        pub fades-lighter : 1 + weight later ≤ weight st
-        unfolding fades
-        fades-lighter =
-            let alive : live a ≡ true = (simp and-iff at e) .0 .1 in
-            let dead : live (faded a) ≡ false = ap not (faded-marked a f) in
-            let one : count live l ≡ count live (take i l) + count live (a ∷ rest) = ap (count live) (sym (cut l i b)) ∙ count-append live (take i l) (a ∷ rest) in
-            let two : count live (set l i (faded a)) ≡ count live (take i l) + count live (faded a ∷ rest) = ap (count live) split ∙ count-append live (take i l) (faded a ∷ rest) in
-            omega (arith, one, two, tick-one (live a) alive, tick-none (live (faded a)) dead, length-set l i (faded a))
-
     -- none is left
     pub expire-none : length l ≤ i → Like (expire allowance now st) (stays st)
     expire-none b =
@@ -296,3 +286,25 @@ module _ (allowance now : ℕ) (i : ℕ) (st : State) (h : Quiet allowance now i
       (λ e.
       let next : j ≡ i + 1 = q ∙ rw (d, e, le-ltb (length (st .addresses)) (length (st .addresses)) (omega arith)) in
       rw (next, d, e) (like-sym (stays-also st (expire allowance now)), record { clean = front-more (stirs allowance now) i (st .addresses) [] (h .clean) b (rw (d, e)); within = omega arith })))
+
+-- one that fades counts no longer
+pub live-lighter : (allowance now : ℕ) (st : State) (i : ℕ) → i < length (st .addresses) → fitAddress (getD (st .addresses) i []) ≡ true → fades allowance now (getD (st .addresses) i []) ≡ true
+    → 1 + weight (withAddresses (set (st .addresses) i (faded (getD (st .addresses) i []))) st) ≤ weight st
+unfolding fades
+live-lighter allowance now st i b f e =
+    let l = st .addresses in
+    let a = getD l i [] in
+    let rest = drop (suc i) l in
+    let alive : live a ≡ true = (simp and-iff at e) .0 .1 in
+    let dead : live (faded a) ≡ false = ap not (faded-marked a f) in
+    let one : count live l ≡ count live (take i l) + count live (a ∷ rest) = ap (count live) (sym (cut allowance now l i b)) ∙ count-append live (take i l) (a ∷ rest) in
+    let two : count live (set l i (faded a)) ≡ count live (take i l) + count live (faded a ∷ rest) = ap (count live) (set-split l i (faded a) b) ∙ count-append live (take i l) (faded a ∷ rest) in
+    omega (arith, one, two, tick-one (live a) alive, tick-none (live (faded a)) dead, length-set l i (faded a))
+
+pub turn-fewer : (allowance now i : ℕ) (st : State) → i < length (st .addresses) → length ((expireTurn allowance now i st) .state .addresses) ≤ length (st .addresses)
+unfolding expireTurn
+turn-fewer allowance now i st b =
+    let a = getD (st .addresses) i [] in
+    cond-case (λ (o : Out). length (o .state .addresses) ≤ length (st .addresses)) (due allowance now a)
+    (λ d. omega (arith, removed-fewer a st (any-here (eqRow a) (st .addresses) i [] b (eqRow-refl a))))
+    (λ d. cond-case (λ (o : Out). length (o .state .addresses) ≤ length (st .addresses)) (fades allowance now a) (λ e. omega (arith, length-set (st .addresses) i (faded a))) (λ e. omega arith))

@@ -81,23 +81,18 @@ fn turn(
 }
 
 // The place that is next: the first one again where addresses went.
-fn next(i: usize, before: usize, after: usize) -> usize
+fn next(i: usize, was: usize, left: usize) -> usize
     requires { ⌜ i < 64 ⌝ }
-    ensures { λ r. ⌜ r ≡ nextPlace i before after ⌝ }
+    ensures { λ r. ⌜ r ≡ nextPlace i was left ⌝ }
 {
-    if after < before {
+    if left < was {
         return 0;
     }
     i + 1
 }
 
 // Every address that is due goes, each that fades is marked; the number of rows told.
-pub fn expire(
-    s: &mut [u32],
-    ev: &mut [u32],
-    allowance: Nanoseconds,
-    clock: Nanoseconds,
-) -> usize
+pub fn expire(s: &mut [u32], ev: &mut [u32], allowance: Nanoseconds, clock: Nanoseconds) -> usize
     requires { ⌜ Ready weight (now s) (now ev) ⌝ }
     ensures { λ r. ⌜ ((st : State) → Fits weight st (now (s .entry)) (now (ev .entry)) → Step weight st (expire (allowance .0) (clock .0) st) (now (s .exit)) (now (ev .entry)) (now (ev .exit)) r) ⌝ }
 {

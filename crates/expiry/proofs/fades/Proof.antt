@@ -1,3 +1,8 @@
+use Rattle.expiry.specs.Loop.{fades-is}
+use Rattle.life.specs.declared.Life.{Life}
+use Rattle.life.specs.Life.{reached}
+use mathlib.Core.Bool.{Bool}
+use mathlib.Core.Path.{_≡_, refl, sym, ap, _∙_}
 use borrow.Author.Needs.{needs}
 use Rattle.expiry.proofs.fades.Statement.{statement}
 use Rattle.expiry.proofs.fades.Tie as tie
@@ -24,7 +29,10 @@ reached-requires c κs = search needs
 
 -- src/lib.rt:32:1
 returns : tie.Need-returns
-returns c = search needs
+returns c =
+    let a = c .before .before .before .before .before .before .args in
+    fades-is (a .allowance .0) (a .clock .0) (a .a .now) (c .reached .result)
+    (c .reached .ensures ∙ ap (λ (l : Life). reached (a .allowance .0) (l .preferred .0) (l .changed .0) (a .clock .0)) (c .before .before .life-of .ensures))
 
 pub fades-spec : {M : Type 1} → statement M
 fades-spec =
