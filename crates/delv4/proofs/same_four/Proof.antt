@@ -1,0 +1,16 @@
+use Rattle.delv4.specs.Asked.{same-four}
+use native.Mathlib.Omega.{arith}
+use borrow.Author.Needs.{needs}
+use Rattle.delv4.proofs.same_four.Statement.{statement}
+use Rattle.delv4.proofs.same_four.Tie as tie
+use Rattle.delv4.proofs.same_four.Reads as reads
+use Rattle.delv4.proofs.same_four.Lts as lts
+
+-- src/lib.rt:25:1
+returns : tie.Need-returns
+returns c =
+    let a = c .args in
+    same-four (a .a) (a .b) (a .c) (a .d) (a .p) (a .q) (a .r) (a .s) (omega arith) (omega arith) (omega arith) (omega arith) (omega arith) (omega arith) (omega arith) (omega arith)
+
+pub same-four-spec : {M : Type 1} → statement M
+same-four-spec = tie.close (tie.spec returns)

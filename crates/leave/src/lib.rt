@@ -1,0 +1,117 @@
+// What goes with an address: those of its routes that none wants, the main rows that fall with it, the device's routes.
+ghost use mathlib.Core.Path.{_≡_};
+ghost use mathlib.Core.Bool.{Bool};
+ghost use mathlib.Core.List.{List};
+ghost use Prim.Native.Nat.{ℕ, _+_, _*_, _≤_, _<_};
+ghost use lib.ListN.{length};
+ghost use Rattle.lists.specs.Lists.{Row, any};
+ghost use Rattle.lists.specs.Laid.{Laid, Lays};
+ghost use Rattle.layout.specs.Address.{fitAddress};
+ghost use Rattle.definition.specs.State.{State, through};
+ghost use Rattle.definition.specs.Reference.Removal.{wanted};
+ghost use Rattle.definition.specs.Kept.Shrinking.{weight};
+ghost use Rattle.state.specs.Holds.{Holds, Valid};
+ghost use Rattle.events.specs.Step.{Fits, Ready, Step};
+ghost use Rattle.leave.specs.One.{unlessWanted, loses, fallFrom};
+ghost use Rattle.leave.specs.Turns.{anyRow, routesGo};
+
+const KIND_LOCAL: u32 = 2;
+
+// Whether some address wants the route r.
+fn wanted_in(s: &[u32], r: &[u32]) -> bool
+    requires { ⌜ Valid (now s) ⌝ }
+    requires { ⌜ length (now r) ≡ 32 ⌝ }
+    ensures { λ b. ⌜ ((st : State) → Holds (now (s .entry)) st → b ≡ wanted (st .addresses) (now (r .entry))) ⌝ }
+{
+    wanted::wanted(view::addresses(s), state::address_count(s), r)
+}
+
+// A route goes unless an address wants it.
+fn unless_wanted(s: &mut [u32], ev: &mut [u32], r: &[u32]) -> usize
+    requires { ⌜ Ready weight (now s) (now ev) ⌝ }
+    requires { ⌜ length (now r) ≡ 32 ⌝ }
+    ensures { λ n. ⌜ ((st : State) → Fits weight st (now (s .entry)) (now (ev .entry)) → Step weight st (unlessWanted (now (r .entry)) st) (now (s .exit)) (now (ev .entry)) (now (ev .exit)) n) ⌝ }
+{
+    if wanted_in(s, r) {
+        return 0;
+    }
+    deletion::kernel_del4(s, ev, r)
+}
+
+// The m routes in rows, one after the other.
+fn delete_unwanted(s: &mut [u32], ev: &mut [u32], rows: &[u32], m: usize) -> usize
+    requires { ⌜ Ready weight (now s) (now ev) ⌝ }
+    requires { ⌜ (length (now rows) ≡ 32 * m) × Lays 32 anyRow (now rows) ⌝ }
+    ensures { λ n. ⌜ ((st : State) → Fits weight st (now (s .entry)) (now (ev .entry)) → (l : List Row) → Laid 32 anyRow (now (rows .entry)) l → Step weight st (through unlessWanted l st) (now (s .exit)) (now (ev .entry)) (now (ev .exit)) n) ⌝ }
+{
+    let mut j = 0usize;
+    let mut k = 0usize;
+    while j < m {
+        let at = 32 * j;
+        let r = &rows[at..at + 32];
+        k += unless_wanted(s, &mut ev[34 * k..], r);
+        j += 1;
+    }
+    k
+}
+
+// Whether r is a /32 of a local route that no address wants.
+fn lost(s: &[u32], r: &[u32]) -> bool
+    requires { ⌜ Valid (now s) ⌝ }
+    requires { ⌜ length (now r) ≡ 32 ⌝ }
+    ensures { λ b. ⌜ ((st : State) → Holds (now (s .entry)) st → b ≡ loses (st .addresses) (now (r .entry))) ⌝ }
+{
+    let host = (r[5] == KIND_LOCAL) & (r[2] == 32);
+    if !host {
+        return false;
+    }
+    !wanted_in(s, r)
+}
+
+// Whether such a route is among the m in rows.
+fn loses(s: &[u32], rows: &[u32], m: usize) -> bool
+    requires { ⌜ Valid (now s) ⌝ }
+    requires { ⌜ (length (now rows) ≡ 32 * m) × Lays 32 anyRow (now rows) ⌝ }
+    ensures { λ b. ⌜ ((st : State) → Holds (now (s .entry)) st → (l : List Row) → Laid 32 anyRow (now (rows .entry)) l → b ≡ any (loses (st .addresses)) l) ⌝ }
+{
+    let mut j = 0usize;
+    while j < m {
+        let at = 32 * j;
+        let r = &rows[at..at + 32];
+        if lost(s, r) {
+            return true;
+        }
+        j += 1;
+    }
+    false
+}
+
+// The main rows with the preferred source ip fall if a local route of it is lost and it is local no more.
+fn fall(s: &mut [u32], ev: &mut [u32], ip: u32, lost: bool) -> usize
+    requires { ⌜ Ready weight (now s) (now ev) ⌝ }
+    ensures { λ n. ⌜ ((st : State) → Fits weight st (now (s .entry)) (now (ev .entry)) → Step weight st (fallFrom ip lost st) (now (s .exit)) (now (ev .entry)) (now (ev .exit)) n) ⌝ }
+{
+    if !lost {
+        return 0;
+    }
+    if view::local4(s, ip) {
+        return 0;
+    }
+    if !tables::listed(s, tables::MAIN) {
+        return 0;
+    }
+    deletion::drop_strays(s, ev, ip)
+}
+
+// The routes of an address ip that is gone, m in rows, and what goes with them.
+pub fn take_routes(s: &mut [u32], ev: &mut [u32], rows: &[u32], m: usize, ip: u32) -> usize
+    requires { ⌜ Ready weight (now s) (now ev) ⌝ }
+    requires { ⌜ (length (now rows) ≡ 32 * m) × Lays 32 anyRow (now rows) ⌝ }
+    ensures { λ n. ⌜ ((st : State) → Fits weight st (now (s .entry)) (now (ev .entry)) → (l : List Row) → Laid 32 anyRow (now (rows .entry)) l → Step weight st (routesGo ip l st) (now (s .exit)) (now (ev .entry)) (now (ev .exit)) n) ⌝ }
+{
+    let k = delete_unwanted(s, ev, rows, m);
+    let lost = loses(s, rows, m);
+    let n = fall(s, &mut ev[34 * k..], ip, lost);
+    retain::disable(s);
+    k + n
+}
