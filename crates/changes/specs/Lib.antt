@@ -1,3 +1,4 @@
 pub mod Answer
 pub mod Laws
 pub mod Requests
+pub mod Steps

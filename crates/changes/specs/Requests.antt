@@ -25,7 +25,7 @@ use Rattle.changes.specs.Answer.{doneOf, publicOf}
 use Rattle.changes.specs.Laws.{Answers, answers-refused, change-refused, change-made}
 
 -- an equation of results gives what a call promises
-answers-by : (x y : Result) (w′ ev ev′ : List ℕ) (r : Done) → x ≡ y → r ≡ doneOf (y .reply) → w′ ≡ y .words → ev′ ≡ put 0 (flat (y .reply .rows)) ev → Answers x w′ ev ev′ r
+pub answers-by : (x y : Result) (w′ ev ev′ : List ℕ) (r : Done) → x ≡ y → r ≡ doneOf (y .reply) → w′ ≡ y .words → ev′ ≡ put 0 (flat (y .reply .rows)) ev → Answers x w′ ev ev′ r
 answers-by x y w′ ev ev′ r e a b d =
     record {
       answer = a ∙ ap (λ (z : Result). doneOf (z .reply)) (sym e);

@@ -1,10 +1,11 @@
 // The calls of the host that change a state, on lent words. Each refuses unfit input with a number and then changes nothing.
+use life::Nanoseconds;
 ghost use mathlib.Core.Path.{_≡_};
 ghost use lib.ListN.{length};
 ghost use Rattle.lists.specs.Lists.{flat, put};
 ghost use mathlib.Core.Bool.{_&&_};
-ghost use Rattle.layout.specs.Request.{fitAddRoute4, fitDelRoute4, addRoute4Size, delRoute4Size};
-ghost use Rattle.definition.specs.Step.{downCall, addRoute4Call, delRoute4Call, requestIs};
+ghost use Rattle.layout.specs.Request.{fitAddRoute4, fitDelRoute4, fitDelV4, addRoute4Size, delRoute4Size, delV4Size};
+ghost use Rattle.definition.specs.Step.{downCall, expireCall, delV4Call, addRoute4Call, delRoute4Call, requestIs};
 ghost use Rattle.changes.specs.Answer.{doneOf, publicOf};
 
 // What a changing call answers: a refusal's number, or how many event rows it wrote.
@@ -26,6 +27,21 @@ pub fn down(state: &mut [u32], events: &mut [u32]) -> Done
     Done::Rows(0)
 }
 
+// The greatest clock to which the allowance can still be added.
+const CLOCK_LIMIT: u64 = 18446744073689551615;
+
+pub fn expire(state: &mut [u32], events: &mut [u32], clock: u64) -> Done
+    ensures { λ r. ⌜ r ≡ doneOf (expireCall (length (now (events .entry))) clock (now (state .entry)) .reply) ⌝ }
+    ensures { λ _. ⌜ now (state .exit) ≡ expireCall (length (now (events .entry))) clock (now (state .entry)) .words ⌝ }
+    ensures { λ _. ⌜ now (events .exit) ≡ put 0 (flat (expireCall (length (now (events .entry))) clock (now (state .entry)) .reply .rows)) (now (events .entry)) ⌝ }
+{
+    let n = interface::checked(state, 13056 <= events.len(), true, clock <= CLOCK_LIMIT);
+    if n != 0 {
+        return Done::Refused(n);
+    }
+    Done::Rows(expiry::expire(state, events, life::FUZZ, Nanoseconds(clock)))
+}
+
 // A request of its words that is fit.
 fn fit_add_route4(q: &[u32]) -> bool
     ensures { λ r. ⌜ r ≡ (requestIs addRoute4Size (now (q .entry)) && fitAddRoute4 (now (q .entry))) ⌝ }
@@ -43,6 +59,15 @@ fn fit_del_route4(q: &[u32]) -> bool
         return false;
     }
     fit::fit_del_route4(q)
+}
+
+fn fit_del_v4(q: &[u32]) -> bool
+    ensures { λ r. ⌜ r ≡ (requestIs delV4Size (now (q .entry)) && fitDelV4 (now (q .entry))) ⌝ }
+{
+    if q.len() != 11 {
+        return false;
+    }
+    fit::fit_del_v4(q)
 }
 
 // 203 where a list would pass its limit.
@@ -80,4 +105,23 @@ pub fn del_route4(state: &mut [u32], q: &[u32], events: &mut [u32]) -> Done
         return Done::Refused(n);
     }
     public_of(request::del_route4(state, events, q))
+}
+
+const NO_SUCH_ADDRESS: u32 = 99;
+
+pub fn del_v4(state: &mut [u32], q: &[u32], events: &mut [u32]) -> Done
+    ensures { λ r. ⌜ r ≡ doneOf (delV4Call (now (q .entry)) (length (now (events .entry))) (now (state .entry)) .reply) ⌝ }
+    ensures { λ _. ⌜ now (state .exit) ≡ delV4Call (now (q .entry)) (length (now (events .entry))) (now (state .entry)) .words ⌝ }
+    ensures { λ _. ⌜ now (events .exit) ≡ put 0 (flat (delV4Call (now (q .entry)) (length (now (events .entry))) (now (state .entry)) .reply .rows)) (now (events .entry)) ⌝ }
+{
+    let fit = fit_del_v4(q);
+    let n = interface::checked(state, (q.len() == 11) & (13056 <= events.len()), true, fit);
+    if n != 0 {
+        return Done::Refused(n);
+    }
+    let deleted = delv4::del_v4(state, events, q);
+    match deleted {
+        delv4::Deleted::Rows(k) => Done::Rows(k),
+        delv4::Deleted::Nothing => Done::Refused(NO_SUCH_ADDRESS),
+    }
 }

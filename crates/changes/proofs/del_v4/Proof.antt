@@ -1,0 +1,120 @@
+use mathlib.Core.Path.{refl, sym, ap, _∙_}
+use mathlib.Core.Bool.{_&&_}
+use lib.ListN.{length}
+use Rattle.layout.specs.Request.{delV4Size, fitDelV4}
+use Rattle.definition.specs.Words.{decode}
+use Rattle.definition.specs.Step.{delV4Call, requestIs, eventsFit}
+use Rattle.definition.specs.Reference.Removal.{delV4}
+use Rattle.changes.specs.Answer.{deletedOf}
+use Rattle.changes.specs.Requests.{by-fit, request-no, request-fits}
+use Rattle.changes.specs.Steps.{ready-buffer, roomy-buffer, deletes-answers}
+use borrow.Author.Needs.{needs}
+use Rattle.changes.proofs.del_v4.Statement.{statement}
+use Rattle.changes.proofs.del_v4.Tie as tie
+use Rattle.changes.proofs.del_v4.Reads as reads
+use Rattle.changes.proofs.del_v4.Lts as lts
+use Rattle.changes.proofs.fit_del_v4.Reads as fit-del-v4-reads
+use Rattle.delv4.proofs.del_v4.Reads as del-v4-reads
+use Rattle.interface.proofs.checked.Reads as checked-reads
+
+-- src/lib.rt:117:9
+fit-del-v4-requires : tie.Need-fit-del-v4-requires
+fit-del-v4-requires c κs = search needs
+
+-- src/lib.rt:118:9
+checked-requires : tie.Need-checked-requires
+checked-requires c κs = search needs
+
+-- src/lib.rt:120:9
+same-length : tie.Need-same-length
+same-length c = search needs
+
+-- src/lib.rt:120:9
+returns : tie.Need-returns
+unfolding delV4Call
+returns c =
+    let k = c .before in
+    let i = k .before .before in
+    let a = i .before .before .before .before .args in
+    let x = request-no (a .q .now) (a .state .now) (a .events .now) (k .checked .result) delV4Size (fitDelV4 (a .q .now)) (i .fit-del-v4 .result) (delV4 (a .q .now)) (i .fit-del-v4 .ensures) (k .checked .ensures) (c .if1 .taken) in
+    (x .answer, (x .words, x .events))
+
+-- src/lib.rt:122:9
+del-v4-requires : tie.Need-del-v4-requires
+del-v4-requires c κs =
+    let e = c .before .before in
+    let k = e .before in
+    let i = k .before .before in
+    let a = i .before .before .before .before .args in
+    let p = request-fits (a .q .now) (a .state .now) (a .events .now) (k .checked .result) delV4Size (fitDelV4 (a .q .now)) (i .fit-del-v4 .result) (delV4 (a .q .now)) (i .fit-del-v4 .ensures) (k .checked .ensures) (e .if1 .left) in
+    (ready-buffer (requestIs delV4Size (a .q .now) && eventsFit (length (a .events .now))) (fitDelV4 (a .q .now)) (a .state .now) (a .events .now) (k .checked .result) (by-fit (a .q .now) (a .state .now) (a .events .now) (k .checked .result) delV4Size (fitDelV4 (a .q .now)) (i .fit-del-v4 .result) (delV4 (a .q .now)) (i .fit-del-v4 .ensures) (k .checked .ensures)) (e .if1 .left) (p .2), p .0)
+
+-- src/lib.rt:124:30
+enum-known-deleted : tie.Need-enum-known-deleted
+enum-known-deleted c = search needs
+
+-- src/lib.rt:125:36
+enum-told : tie.Need-enum-told
+enum-told c = search needs
+
+-- src/lib.rt:112:1
+same-length-2 : tie.Need-same-length-2
+same-length-2 c = search needs
+
+-- src/lib.rt:112:1
+same-length-3 : tie.Need-same-length-3
+same-length-3 c = search needs
+
+-- src/lib.rt:112:1
+returns-2 : tie.Need-returns-2
+unfolding delV4Call
+returns-2 c =
+    let y = c .before .before .before .before .before .before .before in
+    let e = y .before .before .before in
+    let k = e .before in
+    let i = k .before .before in
+    let a = i .before .before .before .before .args in
+    let p = request-fits (a .q .now) (a .state .now) (a .events .now) (k .checked .result) delV4Size (fitDelV4 (a .q .now)) (i .fit-del-v4 .result) (delV4 (a .q .now)) (i .fit-del-v4 .ensures) (k .checked .ensures) (e .if1 .left) in
+    let d = y .del-v4 .ensures (decode (a .state .now)) (roomy-buffer (requestIs delV4Size (a .q .now) && eventsFit (length (a .events .now))) (fitDelV4 (a .q .now)) (a .state .now) (a .events .now) (k .checked .result) (by-fit (a .q .now) (a .state .now) (a .events .now) (k .checked .result) delV4Size (fitDelV4 (a .q .now)) (i .fit-del-v4 .result) (delV4 (a .q .now)) (i .fit-del-v4 .ensures) (k .checked .ensures)) (e .if1 .left) (p .2)) in
+    let x = deletes-answers (a .q .now) (a .state .now) (a .events .now) (k .checked .result) (fitDelV4 (a .q .now)) (i .fit-del-v4 .result) (i .fit-del-v4 .ensures) refl (k .checked .ensures) (e .if1 .left) _ _ (y .del-v4 .result) d in
+    (ap deletedOf (sym (c .before .deleted .given .1)) ∙ x .answer, (x .words, x .events))
+
+-- src/lib.rt:112:1
+same-length-4 : tie.Need-same-length-4
+same-length-4 c = search needs
+
+-- src/lib.rt:112:1
+same-length-5 : tie.Need-same-length-5
+same-length-5 c = search needs
+
+-- src/lib.rt:112:1
+returns-3 : tie.Need-returns-3
+unfolding delV4Call
+returns-3 c =
+    let y = c .before .before .before .before .before .before in
+    let e = y .before .before .before in
+    let k = e .before in
+    let i = k .before .before in
+    let a = i .before .before .before .before .args in
+    let p = request-fits (a .q .now) (a .state .now) (a .events .now) (k .checked .result) delV4Size (fitDelV4 (a .q .now)) (i .fit-del-v4 .result) (delV4 (a .q .now)) (i .fit-del-v4 .ensures) (k .checked .ensures) (e .if1 .left) in
+    let d = y .del-v4 .ensures (decode (a .state .now)) (roomy-buffer (requestIs delV4Size (a .q .now) && eventsFit (length (a .events .now))) (fitDelV4 (a .q .now)) (a .state .now) (a .events .now) (k .checked .result) (by-fit (a .q .now) (a .state .now) (a .events .now) (k .checked .result) delV4Size (fitDelV4 (a .q .now)) (i .fit-del-v4 .result) (delV4 (a .q .now)) (i .fit-del-v4 .ensures) (k .checked .ensures)) (e .if1 .left) (p .2)) in
+    let x = deletes-answers (a .q .now) (a .state .now) (a .events .now) (k .checked .result) (fitDelV4 (a .q .now)) (i .fit-del-v4 .result) (i .fit-del-v4 .ensures) refl (k .checked .ensures) (e .if1 .left) _ _ (y .del-v4 .result) d in
+    (ap deletedOf (sym (c .enum-told .given .1)) ∙ x .answer, (x .words, x .events))
+
+pub del-v4-spec : {M : Type 1} → statement M
+del-v4-spec =
+    tie.close
+    (tie.spec
+    fit-del-v4-requires
+    checked-requires
+    same-length
+    returns
+    del-v4-requires
+    enum-known-deleted
+    enum-told
+    same-length-2
+    same-length-3
+    returns-2
+    same-length-4
+    same-length-5
+    returns-3)

@@ -1,0 +1,67 @@
+use lib.Dec.{leb}
+use lib.ListN.{length}
+use Rattle.definition.specs.Words.{decode}
+use Rattle.definition.specs.Step.{eventsFit, clockLimit}
+use Rattle.changes.specs.Steps.{expire-no, expire-room, expire-yes, ready-buffer, roomy-buffer}
+use borrow.Author.Needs.{needs}
+use Rattle.changes.proofs.expire.Statement.{statement}
+use Rattle.changes.proofs.expire.Tie as tie
+use Rattle.changes.proofs.expire.Reads as reads
+use Rattle.changes.proofs.expire.Lts as lts
+use Rattle.expiry.proofs.expire.Reads as expire-reads
+use Rattle.interface.proofs.checked.Reads as checked-reads
+
+-- src/lib.rt:38:9
+checked-requires : tie.Need-checked-requires
+checked-requires c κs = search needs
+
+-- src/lib.rt:40:9
+same-length : tie.Need-same-length
+same-length c = search needs
+
+-- src/lib.rt:40:9
+returns : tie.Need-returns
+returns c =
+    let k = c .before in
+    let a = k .before .before .before .before .args in
+    let x = expire-no (a .state .now) (a .events .now) (k .checked .result) (a .clock) (k .checked .ensures) (c .if1 .taken) in
+    (x .answer, (x .words, x .events))
+
+-- src/lib.rt:42:16
+expire-requires : tie.Need-expire-requires
+expire-requires c κs =
+    let e = c .before .before in
+    let k = e .before in
+    let a = k .before .before .before .before .args in
+    ready-buffer (eventsFit (length (a .events .now))) (leb (a .clock) clockLimit) (a .state .now) (a .events .now) (k .checked .result) (k .checked .ensures) (e .if1 .left) (expire-room (a .state .now) (a .events .now) (k .checked .result) (a .clock) (k .checked .ensures) (e .if1 .left))
+
+-- src/lib.rt:33:1
+same-length-2 : tie.Need-same-length-2
+same-length-2 c = search needs
+
+-- src/lib.rt:33:1
+same-length-3 : tie.Need-same-length-3
+same-length-3 c = search needs
+
+-- src/lib.rt:33:1
+returns-2 : tie.Need-returns-2
+returns-2 c =
+    let y = c .before .before .before .before in
+    let e = y .before .before .before in
+    let k = e .before in
+    let a = k .before .before .before .before .args in
+    let t = y .expire .ensures (decode (a .state .now)) (roomy-buffer (eventsFit (length (a .events .now))) (leb (a .clock) clockLimit) (a .state .now) (a .events .now) (k .checked .result) (k .checked .ensures) (e .if1 .left) (expire-room (a .state .now) (a .events .now) (k .checked .result) (a .clock) (k .checked .ensures) (e .if1 .left))) in
+    let x = expire-yes (a .state .now) (a .events .now) (k .checked .result) (a .clock) (k .checked .ensures) _ _ (y .expire .result) (e .if1 .left) t in
+    (x .answer, (x .words, x .events))
+
+pub expire-spec : {M : Type 1} → statement M
+expire-spec =
+    tie.close
+    (tie.spec
+    checked-requires
+    same-length
+    returns
+    expire-requires
+    same-length-2
+    same-length-3
+    returns-2)

@@ -1,0 +1,97 @@
+-- The answers of calls that only take away: their steps always keep to the limits, and the buffer has room for what they tell.
+use Prim.Native.Nat.{ℕ, _+_, _*_, _≤_}
+use native.Mathlib.Omega.{arith}
+use mathlib.Core.Path.{_≡_, refl, sym, ap, _∙_}
+use mathlib.Core.Bool.{Bool, true, _&&_}
+use mathlib.Core.List.{List}
+use lib.Dec.{leb}
+use lib.ListN.{length}
+use borrow.Author.Tests.{leb-true}
+use Rattle.lists.specs.Lists.{flat, put}
+use Rattle.lists.specs.Count.{count-most}
+use Rattle.lists.specs.All.{and-iff}
+use Rattle.life.specs.Life.{allowance}
+use Rattle.definition.specs.State.{State, Out}
+use Rattle.definition.specs.Words.{within, encode, decode}
+use Rattle.layout.specs.Request.{delV4Size, fitDelV4}
+use Rattle.definition.specs.Call.{written, refusal}
+use Rattle.definition.specs.Step.{Result, outcome, changing, expireCall, eventsFit, requestIs, clockLimit}
+use Rattle.definition.specs.Reference.Addresses.{Outcome, goes}
+use Rattle.definition.specs.Reference.Removal.{expire, delV4}
+use Rattle.definition.specs.Kept.Shrinking.{weight, live}
+use Rattle.definition.specs.Kept.Peaks.{expire-roomy, delV4-roomy}
+use Rattle.definition.specs.Kept.Encode.{Good, good-decode}
+use Rattle.state.specs.Holds.{Holds}
+use Rattle.events.specs.Step.{Fits, Ready, Step}
+use Rattle.interface.specs.Laws.{checked, passed, held}
+use Rattle.changes.specs.declared.Done.the-variants.{Refused, Rows}
+use Rattle.delv4.specs.declared.Deleted as Deleted
+use Rattle.delv4.specs.declared.Deleted.{Deleted}
+use Rattle.delv4.specs.Asked.{Deletes}
+use Rattle.changes.specs.Answer.{deletedOf}
+use Rattle.changes.specs.Laws.{Answers, answers-refused, change-refused, change-made, kept}
+use Rattle.changes.specs.Requests.{answers-by, by-fit}
+
+-- 384 rows suffice
+weight-few : (st : State) → Good st → weight st ≤ 384
+weight-few st g =
+    let k = simp and-iff at (g .limits) in
+    omega (arith, leb-true (length (st .addresses)) 64 (k .0 .0), leb-true (length (st .routes)) 256 (k .0 .1), count-most live (st .addresses))
+
+-- words that passed the checks, with a buffer of 384 rows
+pub roomy-buffer : (buffers request : Bool) (w ev : List ℕ) (n : ℕ) → n ≡ checked buffers true request w → n ≡ 0 → 13056 ≤ length ev → Fits weight (decode w) w ev
+roomy-buffer buffers request w ev n c z room =
+    let p = passed buffers true request w n c z in
+    record { holds = held buffers true request w n c z; room = omega (arith, weight-few (decode w) (good-decode w (p .long) (p .formed))) }
+
+pub ready-buffer : (buffers request : Bool) (w ev : List ℕ) (n : ℕ) → n ≡ checked buffers true request w → n ≡ 0 → 13056 ≤ length ev → Ready weight w ev
+ready-buffer buffers request w ev n c z room = record { state = decode w; fits = roomy-buffer buffers request w ev n c z room }
+
+made : (o : Out) (w : List ℕ) → within (o .peak) ≡ true → outcome (goes o) w ≡ record { reply = written (o .told); words = encode (o .state) }
+made o w h = rw h
+
+-- a step made is what a call answers
+pub step-answers : (x : Result) (st : State) (o : Out) (w w′ ev ev′ : List ℕ) (r : ℕ) → x ≡ outcome (goes o) w → within (o .peak) ≡ true → Step weight st o w′ ev ev′ r → Answers x w′ ev ev′ (Rows r)
+step-answers x st o w w′ ev ev′ r e h t =
+    answers-by x (record { reply = written (o .told); words = encode (o .state) }) w′ ev ev′ (Rows r) (e ∙ made o w h) (ap Rows (t .count)) (t .holds .words) (t .words)
+
+module _ (w ev : List ℕ) (n clock : ℕ) (c : n ≡ checked (eventsFit (length ev)) true (leb clock clockLimit) w) where
+  pub expire-no : (n ≡ 0 → ⊥) → Answers (expireCall (length ev) clock w) w ev ev (Refused n)
+  unfolding expireCall
+  expire-no h =
+      answers-refused (expireCall (length ev) clock w) w ev n h
+      (change-refused (eventsFit (length ev)) (leb clock clockLimit) (λ st. goes (expire allowance clock st)) w n c h)
+
+  pub expire-room : n ≡ 0 → 13056 ≤ length ev
+  expire-room z = leb-true 13056 (length ev) (passed (eventsFit (length ev)) true (leb clock clockLimit) w n c z .room)
+
+  pub expire-yes : (w′ ev′ : List ℕ) (r : ℕ) → n ≡ 0 → Step weight (decode w) (expire allowance clock (decode w)) w′ ev ev′ r → Answers (expireCall (length ev) clock w) w′ ev ev′ (Rows r)
+  unfolding expireCall
+  expire-yes w′ ev′ r z t =
+      let p = passed (eventsFit (length ev)) true (leb clock clockLimit) w n c z in
+      step-answers (expireCall (length ev) clock w) (decode w) (expire allowance clock (decode w)) w w′ ev ev′ r
+      (change-made (eventsFit (length ev)) (leb clock clockLimit) (λ st. goes (expire allowance clock st)) w n c z)
+      (expire-roomy allowance clock (decode w) (good-decode w (p .long) (p .formed))) t
+
+-- a deletion of an address: by what it comes to
+module _ (q w ev : List ℕ) (n : ℕ) (fitted flag : Bool) (k : flag ≡ (requestIs delV4Size q && fitted)) (fq : fitted ≡ fitDelV4 q)
+    (c : n ≡ checked (requestIs delV4Size q && eventsFit (length ev)) true flag w) (z : n ≡ 0) where
+  passing : n ≡ checked (requestIs delV4Size q && eventsFit (length ev)) true fitted w
+  passing = by-fit q w ev n delV4Size fitted flag (delV4 q) k c
+
+  asks : changing (requestIs delV4Size q && eventsFit (length ev)) fitted (delV4 q) w ≡ outcome (delV4 q (decode w)) w
+  asks = change-made (requestIs delV4Size q && eventsFit (length ev)) fitted (delV4 q) w n passing z
+
+  good : Good (decode w)
+  good =
+      let p = passed (requestIs delV4Size q && eventsFit (length ev)) true fitted w n passing z in
+      good-decode w (p .long) (p .formed)
+
+  pub deletes-answers : (w′ ev′ : List ℕ) (d : Deleted) → Deletes q (decode w) w′ ev ev′ d → Answers (changing (requestIs delV4Size q && eventsFit (length ev)) fitted (delV4 q) w) w′ ev ev′ (deletedOf d)
+  deletes-answers w′ ev′ (Deleted.the-variants.Rows r) t =
+      let roomy-here : within (t .out .peak) ≡ true = rw (t .is) at (delV4-roomy q (decode w) good) in
+      step-answers (changing (requestIs delV4Size q && eventsFit (length ev)) fitted (delV4 q) w) (decode w) (t .out) w w′ ev ev′ r
+      (asks ∙ ap (λ (o : Outcome). outcome o w) (t .is)) roomy-here (t .step)
+  deletes-answers w′ ev′ Deleted.the-variants.Nothing t =
+      answers-by (changing (requestIs delV4Size q && eventsFit (length ev)) fitted (delV4 q) w) (record { reply = refusal 99; words = encode (decode w) }) w′ ev ev′ (Refused 99)
+      (asks ∙ ap (λ (o : Outcome). outcome o w) (t .0) ∙ rw (good .limits) refl) refl (t .1 .words) (t .2 ∙ kept ev)
