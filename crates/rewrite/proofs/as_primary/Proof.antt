@@ -1,6 +1,6 @@
 use native.Mathlib.Omega.{arith}
 use lib.Dec.{lit<}
-use Rattle.address.specs.Bits.{clear-and}
+use Rattle.layout.specs.Bits.{clear-and}
 use borrow.Author.Needs.{needs}
 use Rattle.rewrite.proofs.as_primary.Statement.{statement}
 use Rattle.rewrite.proofs.as_primary.Tie as tie
