@@ -40,12 +40,11 @@ module _ (rows : List Row) (f : all fitRoute rows ≡ true) (k : ℕ) (e : k ≡
       (laid-length block-rows ∙ ap (λ (n : ℕ). 32 * n) (sym e), record { list = rows; laid = block-rows })
 
 -- ---- the first i of them are added
-abbrev pub Sofar : List ℕ → List ℕ → List ℕ → ℕ → List ℕ → List ℕ → ℕ → Type 0
-Sofar block s₀ ev₀ i s ev t =
-    (rows : List Row) → Laid 32 fitRoute block rows → AddsFrom (through kernelAdd4 (take i rows)) s₀ s ev₀ ev (Rows t)
+pub record Sofar (block s₀ ev₀ : List ℕ) (i : ℕ) (s ev : List ℕ) (t : ℕ) : Type 0 where
+  pub adds : (rows : List Row) → Laid 32 fitRoute block rows → AddsFrom (through kernelAdd4 (take i rows)) s₀ s ev₀ ev (Rows t)
 
 pub sofar-start : (block s ev : List ℕ) → Sofar block s ev 0 s ev 0
-sofar-start block s ev rows h st hs f = adds-start kernelAdd4 rows st hs
+sofar-start block s ev = record { adds = λ rows h st hs f. adds-start kernelAdd4 rows st hs }
 
 first-keep : (rows : List Row) (i : ℕ) → all fitRoute rows ≡ true → Keeps (through kernelAdd4 (take i rows))
 first-keep rows i f = through-keeps kernelAdd4 fitRoute (take i rows) kernelAdd4-keeps (all-take fitRoute i rows f)
@@ -53,13 +52,13 @@ first-keep rows i f = through-keeps kernelAdd4 fitRoute (take i rows) kernelAdd4
 module _ {block s₀ ev₀ s ev : List ℕ} {i t : ℕ} (a : Sofar block s₀ ev₀ i s ev t) where
   pub sofar-sound : Sound s₀ → Lays 32 fitRoute block → Sound s
   sofar-sound v y =
-      adds-sound (through kernelAdd4 (take i (y .list))) (first-keep (y .list) i (y .laid .fitting)) (a (y .list) (y .laid)) v
+      adds-sound (through kernelAdd4 (take i (y .list))) (first-keep (y .list) i (y .laid .fitting)) (a .adds (y .list) (y .laid)) v
 
   pub sofar-valid : Sound s₀ → Lays 32 fitRoute block → Valid s
   sofar-valid v y = sound-valid (sofar-sound v y)
 
   pub sofar-length : Sound s₀ → Lays 32 fitRoute block → length ev ≡ length ev₀
-  sofar-length v y = does-length ((adds-rows (a (y .list) (y .laid) (v .state) (v .holds) (v .fits))) .1)
+  sofar-length v y = does-length ((adds-rows (a .adds (y .list) (y .laid) (v .state) (v .holds) (v .fits))) .1)
 
   module _ (k : ℕ) (long : length block ≡ 32 * k) where
     module _ (b : i < k) {w x : List ℕ} {r : Told} (u : AddsFrom (kernelAdd4 (part 32 block i)) s w (rest t ev) x r) where
@@ -69,13 +68,16 @@ module _ {block s₀ ev₀ s ev : List ℕ} {i t : ℕ} (a : Sofar block s₀ ev
           let b′ : i < length rows = omega (arith, laid-rows block k (lit< tt) long rows h) in
           let step = through kernelAdd4 (take i rows) in
           let here : Adds (kernelAdd4 (getD rows i []) ((step st) .state)) w (rest t ev) x r =
-          rw (laid-part h i b′) at (u ((step st) .state) (adds-holds step (a rows h) st hs f) (keeps-fit step (first-keep rows i (h .fitting)) st f))
+          rw (laid-part h i b′) at (u ((step st) .state) (adds-holds step (a .adds rows h) st hs f) (keeps-fit step (first-keep rows i (h .fitting)) st f))
           in
-          adds-next kernelAdd4 rows st kernelAdd4-covered (holds-within hs) i [] b′ (a rows h st hs f) here
+          adds-next kernelAdd4 rows st kernelAdd4-covered (holds-within hs) i [] b′ (a .adds rows h st hs f) here
 
       pub sofar-next : (m : ℕ) → r ≡ Rows m → Sofar block s₀ ev₀ (i + 1) w (take (34 * t) ev ++ (x ++ drop (length ev - 34 * t) (drop (34 * t) ev))) (t + m)
-      sofar-next m e rows h st hs f =
-          subst (λ (q : Told). Adds (through kernelAdd4 (take (i + 1) rows) st) w ev₀ (take (34 * t) ev ++ (x ++ drop (length ev - 34 * t) (drop (34 * t) ev))) (joined t q)) e (one-more rows h st hs f)
+      sofar-next m e =
+          record {
+            adds = λ rows h st hs f.
+                subst (λ (q : Told). Adds (through kernelAdd4 (take (i + 1) rows) st) w ev₀ (take (34 * t) ev ++ (x ++ drop (length ev - 34 * t) (drop (34 * t) ev))) (joined t q)) e (one-more rows h st hs f);
+          }
 
       pub sofar-full : r ≡ Full → {w′ ev′ : List ℕ} (rows : List Row) → Laid 32 fitRoute block rows → AddsFrom (bring rows) s₀ w′ ev₀ ev′ Full
       unfolding bring
@@ -85,4 +87,4 @@ module _ {block s₀ ev₀ s ev : List ℕ} {i t : ℕ} (a : Sofar block s₀ ev
 
     pub sofar-end : k ≤ i → (rows : List Row) → Laid 32 fitRoute block rows → AddsFrom (bring rows) s₀ s ev₀ ev (Rows t)
     unfolding bring
-    sofar-end b rows h st hs f = adds-end kernelAdd4 rows st i (omega (arith, laid-rows block k (lit< tt) long rows h)) (a rows h st hs f)
+    sofar-end b rows h st hs f = adds-end kernelAdd4 rows st i (omega (arith, laid-rows block k (lit< tt) long rows h)) (a .adds rows h st hs f)

@@ -6,7 +6,7 @@ use mathlib.Core.Path.{_≡_, refl, sym, ap, subst, _∙_}
 use mathlib.Core.Bool.{Bool, true, false, cond}
 use mathlib.Core.List.{List, [], _∷_, _++_}
 use lib.Dec.{leb}
-use lib.ListN.{length, getD, set, take, drop}
+use lib.ListN.{length, getD, set, take, drop, length-take}
 use Rattle.lists.specs.Lists.{Row, put, span, replaceFirst}
 use Rattle.lists.specs.Place.{placeOf, replace-at}
 use Rattle.lists.specs.At.{all-at}
@@ -100,11 +100,12 @@ module _ (q : Row) (clock : ℕ) (old : Row) (g : fitAddV4 q ≡ true) (fit : fi
   changed-fit = ap fitAddress changed-row ∙ changedTo-fit q old clock g fit
 
   module _ {w₀ w ev₀ ev : List ℕ} {r : Told} (m : AddsFrom (moved q old) w₀ w ev₀ ev r) where
-    pub change-full : r ≡ Full → {w′ ev′ : List ℕ} → AddsFrom (changeV4 q old clock) w₀ w′ ev₀ ev′ Full
+    pub change-full : r ≡ Full → {w′ ev′ : List ℕ} (st : State) → Holds w₀ st → fitState st ≡ true → (there : Row) → old ≡ there → Adds (changeV4 q there clock st) w′ ev₀ ev′ Full
     unfolding changeV4
-    change-full f st hs c =
+    change-full f {w′} {ev′} st hs c there z =
         let full : Adds (moved q old st) w ev₀ ev Full = rw f at (m st hs c) in
-        adds-stop full (λ later. becomes (withAddresses (replaceFirst (sameAddress q) (changedTo q old clock) (later .addresses)) later) (newAddr4 (changedTo q old clock) ∷ []))
+        subst (λ (a : Row). Adds (changeV4 q a clock st) w′ ev₀ ev′ Full) z
+        (adds-stop full (λ later. becomes (withAddresses (replaceFirst (sameAddress q) (changedTo q old clock) (later .addresses)) later) (newAddr4 (changedTo q old clock) ∷ [])))
 
     module _ (k : ℕ) (f : r ≡ Rows k) where
       went : AddsFrom (moved q old) w₀ w ev₀ ev (Rows k)
@@ -118,10 +119,10 @@ module _ (q : Row) (clock : ℕ) (old : Row) (g : fitAddV4 q ≡ true) (fit : fi
           count-addresses (adds-holds (moved q old) went st hs c) ∙ ap length (moved-leaves q old st) ∙ sym (count-addresses hs)
 
       pub change-done : (i : ℕ) {w′ x : List ℕ} → ((st : State) → Holds w st → Holds w′ (withAddresses (set (st .addresses) i row) st))
-          → 34 ≤ length (rest k ev) → x ≡ put 0 (newAddr4 row) (rest k ev) → (st : State) → Holds w₀ st → fitState st ≡ true → i ≡ placeOf (sameAddress q) (st .addresses)
-          → Adds (changeV4 q old clock st) w′ ev₀ (take (34 * k) ev ++ (x ++ drop (length ev - 34 * k) (drop (34 * k) ev))) (Rows (k + 1))
+          → 34 ≤ length (rest k ev) → x ≡ put 0 (newAddr4 row) (rest k ev) → (st : State) → Holds w₀ st → fitState st ≡ true → i ≡ placeOf (sameAddress q) (st .addresses) → (there : Row) → old ≡ there
+          → Adds (changeV4 q there clock st) w′ ev₀ (take (34 * k) ev ++ (x ++ drop (length ev - 34 * k) (drop (34 * k) ev))) (Rows (k + 1))
       unfolding changeV4
-      change-done i {w′} {x} s room told st hs c at =
+      change-done i {w′} {x} s room told st hs c at mine z =
           let new = changedTo q old clock in
           let later = (moved q old st) .state in
           let first : Adds (moved q old st) w ev₀ ev (Rows k) = went st hs c in
@@ -131,15 +132,30 @@ module _ (q : Row) (clock : ℕ) (old : Row) (g : fitAddV4 q ≡ true) (fit : fi
           let there : Holds w′ (withAddresses (set (later .addresses) i new) later) = rw changed-row at (s later ((adds-rows first) .1 .holds)) in
           let there′ : Holds w′ (withAddresses (replaceFirst (sameAddress q) new (later .addresses)) later) = subst (λ (l : List Row). Holds w′ (withAddresses l later)) (sym place) there in
           let told′ : x ≡ put 0 (newAddr4 new) (rest k ev) = rw changed-row at told in
-          adds-also first (λ later. becomes (withAddresses (replaceFirst (sameAddress q) new (later .addresses)) later) (newAddr4 new ∷ []))
+          subst (λ (a : Row). Adds (changeV4 q a clock st) w′ ev₀ (take (34 * k) ev ++ (x ++ drop (length ev - 34 * k) (drop (34 * k) ev))) (Rows (k + 1))) z
+          (adds-also first (λ later. becomes (withAddresses (replaceFirst (sameAddress q) new (later .addresses)) later) (newAddr4 new ∷ []))
           (does-adds (holds-within there′)
-          (does-one (withAddresses (replaceFirst (sameAddress q) new (later .addresses)) later) (newAddr4 new) there′ (length-told new (length-address new (changedTo-fit q old clock g fit))) room told′))
+          (does-one (withAddresses (replaceFirst (sameAddress q) new (later .addresses)) later) (newAddr4 new) there′ (length-told new (length-address new (changedTo-fit q old clock g fit))) room told′)))
 
 -- ---- row i, copied
-pub old-row : {w : List ℕ} (st : State) → Holds w st → (i : ℕ) → i < length (st .addresses) → (o : List ℕ) {x : List ℕ} → length o ≡ 20
-    → x ≡ put 0 (take (3 + 20 * i + 20 - (3 + 20 * i)) (drop (3 + 20 * i) w)) o → x ≡ getD (st .addresses) i []
-unfolding span
-old-row {w} st h i b o {x} e g =
-    let whole : 3 + 20 * i + 20 - (3 + 20 * i) ≡ 20 = omega arith in
-    let row : take (3 + 20 * i + 20 - (3 + 20 * i)) (drop (3 + 20 * i) w) ≡ getD (st .addresses) i [] = rw whole (address-at h i b) in
-    rw row at g ∙ put-whole (getD (st .addresses) i []) o (length-address (getD (st .addresses) i []) (all-at fitAddress i (st .addresses) [] b (h .addressesFit)) ∙ sym e)
+module _ {w : List ℕ} (i : ℕ) (b : i < addressCount w) (o : List ℕ) (e : length o ≡ 20) {x : List ℕ} (g : x ≡ put 0 (take (3 + 20 * i + 20 - (3 + 20 * i)) (drop (3 + 20 * i) w)) o) where
+  pub old-row : (st : State) → Holds w st → x ≡ getD (st .addresses) i []
+  unfolding span
+  old-row st h =
+      let b′ : i < length (st .addresses) = omega (arith, count-addresses h) in
+      let whole : 3 + 20 * i + 20 - (3 + 20 * i) ≡ 20 = omega arith in
+      let row : take (3 + 20 * i + 20 - (3 + 20 * i)) (drop (3 + 20 * i) w) ≡ getD (st .addresses) i [] = rw whole (address-at h i b′) in
+      let there : x ≡ put 0 (getD (st .addresses) i []) o = rw row at g in
+      there ∙ put-whole (getD (st .addresses) i []) o (length-address (getD (st .addresses) i []) (all-at fitAddress i (st .addresses) [] b′ (h .addressesFit)) ∙ sym e)
+
+  pub old-fit : Sound w → fitAddress x ≡ true
+  old-fit v =
+      let b′ : i < length (v .state .addresses) = omega (arith, count-addresses (v .holds)) in
+      ap fitAddress (old-row (v .state) (v .holds)) ∙ all-at fitAddress i (v .state .addresses) [] b′ (v .holds .addressesFit)
+
+  pub old-long : Sound w → length x ≡ 20
+  old-long v = length-address x (old-fit v)
+
+pub row-room : (at : ℕ) (w : List ℕ) → 0 + length (take (at + 20 - at) (drop at w)) ≤ 20
+row-room at w = simp length-take (omega arith)
+

@@ -9,7 +9,7 @@ use lib.Dec.{leb}
 use lib.ListN.{length, getD, take, drop, length-append}
 use borrow.Author.Tests.{lt-leb}
 use Rattle.lists.specs.Lists.{Row, all, flat, put, zeros}
-use Rattle.lists.specs.Rows.{length-zeros}
+use Rattle.lists.specs.Rows.{length-zeros, length-put}
 use Rattle.lists.specs.At.{insertAt, length-insertAt}
 use Rattle.lists.specs.Laid.{Laid, Lays}
 use Rattle.layout.specs.Address.{fitAddress}
@@ -35,6 +35,10 @@ use Rattle.bring.specs.Bring.{block-rows, block-ready}
 pub length-told : (a : Row) → length a ≡ 20 → length (newAddr4 a) ≡ 34
 unfolding newAddr4
 length-told a h = omega (arith, length-append a (zeros 12), length-zeros 12)
+
+pub told-length : (new : Row) → fitAddress new ≡ true → (ev₀ : List ℕ) {ev : List ℕ} → 34 ≤ length ev₀ → ev ≡ put 0 (newAddr4 new) ev₀ → length ev ≡ length ev₀
+told-length new fit ev₀ h e =
+    ap length e ∙ length-put 0 (newAddr4 new) ev₀ (omega (arith, length-told new (length-address new fit)))
 
 -- the state with the address in its place
 abbrev pub placed : Row → State → State
@@ -76,11 +80,11 @@ module _ (new : Row) (up : Bool) (st : State) where
 
       pub new-done : fitState st ≡ true → {ev₀ ev : List ℕ} → 34 ≤ length ev₀ → ev ≡ put 0 (newAddr4 new) ev₀ → {w′ x′ : List ℕ} {r : Told}
           → ((rows : List Row) → Laid 32 fitRoute (take (32 * k - 0) (drop 0 x)) rows → AddsFrom (bring rows) w w′ (rest 1 ev) x′ r)
-          → Adds (newAddress new up st) w′ ev₀ (take 34 ev ++ (x′ ++ drop (length ev - 34) (drop 34 ev))) (joined 1 r)
+          → (z : Told) → z ≡ joined 1 r → Adds (newAddress new up st) w′ ev₀ (take 34 ev ++ (x′ ++ drop (length ev - 34) (drop 34 ev))) z
       unfolding newAddress
-      new-done f {ev₀} {ev} room told {w′} {x′} {r} b =
+      new-done f {ev₀} {ev} room told {w′} {x′} {r} b z same =
           let rows = candidates (place4 new (st .addresses)) up new in
           let first : Adds (becomes (placed new st) (newAddr4 new ∷ [])) w ev₀ ev (Rows 1) =
           does-adds (holds-within placed-holds) (does-one (placed new st) (newAddr4 new) placed-holds (length-told new (length-address new fit)) room told)
           in
-          adds-also first (bring rows) (b rows (block-rows rows routes-fit k (c .0) o (c .1)) (placed new st) placed-holds (placed-fit fit f))
+          rw same (adds-also first (bring rows) (b rows (block-rows rows routes-fit k (c .0) o (c .1)) (placed new st) placed-holds (placed-fit fit f)))

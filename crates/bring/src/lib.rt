@@ -81,7 +81,9 @@ pub fn new_address(s: &mut [u32], ev: &mut [u32], new: &[u32], up: bool) -> Told
 // An address's prefix route with a request's priority put in, and then the one with its own taken out.
 fn moved(s: &mut [u32], ev: &mut [u32], q: &[u32], old: &[u32]) -> Told
     requires { ⌜ Sound (now s) ⌝ }
-    requires { ⌜ (length (now q) ≡ 18) × (fitAddress (now old) ≡ true) ⌝ }
+    requires { ⌜ length (now q) ≡ 18 ⌝ }
+    requires { ⌜ length (now old) ≡ 20 ⌝ }
+    requires { ⌜ fitAddress (now old) ≡ true ⌝ }
     requires { ⌜ 68 ≤ length (now ev) ⌝ }
     ensures { λ r. ⌜ rowsOf r ≤ 2 ⌝ }
     ensures { λ r. ⌜ AddsFrom (moved (now (q .entry)) (now (old .entry))) (now (s .entry)) (now (s .exit)) (now (ev .entry)) (now (ev .exit)) r ⌝ }
