@@ -8,7 +8,7 @@ ghost use lib.ListN.{length};
 ghost use Rattle.layout.specs.Request.{fitAddV4};
 ghost use Rattle.definition.specs.State.{State};
 ghost use Rattle.definition.specs.Words.{fitState, addressCount};
-ghost use Rattle.definition.specs.Reference.Addresses.{addV4};
+ghost use Rattle.definition.specs.Reference.Addresses.{addV4, up};
 ghost use Rattle.state.specs.Holds.{Holds};
 ghost use Rattle.steps.specs.Adds.{rowsOf};
 ghost use Rattle.bring.specs.Sound.{Sound, AddsFrom};
@@ -111,3 +111,40 @@ fn bring_all(s: &mut [u32], ev: &mut [u32]) -> Told
     Told::Rows(told)
 }
 
+// 127.0.0.1 if it isn't there, with its routes; then the routes that every address has.
+pub fn up(s: &mut [u32], ev: &mut [u32], clock: u64) -> Told
+    requires { ⌜ Sound (now s) ⌝ }
+    requires { ⌜ 13056 ≤ length (now ev) ⌝ }
+    ensures { λ r. ⌜ rowsOf r ≤ 325 ⌝ }
+    ensures { λ r. ⌜ AddsFrom (up clock) (now (s .entry)) (now (s .exit)) (now (ev .entry)) (now (ev .exit)) r ⌝ }
+{
+    let loopback = [
+        0x7f000001u32,
+        0x7f000001,
+        8,
+        0,
+        0,
+        254,
+        0,
+        0,
+        2,
+        0x6f6c,
+        0,
+        0,
+        0,
+        0,
+        0xffffffff,
+        0xffffffff,
+        0,
+        1,
+    ];
+    let first = step_of(add_v4(s, ev, &loopback, clock));
+    match first {
+        Told::Rows(k) => {
+            let from = 34 * k;
+            let rest = bring_all(s, &mut ev[from..]);
+            bring::joined(k, rest)
+        }
+        Told::Full => Told::Full,
+    }
+}
