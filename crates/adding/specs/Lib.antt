@@ -1,0 +1,3 @@
+pub mod Comes
+pub mod Added
+pub mod Every

@@ -1,0 +1,4 @@
+pub mod Sound
+pub mod Bring
+pub mod New
+pub mod Change

@@ -1,0 +1,75 @@
+use mathlib.Core.Path.{refl}
+use native.Mathlib.Omega.{arith}
+use Rattle.definition.specs.Reference.Addresses.{addV4}
+use Rattle.state.specs.Holds.{sizes-of}
+use Rattle.bring.specs.Sound.{sound-long}
+use Rattle.whole.specs.Copy.{comes-roomy}
+use Rattle.whole.specs.Room.{add-certain}
+use borrow.Author.Needs.{needs}
+use Rattle.whole.proofs.add_v4.Statement.{statement}
+use Rattle.whole.proofs.add_v4.Tie as tie
+use Rattle.whole.proofs.add_v4.Reads as reads
+use Rattle.whole.proofs.add_v4.Lts as lts
+use Rattle.adding.proofs.add_v4.Reads as add-v4-reads
+use Rattle.whole.proofs.has_room.Reads as has-room-reads
+use Rattle.whole.proofs.try_add_v4.Reads as try-add-v4-reads
+
+-- src/lib.rt:66:8
+has-room-requires : tie.Need-has-room-requires
+has-room-requires c κs =
+    let v = c .before .before .before .before .pre .0 in
+    (sound-long v, (sizes-of (v .holds) .routes, omega arith))
+
+-- src/lib.rt:67:9
+add-v4-requires : tie.Need-add-v4-requires
+add-v4-requires c κs = search needs
+
+-- src/lib.rt:67:9
+same-length : tie.Need-same-length
+same-length c = search needs
+
+-- src/lib.rt:67:9
+same-length-2 : tie.Need-same-length-2
+same-length-2 c = search needs
+
+-- src/lib.rt:67:9
+returns : tie.Need-returns
+returns c =
+    let d = c .before .before .before .before in
+    let t = c .before .before .before .before .before .before .before in
+    let s = c .before .before .before .before .before .before .before .before .before .before .before .before .before in
+    let a = s .args in
+    let v = s .pre .0 in
+    let r = t .before .has-room in
+    (d .add-v4 .ensures .0, (λ e. absurd (comes-roomy (addV4 (a .q .now) (a .clock) (v .state)) (d .add-v4 .result) (add-certain 4 (r .result) (r .ensures) (t .if1 .taken) (v .state) (v .holds) refl (a .q .now) (a .clock)) (d .add-v4 .ensures .1 (v .state) (v .holds) (v .fits)) e),
+      d .add-v4 .ensures .1))
+
+-- src/lib.rt:69:5
+try-add-v4-requires : tie.Need-try-add-v4-requires
+try-add-v4-requires c κs = search needs
+
+-- src/lib.rt:58:1
+same-length-3 : tie.Need-same-length-3
+same-length-3 c = search needs
+
+-- src/lib.rt:58:1
+same-length-4 : tie.Need-same-length-4
+same-length-4 c = search needs
+
+-- src/lib.rt:58:1
+returns-2 : tie.Need-returns-2
+returns-2 c = search needs
+
+pub add-v4-spec : {M : Type 1} → statement M
+add-v4-spec =
+    tie.close
+    (tie.spec
+    has-room-requires
+    add-v4-requires
+    same-length
+    same-length-2
+    returns
+    try-add-v4-requires
+    same-length-3
+    same-length-4
+    returns-2)

@@ -1,0 +1,207 @@
+use mathlib.Core.Path.{refl, sym, _∙_}
+use native.Mathlib.Omega.{arith}
+use Rattle.definition.specs.Reference.Addresses.{addV4}
+use Rattle.bring.specs.Sound.{sound-long}
+use Rattle.whole.specs.Copy.{copy-sound, copy-holds, take-room, call-few, Tried, tried-comes, comes-back, refused-left, full-left, rows-full, refused-full}
+use Prim.Native.Nat.{_*_}
+use borrow.Author.Needs.{needs}
+use Rattle.whole.proofs.try_add_v4.Statement.{statement}
+use Rattle.whole.proofs.try_add_v4.Tie as tie
+use Rattle.whole.proofs.try_add_v4.Reads as reads
+use Rattle.whole.proofs.try_add_v4.Lts as lts
+use Rattle.adding.proofs.add_v4.Reads as add-v4-reads
+use Rattle.words.proofs.store.Reads as store-reads
+
+-- src/lib.rt:29:18
+slice-aggregate-store : tie.Need-slice-aggregate-store
+slice-aggregate-store c = search needs
+
+-- src/lib.rt:29:5
+store-requires : tie.Need-store-requires
+store-requires c κs =
+    omega (arith, sound-long (c .before .before .before .before .before .pre .0))
+
+-- src/lib.rt:31:31
+slice-aggregate-add-v4 : tie.Need-slice-aggregate-add-v4
+slice-aggregate-add-v4 c = search needs
+
+-- src/lib.rt:31:42
+slice-aggregate-add-v4-2 : tie.Need-slice-aggregate-add-v4-2
+slice-aggregate-add-v4-2 c = search needs
+
+-- src/lib.rt:31:9
+add-v4-requires : tie.Need-add-v4-requires
+add-v4-requires c κs =
+    let w = c .before .before .before in
+    let s = w .before .before .before .before .before .before in
+    (copy-sound _ (s .args .s .now) (sym (sound-long (s .pre .0))) (w .store .ensures) (s .pre .0), (s .pre .1 .0, omega arith))
+
+-- src/lib.rt:33:20
+enum-known-came : tie.Need-enum-known-came
+enum-known-came c = search needs
+
+-- src/lib.rt:34:32
+slice-aggregate-store-2 : tie.Need-slice-aggregate-store-2
+slice-aggregate-store-2 c = search needs
+
+-- src/lib.rt:34:13
+store-requires-2 : tie.Need-store-requires-2
+store-requires-2 c κs =
+    let d = c .before .before .before .before .before .before .before in
+    let w = d .before .before .before .before in
+    let s = w .before .before .before .before .before .before in
+    let a = s .args in
+    let q = a .q .now in
+    let v = s .pre .0 in
+    let e = c .before .before .before in
+    let k = e .came .given .0 .0 in
+    let five = call-few 5 (d .add-v4 .result) k (e .came .given .1) (d .add-v4 .ensures .0) in
+    let x = tried-comes (addV4 q (a .clock) (v .state)) (d .add-v4 .result) k (e .came .given .1) (d .add-v4 .ensures .1 (v .state) (copy-holds _ (a .s .now) (sym (sound-long v)) (w .store .ensures) (v .state) (v .holds)) (v .fits)) in
+    omega (arith, x .long, sound-long v)
+
+-- src/lib.rt:35:23
+mul-end : tie.Need-mul-end
+mul-end c =
+    let d = c .before .before .before .before .before .before .before .before .before .before in
+    let w = d .before .before .before .before in
+    let s = w .before .before .before .before .before .before in
+    let a = s .args in
+    let q = a .q .now in
+    let v = s .pre .0 in
+    let e = c .before .before .before .before .before .before in
+    let k = e .came .given .0 .0 in
+    let five = call-few 5 (d .add-v4 .result) k (e .came .given .1) (d .add-v4 .ensures .0) in
+    let x = tried-comes (addV4 q (a .clock) (v .state)) (d .add-v4 .result) k (e .came .given .1) (d .add-v4 .ensures .1 (v .state) (copy-holds _ (a .s .now) (sym (sound-long v)) (w .store .ensures) (v .state) (v .holds)) (v .fits)) in
+    omega (arith, five)
+
+-- src/lib.rt:36:33
+sub-store : tie.Need-sub-store
+sub-store c = search needs
+
+-- src/lib.rt:36:33
+part-store-start : tie.Need-part-store-start
+part-store-start c = search needs
+
+-- src/lib.rt:36:33
+part-store-end : tie.Need-part-store-end
+part-store-end c =
+    let d = c .before .before .before .before .before .before .before .before .before .before .before .before in
+    let w = d .before .before .before .before in
+    let s = w .before .before .before .before .before .before in
+    let a = s .args in
+    let q = a .q .now in
+    let v = s .pre .0 in
+    let e = c .before .before .before .before .before .before .before .before in
+    let k = e .came .given .0 .0 in
+    let five = call-few 5 (d .add-v4 .result) k (e .came .given .1) (d .add-v4 .ensures .0) in
+    let x = tried-comes (addV4 q (a .clock) (v .state)) (d .add-v4 .result) k (e .came .given .1) (d .add-v4 .ensures .1 (v .state) (copy-holds _ (a .s .now) (sym (sound-long v)) (w .store .ensures) (v .state) (v .holds)) (v .fits)) in
+    omega (arith, x .room, x .wide)
+
+-- src/lib.rt:36:13
+store-requires-3 : tie.Need-store-requires-3
+store-requires-3 c κs =
+    let d = c .before .before .before .before .before .before .before .before .before .before .before .before .before in
+    let w = d .before .before .before .before in
+    let s = w .before .before .before .before .before .before in
+    let a = s .args in
+    let q = a .q .now in
+    let v = s .pre .0 in
+    let e = c .before .before .before .before .before .before .before .before .before in
+    let k = e .came .given .0 .0 in
+    let five = call-few 5 (d .add-v4 .result) k (e .came .given .1) (d .add-v4 .ensures .0) in
+    let x = tried-comes (addV4 q (a .clock) (v .state)) (d .add-v4 .result) k (e .came .given .1) (d .add-v4 .ensures .1 (v .state) (copy-holds _ (a .s .now) (sym (sound-long v)) (w .store .ensures) (v .state) (v .holds)) (v .fits)) in
+    omega (arith, take-room (34 * k) (d .add-v4 .last .1 .0), five, s .pre .1 .1)
+
+-- src/lib.rt:39:23
+enum-known-came-2 : tie.Need-enum-known-came-2
+enum-known-came-2 c = search needs
+
+-- src/lib.rt:40:23
+enum-told : tie.Need-enum-told
+enum-told c = search needs
+
+-- src/lib.rt:20:1
+same-length : tie.Need-same-length
+same-length c = search needs
+
+-- src/lib.rt:20:1
+same-length-2 : tie.Need-same-length-2
+same-length-2 c = search needs
+
+-- src/lib.rt:20:1
+returns : tie.Need-returns
+returns c =
+    let d = c .before .before .before .before .before .before .before .before .before .before .before .before .before .before .before .before in
+    let w = d .before .before .before .before in
+    let s = w .before .before .before .before .before .before in
+    let a = s .args in
+    let q = a .q .now in
+    let v = s .pre .0 in
+    let e = c .before .before .before .before .before .before .before .before .before .before .before .before in
+    let k = e .came .given .0 .0 in
+    let five = call-few 5 (d .add-v4 .result) k (e .came .given .1) (d .add-v4 .ensures .0) in
+    let x = tried-comes (addV4 q (a .clock) (v .state)) (d .add-v4 .result) k (e .came .given .1) (d .add-v4 .ensures .1 (v .state) (copy-holds _ (a .s .now) (sym (sound-long v)) (w .store .ensures) (v .state) (v .holds)) (v .fits)) in
+    (five, (λ r. absurd (rows-full k r),
+      λ st h g. comes-back (d .add-v4 .last .0) _ (d .add-v4 .last .1 .0) (a .s .now) (a .ev .now) k (x .long ∙ sym (sound-long v)) (omega (arith, five, s .pre .1 .1)) (c .before .before .before .before .before .before .before .before .store2 .ensures) (c .before .before .store3 .ensures)
+          (addV4 q (a .clock) st) _ (d .add-v4 .result) (e .came .given .1) (d .add-v4 .ensures .1 st (copy-holds _ (a .s .now) (sym (sound-long v)) (w .store .ensures) st h) g)))
+
+-- src/lib.rt:20:1
+same-length-3 : tie.Need-same-length-3
+same-length-3 c = search needs
+
+-- src/lib.rt:20:1
+returns-2 : tie.Need-returns-2
+returns-2 c =
+    let d = c .before .before .before .before .before in
+    let w = d .before .before .before .before in
+    let s = w .before .before .before .before .before .before in
+    let a = s .args in
+    let q = a .q .now in
+    let v = s .pre .0 in
+    let e = c .before in
+    let n = e .came2 .given .0 .0 in
+    (omega arith, (λ r. absurd (refused-full n r),
+      λ st h g. refused-left (addV4 q (a .clock) st) (d .add-v4 .result) n (e .came2 .given .1) (d .add-v4 .ensures .1 st (copy-holds _ (a .s .now) (sym (sound-long v)) (w .store .ensures) st h) g)))
+
+-- src/lib.rt:20:1
+same-length-4 : tie.Need-same-length-4
+same-length-4 c = search needs
+
+-- src/lib.rt:20:1
+returns-3 : tie.Need-returns-3
+returns-3 c =
+    let d = c .before .before .before .before in
+    let w = d .before .before .before .before in
+    let s = w .before .before .before .before .before .before in
+    let a = s .args in
+    let q = a .q .now in
+    let v = s .pre .0 in
+    (omega arith, (λ r. (refl, refl),
+      λ st h g. full-left (addV4 q (a .clock) st) (d .add-v4 .result) (c .enum-told .given .1) (d .add-v4 .ensures .1 st (copy-holds _ (a .s .now) (sym (sound-long v)) (w .store .ensures) st h) g)))
+
+pub try-add-v4-spec : {M : Type 1} → statement M
+try-add-v4-spec =
+    tie.close
+    (tie.spec
+    slice-aggregate-store
+    store-requires
+    slice-aggregate-add-v4
+    slice-aggregate-add-v4-2
+    add-v4-requires
+    enum-known-came
+    slice-aggregate-store-2
+    store-requires-2
+    mul-end
+    sub-store
+    part-store-start
+    part-store-end
+    store-requires-3
+    enum-known-came-2
+    enum-told
+    same-length
+    same-length-2
+    returns
+    same-length-3
+    returns-2
+    same-length-4
+    returns-3)

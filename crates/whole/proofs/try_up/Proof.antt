@@ -1,0 +1,176 @@
+use mathlib.Core.Path.{refl, sym, _∙_}
+use native.Mathlib.Omega.{arith}
+use Rattle.definition.specs.Reference.Addresses.{up}
+use Rattle.bring.specs.Sound.{sound-long, rows-are}
+use Rattle.whole.specs.Copy.{copy-sound, copy-holds, take-room, Tried, tried-adds, adds-back, adds-left, told-full}
+use Prim.Native.Nat.{_*_}
+use borrow.Author.Needs.{needs}
+use Rattle.whole.proofs.try_up.Statement.{statement}
+use Rattle.whole.proofs.try_up.Tie as tie
+use Rattle.whole.proofs.try_up.Reads as reads
+use Rattle.whole.proofs.try_up.Lts as lts
+use Rattle.adding.proofs.up.Reads as up-reads
+use Rattle.words.proofs.store.Reads as store-reads
+
+-- src/lib.rt:80:18
+slice-aggregate-store : tie.Need-slice-aggregate-store
+slice-aggregate-store c = search needs
+
+-- src/lib.rt:80:5
+store-requires : tie.Need-store-requires
+store-requires c κs =
+    omega (arith, sound-long (c .before .before .before .before .pre .0))
+
+-- src/lib.rt:82:27
+slice-aggregate-up : tie.Need-slice-aggregate-up
+slice-aggregate-up c = search needs
+
+-- src/lib.rt:82:38
+slice-aggregate-up-2 : tie.Need-slice-aggregate-up-2
+slice-aggregate-up-2 c = search needs
+
+-- src/lib.rt:82:9
+up-requires : tie.Need-up-requires
+up-requires c κs =
+    let w = c .before .before .before in
+    let s = w .before .before .before .before .before in
+    (copy-sound _ (s .args .s .now) (sym (sound-long (s .pre .0))) (w .store .ensures) (s .pre .0), omega arith)
+
+-- src/lib.rt:84:20
+enum-known-came : tie.Need-enum-known-came
+enum-known-came c = search needs
+
+-- src/lib.rt:85:32
+slice-aggregate-store-2 : tie.Need-slice-aggregate-store-2
+slice-aggregate-store-2 c = search needs
+
+-- src/lib.rt:85:13
+store-requires-2 : tie.Need-store-requires-2
+store-requires-2 c κs =
+    let d = c .before .before .before .before .before .before .before in
+    let w = d .before .before .before .before in
+    let s = w .before .before .before .before .before in
+    let a = s .args in
+    let v = s .pre .0 in
+    let e = c .before .before .before in
+    let k = e .came .given .0 .0 in
+    let few = rows-are 325 (d .up .result) k (e .came .given .1) (d .up .ensures .0) in
+    let x = tried-adds (up (a .clock) (v .state)) (d .up .result) k (e .came .given .1) (d .up .ensures .1 (v .state) (copy-holds _ (a .s .now) (sym (sound-long v)) (w .store .ensures) (v .state) (v .holds)) (v .fits)) in
+    omega (arith, x .long, sound-long v)
+
+-- src/lib.rt:86:23
+mul-end : tie.Need-mul-end
+mul-end c =
+    let d = c .before .before .before .before .before .before .before .before .before .before in
+    let w = d .before .before .before .before in
+    let s = w .before .before .before .before .before in
+    let a = s .args in
+    let v = s .pre .0 in
+    let e = c .before .before .before .before .before .before in
+    let k = e .came .given .0 .0 in
+    let few = rows-are 325 (d .up .result) k (e .came .given .1) (d .up .ensures .0) in
+    let x = tried-adds (up (a .clock) (v .state)) (d .up .result) k (e .came .given .1) (d .up .ensures .1 (v .state) (copy-holds _ (a .s .now) (sym (sound-long v)) (w .store .ensures) (v .state) (v .holds)) (v .fits)) in
+    omega (arith, few)
+
+-- src/lib.rt:87:33
+sub-store : tie.Need-sub-store
+sub-store c = search needs
+
+-- src/lib.rt:87:33
+part-store-start : tie.Need-part-store-start
+part-store-start c = search needs
+
+-- src/lib.rt:87:33
+part-store-end : tie.Need-part-store-end
+part-store-end c =
+    let d = c .before .before .before .before .before .before .before .before .before .before .before .before in
+    let w = d .before .before .before .before in
+    let s = w .before .before .before .before .before in
+    let a = s .args in
+    let v = s .pre .0 in
+    let e = c .before .before .before .before .before .before .before .before in
+    let k = e .came .given .0 .0 in
+    let few = rows-are 325 (d .up .result) k (e .came .given .1) (d .up .ensures .0) in
+    let x = tried-adds (up (a .clock) (v .state)) (d .up .result) k (e .came .given .1) (d .up .ensures .1 (v .state) (copy-holds _ (a .s .now) (sym (sound-long v)) (w .store .ensures) (v .state) (v .holds)) (v .fits)) in
+    omega (arith, x .room, x .wide)
+
+-- src/lib.rt:87:13
+store-requires-3 : tie.Need-store-requires-3
+store-requires-3 c κs =
+    let d = c .before .before .before .before .before .before .before .before .before .before .before .before .before in
+    let w = d .before .before .before .before in
+    let s = w .before .before .before .before .before in
+    let a = s .args in
+    let v = s .pre .0 in
+    let e = c .before .before .before .before .before .before .before .before .before in
+    let k = e .came .given .0 .0 in
+    let few = rows-are 325 (d .up .result) k (e .came .given .1) (d .up .ensures .0) in
+    let x = tried-adds (up (a .clock) (v .state)) (d .up .result) k (e .came .given .1) (d .up .ensures .1 (v .state) (copy-holds _ (a .s .now) (sym (sound-long v)) (w .store .ensures) (v .state) (v .holds)) (v .fits)) in
+    omega (arith, take-room (34 * k) (d .up .last .1 .0), few, s .pre .1)
+
+-- src/lib.rt:90:23
+enum-told : tie.Need-enum-told
+enum-told c = search needs
+
+-- src/lib.rt:72:1
+same-length : tie.Need-same-length
+same-length c = search needs
+
+-- src/lib.rt:72:1
+same-length-2 : tie.Need-same-length-2
+same-length-2 c = search needs
+
+-- src/lib.rt:72:1
+returns : tie.Need-returns
+returns c =
+    let d = c .before .before .before .before .before .before .before .before .before .before .before .before .before .before .before .before in
+    let w = d .before .before .before .before in
+    let s = w .before .before .before .before .before in
+    let a = s .args in
+    let v = s .pre .0 in
+    let e = c .before .before .before .before .before .before .before .before .before .before .before .before in
+    let k = e .came .given .0 .0 in
+    let few = rows-are 325 (d .up .result) k (e .came .given .1) (d .up .ensures .0) in
+    let x = tried-adds (up (a .clock) (v .state)) (d .up .result) k (e .came .given .1) (d .up .ensures .1 (v .state) (copy-holds _ (a .s .now) (sym (sound-long v)) (w .store .ensures) (v .state) (v .holds)) (v .fits)) in
+    (few, (λ r. absurd (told-full k r),
+      λ st h g. adds-back (d .up .last .0) _ (d .up .last .1 .0) (a .s .now) (a .ev .now) k (x .long ∙ sym (sound-long v)) (omega (arith, few, s .pre .1)) (c .before .before .before .before .before .before .before .before .store2 .ensures) (c .before .before .store3 .ensures)
+          (up (a .clock) st) (d .up .result) (e .came .given .1) (d .up .ensures .1 st (copy-holds _ (a .s .now) (sym (sound-long v)) (w .store .ensures) st h) g)))
+
+-- src/lib.rt:72:1
+same-length-3 : tie.Need-same-length-3
+same-length-3 c = search needs
+
+-- src/lib.rt:72:1
+returns-2 : tie.Need-returns-2
+returns-2 c =
+    let d = c .before .before .before .before in
+    let w = d .before .before .before .before in
+    let s = w .before .before .before .before .before in
+    let a = s .args in
+    let v = s .pre .0 in
+    (omega arith, (λ r. (refl, refl),
+      λ st h g. adds-left (up (a .clock) st) (d .up .result) (c .enum-told .given .1) (d .up .ensures .1 st (copy-holds _ (a .s .now) (sym (sound-long v)) (w .store .ensures) st h) g)))
+
+pub try-up-spec : {M : Type 1} → statement M
+try-up-spec =
+    tie.close
+    (tie.spec
+    slice-aggregate-store
+    store-requires
+    slice-aggregate-up
+    slice-aggregate-up-2
+    up-requires
+    enum-known-came
+    slice-aggregate-store-2
+    store-requires-2
+    mul-end
+    sub-store
+    part-store-start
+    part-store-end
+    store-requires-3
+    enum-told
+    same-length
+    same-length-2
+    returns
+    same-length-3
+    returns-2)
