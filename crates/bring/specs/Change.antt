@@ -158,4 +158,3 @@ module _ {w : List ℕ} (i : ℕ) (b : i < addressCount w) (o : List ℕ) (e : l
 
 pub row-room : (at : ℕ) (w : List ℕ) → 0 + length (take (at + 20 - at) (drop at w)) ≤ 20
 row-room at w = simp length-take (omega arith)
-

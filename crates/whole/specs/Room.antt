@@ -220,10 +220,11 @@ module _ (q old : Row) (st : State) (a : length (st .addresses) ≤ 64) (r : len
       let gone = prefixRoute (local old) old in
       let made = kernelAdd4 new st in
       let after : within (sizes (made .state)) ≡ true = most-within (add-most new (unfold kernelRoute in refl) st) (omega arith) (omega arith) t in
-      let u = kernelDel4-under gone (made .state) in
-      (within-also made (kernelDel4 gone) ∙ and-both (within (made .peak)) (within ((kernelDel4 gone (made .state)) .peak))
-      (rises-within st made (kernelAdd4-rises new st) after) (covered ((kernelDel4 gone (made .state)) .peak) (sizes (made .state)) (u .ever) after),
-      covered (sizes ((kernelDel4 gone (made .state)) .state)) (sizes (made .state)) (u .atEnd) after))
+      let u = kernelDel4-under gone (made .state) in (
+        within-also made (kernelDel4 gone) ∙ and-both (within (made .peak)) (within ((kernelDel4 gone (made .state)) .peak))
+            (rises-within st made (kernelAdd4-rises new st) after) (covered ((kernelDel4 gone (made .state)) .peak) (sizes (made .state)) (u .ever) after),
+        covered (sizes ((kernelDel4 gone (made .state)) .state)) (sizes (made .state)) (u .atEnd) after,
+      ))
       (λ e. (here, here))
 
   pub change-room : (clock : ℕ) → within ((changeV4 q old clock st) .peak) ≡ true

@@ -70,10 +70,13 @@ bring-at-requires c κs =
     let n = k .before in
     let s = n .before .before .before .before in
     let v = s .pre .0 in
-    let inv = k .loop .inv in
-    (sofar-sound (inv .1 .1 .1 .1) v,
-      (omega (arith, sofar-count (inv .1 .1 .1 .1) v, n .address-count .ensures, c .before .before .loop-test .taken),
-      rest-room (k .loop .told) 136 (k .loop .ev) (omega (arith, inv .1 .0, inv .1 .1 .1 .0, s .pre .1))))
+    let inv = k .loop .inv in (
+      sofar-sound (inv .1 .1 .1 .1) v,
+      (
+        omega (arith, sofar-count (inv .1 .1 .1 .1) v, n .address-count .ensures, c .before .before .loop-test .taken),
+        rest-room (k .loop .told) 136 (k .loop .ev) (omega (arith, inv .1 .0, inv .1 .1 .1 .0, s .pre .1)),
+      ),
+    )
 
 -- src/lib.rt:102:24
 enum-known-came : tie.Need-enum-known-came Inv-loop μ-loop

@@ -91,9 +91,13 @@ bring-requires c κs =
     let l = c .before .before .before .before .before .before .before .before in
     let s = c .before .before .before .before .before .before .before .before .before .before .before .before .before .before in
     let v = s .pre .0 in
-    let few = d .candidates .ensures .0 .1 in
-    (v, (turn-ready (s .args .i) (s .pre .1 .0) (v .state) (v .holds) (l .addresses .result .now) (l .addresses .ensures) (d .candidates .result) _ _ (d .candidates .ensures .1 (v .state .addresses) (of-addresses _ (v .holds) (l .addresses .ensures))),
-      (omega (arith, few, s .pre .1 .1), omega (arith, few))))
+    let few = d .candidates .ensures .0 .1 in (
+      v,
+      (
+        turn-ready (s .args .i) (s .pre .1 .0) (v .state) (v .holds) (l .addresses .result .now) (l .addresses .ensures) (d .candidates .result) _ _ (d .candidates .ensures .1 (v .state .addresses) (of-addresses _ (v .holds) (l .addresses .ensures))),
+        (omega (arith, few, s .pre .1 .1), omega (arith, few)),
+      ),
+    )
 
 -- src/lib.rt:72:1
 same-length : tie.Need-same-length
@@ -109,9 +113,10 @@ returns c =
     let b = c .before .before .before .before in
     let d = c .before .before .before .before .before .before .before .before .before .before in
     let l = c .before .before .before .before .before .before .before .before .before .before .before .before .before in
-    let s = c .before .before .before .before .before .before .before .before .before .before .before .before .before .before .before .before .before .before .before in
-    (omega (arith, b .bring .ensures .0, d .candidates .ensures .0 .1),
-      λ st h g. turn-done (s .args .i) (s .pre .1 .0) st h (l .addresses .result .now) (l .addresses .ensures) (d .candidates .result) _ _ (d .candidates .ensures .1 (st .addresses) (of-addresses _ h (l .addresses .ensures))) g (b .bring .ensures .1))
+    let s = c .before .before .before .before .before .before .before .before .before .before .before .before .before .before .before .before .before .before .before in (
+      omega (arith, b .bring .ensures .0, d .candidates .ensures .0 .1),
+      λ st h g. turn-done (s .args .i) (s .pre .1 .0) st h (l .addresses .result .now) (l .addresses .ensures) (d .candidates .result) _ _ (d .candidates .ensures .1 (st .addresses) (of-addresses _ h (l .addresses .ensures))) g (b .bring .ensures .1),
+    )
 
 pub bring-at-spec : {M : Type 1} → statement M
 bring-at-spec =

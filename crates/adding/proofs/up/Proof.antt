@@ -94,9 +94,10 @@ bring-all-requires c κs =
     let clock = s .args .clock in
     let e = c .before .before .before in
     let k = e .first .given .0 .0 in
-    let five = rows-are 5 (t .step-of .result) k (e .first .given .1) (told-few 5 (d .add-v4 .result) (t .step-of .result) (t .step-of .ensures) (d .add-v4 .ensures .0)) in
-    (up-sound clock (λ st h g. added-step loopback clock st (t .step-of .result) (t .step-of .ensures) h (d .add-v4 .ensures .1 st h g)) k (e .first .given .1) (s .pre .0),
-      rest-room k 11016 (d .add-v4 .last .1 .0) (omega (arith, five, s .pre .1, up-length clock (λ st h g. added-step loopback clock st (t .step-of .result) (t .step-of .ensures) h (d .add-v4 .ensures .1 st h g)) k (e .first .given .1) (s .pre .0))))
+    let five = rows-are 5 (t .step-of .result) k (e .first .given .1) (told-few 5 (d .add-v4 .result) (t .step-of .result) (t .step-of .ensures) (d .add-v4 .ensures .0)) in (
+      up-sound clock (λ st h g. added-step loopback clock st (t .step-of .result) (t .step-of .ensures) h (d .add-v4 .ensures .1 st h g)) k (e .first .given .1) (s .pre .0),
+      rest-room k 11016 (d .add-v4 .last .1 .0) (omega (arith, five, s .pre .1, up-length clock (λ st h g. added-step loopback clock st (t .step-of .result) (t .step-of .ensures) h (d .add-v4 .ensures .1 st h g)) k (e .first .given .1) (s .pre .0))),
+    )
 
 -- src/lib.rt:146:13
 joined-requires : tie.Need-joined-requires
@@ -132,9 +133,10 @@ returns c =
     let e = c .before .before .before .before .before .before .before .before .before in
     let k = e .first .given .0 .0 in
     let five = rows-are 5 (t .step-of .result) k (e .first .given .1) (told-few 5 (d .add-v4 .result) (t .step-of .result) (t .step-of .ensures) (d .add-v4 .ensures .0)) in
-    let b = c .before .before .before .before .before in
-    (omega (arith, five, joined-few k 320 (b .bring-all .result) (c .joined .result) (c .joined .ensures) (b .bring-all .ensures .0)),
-      up-done clock (λ st h g. added-step loopback clock st (t .step-of .result) (t .step-of .ensures) h (d .add-v4 .ensures .1 st h g)) k (e .first .given .1) (b .bring-all .ensures .1) (c .joined .result) (c .joined .ensures))
+    let b = c .before .before .before .before .before in (
+      omega (arith, five, joined-few k 320 (b .bring-all .result) (c .joined .result) (c .joined .ensures) (b .bring-all .ensures .0)),
+      up-done clock (λ st h g. added-step loopback clock st (t .step-of .result) (t .step-of .ensures) h (d .add-v4 .ensures .1 st h g)) k (e .first .given .1) (b .bring-all .ensures .1) (c .joined .result) (c .joined .ensures),
+    )
 
 -- src/lib.rt:115:1
 same-length-3 : tie.Need-same-length-3

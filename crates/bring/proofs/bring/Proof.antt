@@ -82,10 +82,13 @@ kernel-add4-requires c κs =
     let k = c .before .before .before .before in
     let s = k .before .before .before .before in
     let y = s .pre .1 .0 in
-    let inv = k .loop .inv in
-    (sofar-valid (inv .1 .1 .1 .1) (s .pre .0) (y .1),
-      (part-fit (s .args .block .now) (s .args .k) (lit< tt) (y .0) (y .1) (k .loop .i) (c .before .before .before .loop-test .taken),
-      rest-room (k .loop .told) 34 (k .loop .ev) (omega (arith, s .pre .1 .1 .0, inv .0, inv .1 .0, inv .1 .1 .1 .0, c .before .before .before .loop-test .taken))))
+    let inv = k .loop .inv in (
+      sofar-valid (inv .1 .1 .1 .1) (s .pre .0) (y .1),
+      (
+        part-fit (s .args .block .now) (s .args .k) (lit< tt) (y .0) (y .1) (k .loop .i) (c .before .before .before .loop-test .taken),
+        rest-room (k .loop .told) 34 (k .loop .ev) (omega (arith, s .pre .1 .1 .0, inv .0, inv .1 .0, inv .1 .1 .1 .0, c .before .before .before .loop-test .taken)),
+      ),
+    )
 
 -- src/lib.rt:47:24
 enum-known-came : tie.Need-enum-known-came Inv-loop μ-loop

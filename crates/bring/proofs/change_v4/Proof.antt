@@ -259,9 +259,11 @@ returns c =
     let e = c .before .before .before .before .before .before .before .before .before .before .before in
     let k = e .came .given .0 .0 in
     let two = rows-are 2 (m .moved .result) k (e .came .given .1) (m .moved .ensures .0) in
-    let room = rest-room k 34 (m .moved .last .1 .0) (omega (arith, two, s .pre .1 .1 .1)) in
-    (omega (arith, two), λ st hs g at. change-done q (a .clock) old (f .1) fit _ refl (h .changed-to .ensures) (m .moved .ensures .1) k (e .came .given .1) (a .i)
-      (c .before .before .before .before .before .before .before .replace-address .ensures) room (c .before .before .new-addr4 .ensures) st hs g at (getD (st .addresses) (a .i) []) (old-row (a .i) (s .pre .1 .0) _ refl (t .store .ensures) st hs))
+    let room = rest-room k 34 (m .moved .last .1 .0) (omega (arith, two, s .pre .1 .1 .1)) in (
+      omega (arith, two),
+      λ st hs g at. change-done q (a .clock) old (f .1) fit _ refl (h .changed-to .ensures) (m .moved .ensures .1) k (e .came .given .1) (a .i)
+          (c .before .before .before .before .before .before .before .replace-address .ensures) room (c .before .before .new-addr4 .ensures) st hs g at (getD (st .addresses) (a .i) []) (old-row (a .i) (s .pre .1 .0) _ refl (t .store .ensures) st hs),
+    )
 
 -- src/lib.rt:108:1
 same-length-3 : tie.Need-same-length-3

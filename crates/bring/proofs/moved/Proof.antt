@@ -176,12 +176,13 @@ returns-2 c =
     let a = s .args in
     let fit = s .pre .1 .1 .1 .0 in
     let k = e .came .given .0 .0 in
-    let one = rows-are 1 (w .kernel-add4 .result) k (e .came .given .1) (w .kernel-add4 .ensures .1 .0) in
-    (omega (arith, one, d .kernel-del4 .ensures .1 .0),
+    let one = rows-are 1 (w .kernel-add4 .result) k (e .came .given .1) (w .kernel-add4 .ensures .1 .0) in (
+      omega (arith, one, d .kernel-del4 .ensures .1 .0),
       moved-both (a .q .now) (a .old .now) (sym (i .reroutes .ensures) ∙ not-false (i .reroutes .result) (t .if1 .left)) fit
-      (route-row (a .old .now) fit (getD (a .q .now) 13 0) (getD (a .old .now) 0 0) _ refl (n .prefix-route4 .ensures))
-      (route-row (a .old .now) fit (getD (a .old .now) 13 0) (getD (a .old .now) 0 0) _ refl (g .prefix-route42 .ensures))
-      (w .kernel-add4 .ensures .1 .1) k (d .kernel-del4 .result) (e .came .given .1) (d .kernel-del4 .ensures .1 .1))
+          (route-row (a .old .now) fit (getD (a .q .now) 13 0) (getD (a .old .now) 0 0) _ refl (n .prefix-route4 .ensures))
+          (route-row (a .old .now) fit (getD (a .old .now) 13 0) (getD (a .old .now) 0 0) _ refl (g .prefix-route42 .ensures))
+          (w .kernel-add4 .ensures .1 .1) k (d .kernel-del4 .result) (e .came .given .1) (d .kernel-del4 .ensures .1 .1),
+    )
 
 -- src/lib.rt:82:1
 same-length-3 : tie.Need-same-length-3
@@ -201,12 +202,13 @@ returns-3 c =
     let i = t .before in
     let s = i .before .before .before .before .before in
     let a = s .args in
-    let fit = s .pre .1 .1 .1 .0 in
-    (omega arith,
+    let fit = s .pre .1 .1 .1 .0 in (
+      omega arith,
       moved-full (a .q .now) (a .old .now) (sym (i .reroutes .ensures) ∙ not-false (i .reroutes .result) (t .if1 .left)) fit
-      (route-row (a .old .now) fit (getD (a .q .now) 13 0) (getD (a .old .now) 0 0) _ refl (n .prefix-route4 .ensures))
-      (route-row (a .old .now) fit (getD (a .old .now) 13 0) (getD (a .old .now) 0 0) _ refl (g .prefix-route42 .ensures))
-      (w .kernel-add4 .ensures .1 .1) (c .enum-told .given .1))
+          (route-row (a .old .now) fit (getD (a .q .now) 13 0) (getD (a .old .now) 0 0) _ refl (n .prefix-route4 .ensures))
+          (route-row (a .old .now) fit (getD (a .old .now) 13 0) (getD (a .old .now) 0 0) _ refl (g .prefix-route42 .ensures))
+          (w .kernel-add4 .ensures .1 .1) (c .enum-told .given .1),
+    )
 
 pub moved-spec : {M : Type 1} → statement M
 moved-spec =

@@ -97,9 +97,10 @@ candidates-requires c κs =
     let l = p .before .addresses .ensures in
     let place = p .place4 .ensures .1 (v .state .addresses) (of-addresses _ (v .holds) l) in
     let put = i .insert-address .ensures (v .state) (v .holds) in
-    let count = placed-count new (a .up) (v .state) (p .place4 .result) place put in
-    (ready-addresses _ (n .address-count .result + 1) (record { state = _; holds = put }) (c .before .addresses2 .ensures) (omega (arith, count, count-addresses (v .holds), n .address-count .ensures)),
-      (fit-short new fit, omega arith))
+    let count = placed-count new (a .up) (v .state) (p .place4 .result) place put in (
+      ready-addresses _ (n .address-count .result + 1) (record { state = _; holds = put }) (c .before .addresses2 .ensures) (omega (arith, count, count-addresses (v .holds), n .address-count .ensures)),
+      (fit-short new fit, omega arith),
+    )
 
 -- src/lib.rt:76:15
 mul-end : tie.Need-mul-end
@@ -146,10 +147,13 @@ bring-requires c κs =
     let d = c .before .before .before .before .before in
     let there = placed-holds new (a .up) (v .state) (p .place4 .result) place put in
     let rows = d .candidates .ensures .1 (placed new (v .state) .addresses) (of-addresses _ there (d .before .before .addresses2 .ensures)) in
-    let few = d .candidates .ensures .0 .1 in
-    (record { state = placed new (v .state); holds = there; fits = placed-fit new (a .up) (v .state) fit (v .fits) },
-      (new-ready new (a .up) (v .state) (p .place4 .result) place put fit (d .candidates .result) _ _ rows,
-      (rest-room 1 (34 * d .candidates .result) (c .before .before .before .before .before .before .before .before .before .before .before .new-addr4 .last .0) (omega (arith, few, s .pre .1 .1, told-length new fit (a .ev .now) (omega (arith, s .pre .1 .1)) (c .before .before .before .before .before .before .before .before .before .before .before .new-addr4 .ensures))), omega (arith, few))))
+    let few = d .candidates .ensures .0 .1 in (
+      record { state = placed new (v .state); holds = there; fits = placed-fit new (a .up) (v .state) fit (v .fits) },
+      (
+        new-ready new (a .up) (v .state) (p .place4 .result) place put fit (d .candidates .result) _ _ rows,
+        (rest-room 1 (34 * d .candidates .result) (c .before .before .before .before .before .before .before .before .before .before .before .new-addr4 .last .0) (omega (arith, few, s .pre .1 .1, told-length new fit (a .ev .now) (omega (arith, s .pre .1 .1)) (c .before .before .before .before .before .before .before .before .before .before .before .new-addr4 .ensures))), omega (arith, few)),
+      ),
+    )
 
 -- src/lib.rt:78:5
 joined-requires : tie.Need-joined-requires
@@ -177,14 +181,15 @@ returns-2 c =
     let l = p .before .addresses .ensures in
     let d = c .before .before .before .before .before .before .before .before .before .before .before in
     let b = c .before .before .before .before .before in
-    let few = d .candidates .ensures .0 .1 in
-    (omega (arith, few, joined-few 1 (d .candidates .result) (b .bring .result) (c .joined .result) (c .joined .ensures) (b .bring .ensures .0)),
+    let few = d .candidates .ensures .0 .1 in (
+      omega (arith, few, joined-few 1 (d .candidates .result) (b .bring .result) (c .joined .result) (c .joined .ensures) (b .bring .ensures .0)),
       λ st h g.
           let place = p .place4 .ensures .1 (st .addresses) (of-addresses _ h l) in
           let put = i .insert-address .ensures st h in
           let there = placed-holds new (a .up) st (p .place4 .result) place put in
           let rows = d .candidates .ensures .1 (placed new st .addresses) (of-addresses _ there (d .before .before .addresses2 .ensures)) in
-          new-done new (a .up) st (p .place4 .result) place put fit (d .candidates .result) _ _ rows g (omega (arith, s .pre .1 .1)) (c .before .before .before .before .before .before .before .before .before .before .before .before .before .before .before .before .before .new-addr4 .ensures) (b .bring .ensures .1) (c .joined .result) (c .joined .ensures))
+          new-done new (a .up) st (p .place4 .result) place put fit (d .candidates .result) _ _ rows g (omega (arith, s .pre .1 .1)) (c .before .before .before .before .before .before .before .before .before .before .before .before .before .before .before .before .before .new-addr4 .ensures) (b .bring .ensures .1) (c .joined .result) (c .joined .ensures),
+    )
 
 pub new-address-spec : {M : Type 1} → statement M
 new-address-spec =

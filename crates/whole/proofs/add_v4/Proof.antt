@@ -40,9 +40,13 @@ returns c =
     let s = c .before .before .before .before .before .before .before .before .before .before .before .before .before in
     let a = s .args in
     let v = s .pre .0 in
-    let r = t .before .has-room in
-    (d .add-v4 .ensures .0, (λ e. absurd (comes-roomy (addV4 (a .q .now) (a .clock) (v .state)) (d .add-v4 .result) (add-certain 4 (r .result) (r .ensures) (t .if1 .taken) (v .state) (v .holds) refl (a .q .now) (a .clock)) (d .add-v4 .ensures .1 (v .state) (v .holds) (v .fits)) e),
-      d .add-v4 .ensures .1))
+    let r = t .before .has-room in (
+      d .add-v4 .ensures .0,
+      (
+        λ e. absurd (comes-roomy (addV4 (a .q .now) (a .clock) (v .state)) (d .add-v4 .result) (add-certain 4 (r .result) (r .ensures) (t .if1 .taken) (v .state) (v .holds) refl (a .q .now) (a .clock)) (d .add-v4 .ensures .1 (v .state) (v .holds) (v .fits)) e),
+        d .add-v4 .ensures .1,
+      ),
+    )
 
 -- src/lib.rt:69:5
 try-add-v4-requires : tie.Need-try-add-v4-requires

@@ -140,10 +140,14 @@ returns c =
     let e = c .before .before .before .before .before .before .before .before .before .before .before .before in
     let k = e .came .given .0 .0 in
     let five = call-few 5 (d .add-v4 .result) k (e .came .given .1) (d .add-v4 .ensures .0) in
-    let x = tried-comes (addV4 q (a .clock) (v .state)) (d .add-v4 .result) k (e .came .given .1) (d .add-v4 .ensures .1 (v .state) (copy-holds _ (a .s .now) (sym (sound-long v)) (w .store .ensures) (v .state) (v .holds)) (v .fits)) in
-    (five, (λ r. absurd (rows-full k r),
-      λ st h g. comes-back (d .add-v4 .last .0) _ (d .add-v4 .last .1 .0) (a .s .now) (a .ev .now) k (x .long ∙ sym (sound-long v)) (omega (arith, five, s .pre .1 .1)) (c .before .before .before .before .before .before .before .before .store2 .ensures) (c .before .before .store3 .ensures)
-          (addV4 q (a .clock) st) _ (d .add-v4 .result) (e .came .given .1) (d .add-v4 .ensures .1 st (copy-holds _ (a .s .now) (sym (sound-long v)) (w .store .ensures) st h) g)))
+    let x = tried-comes (addV4 q (a .clock) (v .state)) (d .add-v4 .result) k (e .came .given .1) (d .add-v4 .ensures .1 (v .state) (copy-holds _ (a .s .now) (sym (sound-long v)) (w .store .ensures) (v .state) (v .holds)) (v .fits)) in (
+      five,
+      (
+        λ r. absurd (rows-full k r),
+        λ st h g. comes-back (d .add-v4 .last .0) _ (d .add-v4 .last .1 .0) (a .s .now) (a .ev .now) k (x .long ∙ sym (sound-long v)) (omega (arith, five, s .pre .1 .1)) (c .before .before .before .before .before .before .before .before .store2 .ensures) (c .before .before .store3 .ensures)
+            (addV4 q (a .clock) st) _ (d .add-v4 .result) (e .came .given .1) (d .add-v4 .ensures .1 st (copy-holds _ (a .s .now) (sym (sound-long v)) (w .store .ensures) st h) g),
+      ),
+    )
 
 -- src/lib.rt:20:1
 same-length-3 : tie.Need-same-length-3
@@ -159,9 +163,13 @@ returns-2 c =
     let q = a .q .now in
     let v = s .pre .0 in
     let e = c .before in
-    let n = e .came2 .given .0 .0 in
-    (omega arith, (λ r. absurd (refused-full n r),
-      λ st h g. refused-left (addV4 q (a .clock) st) (d .add-v4 .result) n (e .came2 .given .1) (d .add-v4 .ensures .1 st (copy-holds _ (a .s .now) (sym (sound-long v)) (w .store .ensures) st h) g)))
+    let n = e .came2 .given .0 .0 in (
+      omega arith,
+      (
+        λ r. absurd (refused-full n r),
+        λ st h g. refused-left (addV4 q (a .clock) st) (d .add-v4 .result) n (e .came2 .given .1) (d .add-v4 .ensures .1 st (copy-holds _ (a .s .now) (sym (sound-long v)) (w .store .ensures) st h) g),
+      ),
+    )
 
 -- src/lib.rt:20:1
 same-length-4 : tie.Need-same-length-4
@@ -175,9 +183,13 @@ returns-3 c =
     let s = w .before .before .before .before .before .before in
     let a = s .args in
     let q = a .q .now in
-    let v = s .pre .0 in
-    (omega arith, (λ r. (refl, refl),
-      λ st h g. full-left (addV4 q (a .clock) st) (d .add-v4 .result) (c .enum-told .given .1) (d .add-v4 .ensures .1 st (copy-holds _ (a .s .now) (sym (sound-long v)) (w .store .ensures) st h) g)))
+    let v = s .pre .0 in (
+      omega arith,
+      (
+        λ r. (refl, refl),
+        λ st h g. full-left (addV4 q (a .clock) st) (d .add-v4 .result) (c .enum-told .given .1) (d .add-v4 .ensures .1 st (copy-holds _ (a .s .now) (sym (sound-long v)) (w .store .ensures) st h) g),
+      ),
+    )
 
 pub try-add-v4-spec : {M : Type 1} → statement M
 try-add-v4-spec =

@@ -131,10 +131,14 @@ returns c =
     let e = c .before .before .before .before .before .before .before .before .before .before .before .before in
     let k = e .came .given .0 .0 in
     let few = rows-are 325 (d .up .result) k (e .came .given .1) (d .up .ensures .0) in
-    let x = tried-adds (up (a .clock) (v .state)) (d .up .result) k (e .came .given .1) (d .up .ensures .1 (v .state) (copy-holds _ (a .s .now) (sym (sound-long v)) (w .store .ensures) (v .state) (v .holds)) (v .fits)) in
-    (few, (λ r. absurd (told-full k r),
-      λ st h g. adds-back (d .up .last .0) _ (d .up .last .1 .0) (a .s .now) (a .ev .now) k (x .long ∙ sym (sound-long v)) (omega (arith, few, s .pre .1)) (c .before .before .before .before .before .before .before .before .store2 .ensures) (c .before .before .store3 .ensures)
-          (up (a .clock) st) (d .up .result) (e .came .given .1) (d .up .ensures .1 st (copy-holds _ (a .s .now) (sym (sound-long v)) (w .store .ensures) st h) g)))
+    let x = tried-adds (up (a .clock) (v .state)) (d .up .result) k (e .came .given .1) (d .up .ensures .1 (v .state) (copy-holds _ (a .s .now) (sym (sound-long v)) (w .store .ensures) (v .state) (v .holds)) (v .fits)) in (
+      few,
+      (
+        λ r. absurd (told-full k r),
+        λ st h g. adds-back (d .up .last .0) _ (d .up .last .1 .0) (a .s .now) (a .ev .now) k (x .long ∙ sym (sound-long v)) (omega (arith, few, s .pre .1)) (c .before .before .before .before .before .before .before .before .store2 .ensures) (c .before .before .store3 .ensures)
+            (up (a .clock) st) (d .up .result) (e .came .given .1) (d .up .ensures .1 st (copy-holds _ (a .s .now) (sym (sound-long v)) (w .store .ensures) st h) g),
+      ),
+    )
 
 -- src/lib.rt:72:1
 same-length-3 : tie.Need-same-length-3
@@ -147,9 +151,13 @@ returns-2 c =
     let w = d .before .before .before .before in
     let s = w .before .before .before .before .before in
     let a = s .args in
-    let v = s .pre .0 in
-    (omega arith, (λ r. (refl, refl),
-      λ st h g. adds-left (up (a .clock) st) (d .up .result) (c .enum-told .given .1) (d .up .ensures .1 st (copy-holds _ (a .s .now) (sym (sound-long v)) (w .store .ensures) st h) g)))
+    let v = s .pre .0 in (
+      omega arith,
+      (
+        λ r. (refl, refl),
+        λ st h g. adds-left (up (a .clock) st) (d .up .result) (c .enum-told .given .1) (d .up .ensures .1 st (copy-holds _ (a .s .now) (sym (sound-long v)) (w .store .ensures) st h) g),
+      ),
+    )
 
 pub try-up-spec : {M : Type 1} → statement M
 try-up-spec =

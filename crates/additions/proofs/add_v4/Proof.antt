@@ -1,0 +1,165 @@
+use native.Mathlib.Omega.{arith}
+use mathlib.Core.Path.{sym, ap, _∙_}
+use mathlib.Core.Bool.{true, _&&_}
+use lib.ListN.{length}
+use Rattle.layout.specs.Request.{addV4Size, fitAddV4}
+use Rattle.definition.specs.Words.{decode}
+use Rattle.definition.specs.Step.{addV4Call, requestIs, eventsFit}
+use Rattle.definition.specs.Reference.Addresses.{addV4}
+use Rattle.definition.specs.Kept.Numbers.{addV4-number}
+use Rattle.interface.specs.Laws.{held}
+use Rattle.changes.specs.Laws.{change-made}
+use Rattle.changes.specs.Requests.{by-fit, request-no, request-fits, encoded}
+use Rattle.additions.specs.Laws.{cameOf, comes-answers, addV4-leaves, good-passed, bring-sound}
+use borrow.Author.Needs.{needs}
+use Rattle.additions.proofs.add_v4.Statement.{statement}
+use Rattle.additions.proofs.add_v4.Tie as tie
+use Rattle.additions.proofs.add_v4.Reads as reads
+use Rattle.additions.proofs.add_v4.Lts as lts
+use Rattle.additions.proofs.fit_add_v4.Reads as fit-add-v4-reads
+use Rattle.interface.proofs.checked.Reads as checked-reads
+use Rattle.whole.proofs.add_v4.Reads as add-v4-reads
+
+-- src/lib.rt:26:9
+fit-add-v4-requires : tie.Need-fit-add-v4-requires
+fit-add-v4-requires c κs = search needs
+
+-- src/lib.rt:27:9
+checked-requires : tie.Need-checked-requires
+checked-requires c κs = search needs
+
+-- src/lib.rt:29:9
+same-length : tie.Need-same-length
+same-length c = search needs
+
+-- src/lib.rt:29:9
+returns : tie.Need-returns
+unfolding addV4Call
+returns c =
+    let k = c .before in
+    let i = k .before .before in
+    let a = i .before .before .before .before .args in
+    let x = request-no (a .q .now) (a .state .now) (a .events .now) (k .checked .result) addV4Size (fitAddV4 (a .q .now)) (i .fit-add-v4 .result) (addV4 (a .q .now) (a .clock)) (i .fit-add-v4 .ensures) (k .checked .ensures) (c .if1 .taken) in
+    (x .answer, (x .words, x .events))
+
+-- src/lib.rt:31:9
+add-v4-requires : tie.Need-add-v4-requires
+add-v4-requires c κs =
+    let e = c .before .before in
+    let k = e .before in
+    let i = k .before .before in
+    let a = i .before .before .before .before .args in
+    let p = request-fits (a .q .now) (a .state .now) (a .events .now) (k .checked .result) addV4Size (fitAddV4 (a .q .now)) (i .fit-add-v4 .result) (addV4 (a .q .now) (a .clock)) (i .fit-add-v4 .ensures) (k .checked .ensures) (e .if1 .left) in
+    (bring-sound (requestIs addV4Size (a .q .now) && eventsFit (length (a .events .now))) (fitAddV4 (a .q .now)) (a .state .now) (k .checked .result) (by-fit (a .q .now) (a .state .now) (a .events .now) (k .checked .result) addV4Size (fitAddV4 (a .q .now)) (i .fit-add-v4 .result) (addV4 (a .q .now) (a .clock)) (i .fit-add-v4 .ensures) (k .checked .ensures)) (e .if1 .left), ((p .0, p .1), omega (arith, p .2)))
+
+-- src/lib.rt:33:28
+enum-known-came : tie.Need-enum-known-came
+enum-known-came c = search needs
+
+-- src/lib.rt:34:31
+enum-known-came-2 : tie.Need-enum-known-came-2
+enum-known-came-2 c = search needs
+
+-- src/lib.rt:35:31
+enum-told : tie.Need-enum-told
+enum-told c = search needs
+
+-- src/lib.rt:21:1
+same-length-2 : tie.Need-same-length-2
+same-length-2 c = search needs
+
+-- src/lib.rt:21:1
+same-length-3 : tie.Need-same-length-3
+same-length-3 c = search needs
+
+-- src/lib.rt:21:1
+returns-2 : tie.Need-returns-2
+unfolding addV4Call
+returns-2 c =
+    let y = c .before .before .before .before .before .before .before in
+    let e = y .before .before .before in
+    let k = e .before in
+    let i = k .before .before in
+    let a = i .before .before .before .before .args in
+    let z = by-fit (a .q .now) (a .state .now) (a .events .now) (k .checked .result) addV4Size (fitAddV4 (a .q .now)) (i .fit-add-v4 .result) (addV4 (a .q .now) (a .clock)) (i .fit-add-v4 .ensures) (k .checked .ensures) in
+    let g = good-passed (requestIs addV4Size (a .q .now) && eventsFit (length (a .events .now))) (fitAddV4 (a .q .now)) (a .state .now) (k .checked .result) z (e .if1 .left) in
+    let d = y .add-v4 .ensures .1 .1 (decode (a .state .now)) (held (requestIs addV4Size (a .q .now) && eventsFit (length (a .events .now))) true (fitAddV4 (a .q .now)) (a .state .now) (k .checked .result) z (e .if1 .left)) (g .fits) in
+    let x = comes-answers (a .state .now) _ (a .events .now) _ (addV4Call (a .q .now) (length (a .events .now)) (a .clock) (a .state .now)) (addV4 (a .q .now) (a .clock) (decode (a .state .now))) (y .add-v4 .result)
+    (change-made (requestIs addV4Size (a .q .now) && eventsFit (length (a .events .now))) (fitAddV4 (a .q .now)) (addV4 (a .q .now) (a .clock)) (a .state .now) (k .checked .result) z (e .if1 .left))
+    (addV4-number (a .q .now) (a .clock) (decode (a .state .now))) g (encoded (requestIs addV4Size (a .q .now) && eventsFit (length (a .events .now))) (fitAddV4 (a .q .now)) (a .state .now) (k .checked .result) z (e .if1 .left))
+    (addV4-leaves (a .q .now) (a .clock) (decode (a .state .now))) d (y .add-v4 .ensures .1 .0) in
+    (ap cameOf (sym (c .before .came .given .1)) ∙ x .answer, (x .words, x .events))
+
+-- src/lib.rt:21:1
+same-length-4 : tie.Need-same-length-4
+same-length-4 c = search needs
+
+-- src/lib.rt:21:1
+same-length-5 : tie.Need-same-length-5
+same-length-5 c = search needs
+
+-- src/lib.rt:21:1
+returns-3 : tie.Need-returns-3
+unfolding addV4Call
+returns-3 c =
+    let y = c .before .before .before .before .before .before .before in
+    let e = y .before .before .before in
+    let k = e .before in
+    let i = k .before .before in
+    let a = i .before .before .before .before .args in
+    let z = by-fit (a .q .now) (a .state .now) (a .events .now) (k .checked .result) addV4Size (fitAddV4 (a .q .now)) (i .fit-add-v4 .result) (addV4 (a .q .now) (a .clock)) (i .fit-add-v4 .ensures) (k .checked .ensures) in
+    let g = good-passed (requestIs addV4Size (a .q .now) && eventsFit (length (a .events .now))) (fitAddV4 (a .q .now)) (a .state .now) (k .checked .result) z (e .if1 .left) in
+    let d = y .add-v4 .ensures .1 .1 (decode (a .state .now)) (held (requestIs addV4Size (a .q .now) && eventsFit (length (a .events .now))) true (fitAddV4 (a .q .now)) (a .state .now) (k .checked .result) z (e .if1 .left)) (g .fits) in
+    let x = comes-answers (a .state .now) _ (a .events .now) _ (addV4Call (a .q .now) (length (a .events .now)) (a .clock) (a .state .now)) (addV4 (a .q .now) (a .clock) (decode (a .state .now))) (y .add-v4 .result)
+    (change-made (requestIs addV4Size (a .q .now) && eventsFit (length (a .events .now))) (fitAddV4 (a .q .now)) (addV4 (a .q .now) (a .clock)) (a .state .now) (k .checked .result) z (e .if1 .left))
+    (addV4-number (a .q .now) (a .clock) (decode (a .state .now))) g (encoded (requestIs addV4Size (a .q .now) && eventsFit (length (a .events .now))) (fitAddV4 (a .q .now)) (a .state .now) (k .checked .result) z (e .if1 .left))
+    (addV4-leaves (a .q .now) (a .clock) (decode (a .state .now))) d (y .add-v4 .ensures .1 .0) in
+    (ap cameOf (sym (c .before .came2 .given .1)) ∙ x .answer, (x .words, x .events))
+
+-- src/lib.rt:21:1
+same-length-6 : tie.Need-same-length-6
+same-length-6 c = search needs
+
+-- src/lib.rt:21:1
+same-length-7 : tie.Need-same-length-7
+same-length-7 c = search needs
+
+-- src/lib.rt:21:1
+returns-4 : tie.Need-returns-4
+unfolding addV4Call
+returns-4 c =
+    let y = c .before .before .before .before .before .before in
+    let e = y .before .before .before in
+    let k = e .before in
+    let i = k .before .before in
+    let a = i .before .before .before .before .args in
+    let z = by-fit (a .q .now) (a .state .now) (a .events .now) (k .checked .result) addV4Size (fitAddV4 (a .q .now)) (i .fit-add-v4 .result) (addV4 (a .q .now) (a .clock)) (i .fit-add-v4 .ensures) (k .checked .ensures) in
+    let g = good-passed (requestIs addV4Size (a .q .now) && eventsFit (length (a .events .now))) (fitAddV4 (a .q .now)) (a .state .now) (k .checked .result) z (e .if1 .left) in
+    let d = y .add-v4 .ensures .1 .1 (decode (a .state .now)) (held (requestIs addV4Size (a .q .now) && eventsFit (length (a .events .now))) true (fitAddV4 (a .q .now)) (a .state .now) (k .checked .result) z (e .if1 .left)) (g .fits) in
+    let x = comes-answers (a .state .now) _ (a .events .now) _ (addV4Call (a .q .now) (length (a .events .now)) (a .clock) (a .state .now)) (addV4 (a .q .now) (a .clock) (decode (a .state .now))) (y .add-v4 .result)
+    (change-made (requestIs addV4Size (a .q .now) && eventsFit (length (a .events .now))) (fitAddV4 (a .q .now)) (addV4 (a .q .now) (a .clock)) (a .state .now) (k .checked .result) z (e .if1 .left))
+    (addV4-number (a .q .now) (a .clock) (decode (a .state .now))) g (encoded (requestIs addV4Size (a .q .now) && eventsFit (length (a .events .now))) (fitAddV4 (a .q .now)) (a .state .now) (k .checked .result) z (e .if1 .left))
+    (addV4-leaves (a .q .now) (a .clock) (decode (a .state .now))) d (y .add-v4 .ensures .1 .0) in
+    (ap cameOf (sym (c .enum-told .given .1)) ∙ x .answer, (x .words, x .events))
+
+pub add-v4-spec : {M : Type 1} → statement M
+add-v4-spec =
+    tie.close
+    (tie.spec
+    fit-add-v4-requires
+    checked-requires
+    same-length
+    returns
+    add-v4-requires
+    enum-known-came
+    enum-known-came-2
+    enum-told
+    same-length-2
+    same-length-3
+    returns-2
+    same-length-4
+    same-length-5
+    returns-3
+    same-length-6
+    same-length-7
+    returns-4)

@@ -1,0 +1,105 @@
+use mathlib.Core.Path.{sym, ap, _∙_}
+use mathlib.Core.Bool.{true}
+use lib.ListN.{length}
+use borrow.Author.Tests.{leb-true}
+use Rattle.definition.specs.Words.{decode}
+use Rattle.definition.specs.Step.{eventsFit}
+use Rattle.interface.specs.Laws.{passed, held}
+use Rattle.additions.specs.Laws.{toldOf, up-no, up-yes, good-passed, bring-sound}
+use borrow.Author.Needs.{needs}
+use Rattle.additions.proofs.up.Statement.{statement}
+use Rattle.additions.proofs.up.Tie as tie
+use Rattle.additions.proofs.up.Reads as reads
+use Rattle.additions.proofs.up.Lts as lts
+use Rattle.interface.proofs.checked.Reads as checked-reads
+use Rattle.whole.proofs.up.Reads as up-reads
+
+-- src/lib.rt:44:9
+checked-requires : tie.Need-checked-requires
+checked-requires c κs = search needs
+
+-- src/lib.rt:46:9
+same-length : tie.Need-same-length
+same-length c = search needs
+
+-- src/lib.rt:46:9
+returns : tie.Need-returns
+returns c =
+    let k = c .before in
+    let a = k .before .before .before .before .args in
+    let x = up-no (a .state .now) (a .events .now) (k .checked .result) (a .clock) (k .checked .ensures) (c .if1 .taken) in
+    (x .answer, (x .words, x .events))
+
+-- src/lib.rt:48:9
+up-requires : tie.Need-up-requires
+up-requires c κs =
+    let e = c .before .before in
+    let k = e .before in
+    let a = k .before .before .before .before .args in
+    let p = passed (eventsFit (length (a .events .now))) true true (a .state .now) (k .checked .result) (k .checked .ensures) (e .if1 .left) in
+    (bring-sound (eventsFit (length (a .events .now))) true (a .state .now) (k .checked .result) (k .checked .ensures) (e .if1 .left), leb-true 13056 (length (a .events .now)) (p .room))
+
+-- src/lib.rt:50:27
+enum-known-told : tie.Need-enum-known-told
+enum-known-told c = search needs
+
+-- src/lib.rt:51:30
+enum-told : tie.Need-enum-told
+enum-told c = search needs
+
+-- src/lib.rt:39:1
+same-length-2 : tie.Need-same-length-2
+same-length-2 c = search needs
+
+-- src/lib.rt:39:1
+same-length-3 : tie.Need-same-length-3
+same-length-3 c = search needs
+
+-- src/lib.rt:39:1
+returns-2 : tie.Need-returns-2
+returns-2 c =
+    let y = c .before .before .before .before .before .before .before in
+    let e = y .before .before .before in
+    let k = e .before in
+    let a = k .before .before .before .before .args in
+    let g = good-passed (eventsFit (length (a .events .now))) true (a .state .now) (k .checked .result) (k .checked .ensures) (e .if1 .left) in
+    let d = y .up .ensures .1 .1 (decode (a .state .now)) (held (eventsFit (length (a .events .now))) true true (a .state .now) (k .checked .result) (k .checked .ensures) (e .if1 .left)) (g .fits) in
+    let x = up-yes (a .state .now) (a .events .now) (k .checked .result) (a .clock) (k .checked .ensures) _ _ (y .up .result) (e .if1 .left) d (y .up .ensures .1 .0) in
+    (ap toldOf (sym (c .before .told .given .1)) ∙ x .answer, (x .words, x .events))
+
+-- src/lib.rt:39:1
+same-length-4 : tie.Need-same-length-4
+same-length-4 c = search needs
+
+-- src/lib.rt:39:1
+same-length-5 : tie.Need-same-length-5
+same-length-5 c = search needs
+
+-- src/lib.rt:39:1
+returns-3 : tie.Need-returns-3
+returns-3 c =
+    let y = c .before .before .before .before .before .before in
+    let e = y .before .before .before in
+    let k = e .before in
+    let a = k .before .before .before .before .args in
+    let g = good-passed (eventsFit (length (a .events .now))) true (a .state .now) (k .checked .result) (k .checked .ensures) (e .if1 .left) in
+    let d = y .up .ensures .1 .1 (decode (a .state .now)) (held (eventsFit (length (a .events .now))) true true (a .state .now) (k .checked .result) (k .checked .ensures) (e .if1 .left)) (g .fits) in
+    let x = up-yes (a .state .now) (a .events .now) (k .checked .result) (a .clock) (k .checked .ensures) _ _ (y .up .result) (e .if1 .left) d (y .up .ensures .1 .0) in
+    (ap toldOf (sym (c .enum-told .given .1)) ∙ x .answer, (x .words, x .events))
+
+pub up-spec : {M : Type 1} → statement M
+up-spec =
+    tie.close
+    (tie.spec
+    checked-requires
+    same-length
+    returns
+    up-requires
+    enum-known-told
+    enum-told
+    same-length-2
+    same-length-3
+    returns-2
+    same-length-4
+    same-length-5
+    returns-3)
