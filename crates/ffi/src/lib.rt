@@ -1,0 +1,211 @@
+// The calls as a host links them: `interface4w_*` on words, without a copy. Each gives the definition's number and values.
+use address::LeftReply;
+use changes::Done;
+use interface::Chosen;
+use interface::Found;
+use interface::Local;
+use interface::Sourced;
+ghost use mathlib.Core.Path.{_≡_};
+ghost use Prim.Native.Nat.{_<_};
+ghost use lib.ListN.{length};
+ghost use Rattle.lists.specs.Lists.{flat, put};
+ghost use Rattle.definition.specs.Step.{lookup4Call, lookup4FlowCall, local4Call, source4Call, sourceCall, select4Call, leftCall, downCall, addRoute4Call, delRoute4Call};
+ghost use Rattle.interface.specs.Answer.{foundBy, localBy, chosenBy, sourcedBy};
+ghost use Rattle.changes.specs.Answer.{doneBy};
+ghost use Rattle.address.specs.Row.{replyOf as address·replyOf};
+ghost use Rattle.ffi.specs.Answer.{replyFrom, replyOf};
+
+// The number is 0, or the refusal's number and then the rest is 0.
+#[repr(C)]
+pub struct Reply {
+    pub number: u32,
+    pub present: u32,
+    pub value: u32,
+    pub second: u32,
+}
+
+fn refused(n: u32) -> Reply
+    ensures { λ r. ⌜ r ≡ record { number = n; present = 0; value = 0; second = 0 } ⌝ }
+{
+    Reply {
+        number: n,
+        present: 0,
+        value: 0,
+        second: 0,
+    }
+}
+
+fn valued(v: u32) -> Reply
+    ensures { λ r. ⌜ r ≡ record { number = 0; present = 0; value = v; second = 0 } ⌝ }
+{
+    Reply {
+        number: 0,
+        present: 0,
+        value: v,
+        second: 0,
+    }
+}
+
+fn found(f: Found) -> Reply
+    ensures { λ r. ⌜ r ≡ replyFrom (foundBy f) ⌝ }
+{
+    match f {
+        Found::Refused(n) => refused(n),
+        Found::Row => valued(0),
+    }
+}
+
+fn local(l: Local) -> Reply
+    ensures { λ r. ⌜ r ≡ replyFrom (localBy l) ⌝ }
+{
+    match l {
+        Local::Refused(n) => refused(n),
+        Local::Is(b) => valued(b as u32),
+    }
+}
+
+fn chosen(a: Chosen) -> Reply
+    ensures { λ r. ⌜ r ≡ replyFrom (chosenBy a) ⌝ }
+{
+    match a {
+        Chosen::Refused(n) => refused(n),
+        Chosen::Nothing => valued(0),
+        Chosen::Address(v) => Reply {
+            number: 0,
+            present: 1,
+            value: v,
+            second: 0,
+        },
+    }
+}
+
+fn sourced(a: Sourced) -> Reply
+    ensures { λ r. ⌜ r ≡ replyFrom (sourcedBy a) ⌝ }
+{
+    match a {
+        Sourced::Refused(n) => refused(n),
+        Sourced::Address(v) => valued(v),
+    }
+}
+
+fn remaining(l: LeftReply) -> Reply
+    ensures { λ r. ⌜ r ≡ replyOf (address·replyOf l) ⌝ }
+{
+    match l {
+        LeftReply::Refused(n) => refused(n),
+        LeftReply::Left { preferred, valid } => Reply {
+            number: 0,
+            present: 0,
+            value: preferred,
+            second: valid,
+        },
+    }
+}
+
+// A changing call tells of at most 384 events.
+fn done(d: Done) -> Reply
+    requires { ⌜ doneBy d .value < 4294967296 ⌝ }
+    ensures { λ r. ⌜ r ≡ replyFrom (doneBy d) ⌝ }
+{
+    match d {
+        Done::Refused(n) => refused(n),
+        Done::Rows(n) => valued(n as u32),
+    }
+}
+
+#[no_mangle]
+pub extern "C" fn interface4w_lookup4(state: &[u32], row: &mut [u32], ip: u32) -> Reply
+    ensures { λ r. ⌜ r ≡ replyOf (lookup4Call (length (now (row .entry))) ip (now (state .entry)) .reply) ⌝ }
+    ensures { λ _. ⌜ now (row .exit) ≡ put 0 (flat (lookup4Call (length (now (row .entry))) ip (now (state .entry)) .reply .rows)) (now (row .entry)) ⌝ }
+{
+    found(interface::lookup4(state, row, ip))
+}
+
+#[no_mangle]
+pub extern "C" fn interface4w_lookup4_flow(
+    state: &[u32],
+    row: &mut [u32],
+    ip: u32,
+    tos: u32,
+    oif: u32,
+) -> Reply
+    ensures { λ r. ⌜ r ≡ replyOf (lookup4FlowCall (length (now (row .entry))) ip tos oif (now (state .entry)) .reply) ⌝ }
+    ensures { λ _. ⌜ now (row .exit) ≡ put 0 (flat (lookup4FlowCall (length (now (row .entry))) ip tos oif (now (state .entry)) .reply .rows)) (now (row .entry)) ⌝ }
+{
+    found(interface::lookup4_flow(state, row, ip, tos, oif))
+}
+
+#[no_mangle]
+pub extern "C" fn interface4w_local4(state: &[u32], ip: u32) -> Reply
+    ensures { λ r. ⌜ r ≡ replyOf (local4Call ip (now (state .entry)) .reply) ⌝ }
+{
+    local(interface::local4(state, ip))
+}
+
+#[no_mangle]
+pub extern "C" fn interface4w_source4(state: &[u32], row: &[u32], ip: u32) -> Reply
+    ensures { λ r. ⌜ r ≡ replyOf (source4Call (now (row .entry)) ip (now (state .entry)) .reply) ⌝ }
+{
+    chosen(interface::source4(state, row, ip))
+}
+
+#[no_mangle]
+pub extern "C" fn interface4w_source(state: &[u32], ip: u32) -> Reply
+    ensures { λ r. ⌜ r ≡ replyOf (sourceCall ip (now (state .entry)) .reply) ⌝ }
+{
+    sourced(interface::source(state, ip))
+}
+
+#[no_mangle]
+pub extern "C" fn interface4w_select4(
+    state: &[u32],
+    dst_present: u32,
+    dst: u32,
+    scope: u32,
+) -> Reply
+    ensures { λ r. ⌜ r ≡ replyOf (select4Call «dst_present» dst scope (now (state .entry)) .reply) ⌝ }
+{
+    chosen(interface::select4(state, dst_present, dst, scope))
+}
+
+#[no_mangle]
+pub extern "C" fn interface4w_left(row: &[u32], clock: u64) -> Reply
+    ensures { λ r. ⌜ r ≡ replyOf (leftCall (now (row .entry)) clock) ⌝ }
+{
+    remaining(address::left(row, clock))
+}
+
+#[no_mangle]
+pub extern "C" fn interface4w_down(state: &mut [u32], events: &mut [u32]) -> Reply
+    ensures { λ r. ⌜ r ≡ replyOf (downCall (length (now (events .entry))) (now (state .entry)) .reply) ⌝ }
+    ensures { λ _. ⌜ now (state .exit) ≡ downCall (length (now (events .entry))) (now (state .entry)) .words ⌝ }
+    ensures { λ _. ⌜ now (events .exit) ≡ put 0 (flat (downCall (length (now (events .entry))) (now (state .entry)) .reply .rows)) (now (events .entry)) ⌝ }
+{
+    done(changes::down(state, events))
+}
+
+#[no_mangle]
+pub extern "C" fn interface4w_add_route4(
+    state: &mut [u32],
+    request: &[u32],
+    events: &mut [u32],
+) -> Reply
+    ensures { λ r. ⌜ r ≡ replyOf (addRoute4Call (now (request .entry)) (length (now (events .entry))) (now (state .entry)) .reply) ⌝ }
+    ensures { λ _. ⌜ now (state .exit) ≡ addRoute4Call (now (request .entry)) (length (now (events .entry))) (now (state .entry)) .words ⌝ }
+    ensures { λ _. ⌜ now (events .exit) ≡ put 0 (flat (addRoute4Call (now (request .entry)) (length (now (events .entry))) (now (state .entry)) .reply .rows)) (now (events .entry)) ⌝ }
+{
+    done(changes::add_route4(state, request, events))
+}
+
+#[no_mangle]
+pub extern "C" fn interface4w_del_route4(
+    state: &mut [u32],
+    request: &[u32],
+    events: &mut [u32],
+) -> Reply
+    ensures { λ r. ⌜ r ≡ replyOf (delRoute4Call (now (request .entry)) (length (now (events .entry))) (now (state .entry)) .reply) ⌝ }
+    ensures { λ _. ⌜ now (state .exit) ≡ delRoute4Call (now (request .entry)) (length (now (events .entry))) (now (state .entry)) .words ⌝ }
+    ensures { λ _. ⌜ now (events .exit) ≡ put 0 (flat (delRoute4Call (now (request .entry)) (length (now (events .entry))) (now (state .entry)) .reply .rows)) (now (events .entry)) ⌝ }
+{
+    done(changes::del_route4(state, request, events))
+}
