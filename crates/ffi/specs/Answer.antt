@@ -1,4 +1,10 @@
 -- A reply as the host gets it: its numbers, the rows standing in the buffer that was lent.
+use Prim.Native.Nat.{ℕ}
+use mathlib.Core.Bool.{Bool, cond}
+use mathlib.Core.List.{List, []}
+use lib.Dec.{eqb}
+use lib.ListN.{length}
+use Rattle.endian.specs.Endian.{wordsOf}
 use Rattle.definition.specs.Call as Call
 use Rattle.interface.specs.Answer.{Numbers, numbers}
 use Rattle.ffi.specs.declared.Reply.{Reply}
@@ -8,3 +14,15 @@ replyFrom n = record { number = n .number; present = n .present; value = n .valu
 
 abbrev pub replyOf : Call.Reply → Reply
 replyOf r = replyFrom (numbers r)
+
+-- ---- on bytes: 200 where there are not as many as there must be
+abbrev pub onBytes : Bool → Call.Reply → Call.Reply
+onBytes fit r = cond fit r (Call.refusal 200)
+
+-- a state's bytes
+abbrev pub stateFits : List ℕ → Bool
+stateFits b = eqb (length b) 38028
+
+-- a row handed over, of n bytes; other bytes are no row
+abbrev pub rowWords : ℕ → List ℕ → List ℕ
+rowWords n b = cond (eqb (length b) n) (wordsOf b) []

@@ -1,4 +1,5 @@
-// The calls as a host links them: `interface4w_*` on words, without a copy. Each gives the definition's number and values.
+// The calls as a host links them: `interface4w_*` on words, without a copy, and `interface4_*` on bytes, each word as four, the
+// lowest first. Each gives the definition's number and values.
 use address::LeftReply;
 use changes::Done;
 use interface::Chosen;
@@ -13,7 +14,8 @@ ghost use Rattle.definition.specs.Step.{lookup4Call, lookup4FlowCall, local4Cal
 ghost use Rattle.interface.specs.Answer.{foundBy, localBy, chosenBy, sourcedBy};
 ghost use Rattle.changes.specs.Answer.{doneBy};
 ghost use Rattle.address.specs.Row.{replyOf as address·replyOf};
-ghost use Rattle.ffi.specs.Answer.{replyFrom, replyOf};
+ghost use Rattle.endian.specs.Endian.{wordsOf};
+ghost use Rattle.ffi.specs.Answer.{replyFrom, replyOf, onBytes, stateFits, rowWords};
 
 // The number is 0, or the refusal's number and then the rest is 0.
 #[repr(C)]
@@ -208,4 +210,70 @@ pub extern "C" fn interface4w_del_route4(
     ensures { λ _. ⌜ now (events .exit) ≡ put 0 (flat (delRoute4Call (now (request .entry)) (length (now (events .entry))) (now (state .entry)) .reply .rows)) (now (events .entry)) ⌝ }
 {
     done(changes::del_route4(state, request, events))
+}
+
+#[no_mangle]
+pub extern "C" fn interface4_local4(state: &[u8], ip: u32) -> Reply
+    ensures { λ r. ⌜ r ≡ replyOf (onBytes (stateFits (now (state .entry))) (local4Call ip (wordsOf (now (state .entry))) .reply)) ⌝ }
+{
+    if state.len() != 38028 {
+        return refused(200);
+    }
+    let mut s = [0u32; 9507];
+    endian::words_of(state, &mut s);
+    interface4w_local4(&s, ip)
+}
+
+#[no_mangle]
+pub extern "C" fn interface4_source(state: &[u8], ip: u32) -> Reply
+    ensures { λ r. ⌜ r ≡ replyOf (onBytes (stateFits (now (state .entry))) (sourceCall ip (wordsOf (now (state .entry))) .reply)) ⌝ }
+{
+    if state.len() != 38028 {
+        return refused(200);
+    }
+    let mut s = [0u32; 9507];
+    endian::words_of(state, &mut s);
+    interface4w_source(&s, ip)
+}
+
+#[no_mangle]
+pub extern "C" fn interface4_select4(state: &[u8], dst_present: u32, dst: u32, scope: u32) -> Reply
+    ensures { λ r. ⌜ r ≡ replyOf (onBytes (stateFits (now (state .entry))) (select4Call «dst_present» dst scope (wordsOf (now (state .entry))) .reply)) ⌝ }
+{
+    if state.len() != 38028 {
+        return refused(200);
+    }
+    let mut s = [0u32; 9507];
+    endian::words_of(state, &mut s);
+    interface4w_select4(&s, dst_present, dst, scope)
+}
+
+// A row of another length is no address: the call on words says so.
+#[no_mangle]
+pub extern "C" fn interface4_left(row: &[u8], clock: u64) -> Reply
+    ensures { λ r. ⌜ r ≡ replyOf (leftCall (rowWords 80 (now (row .entry))) clock) ⌝ }
+{
+    let mut r = [0u32; 20];
+    if row.len() != 80 {
+        return interface4w_left(&r[0..0], clock);
+    }
+    endian::words_of(row, &mut r);
+    interface4w_left(&r, clock)
+}
+
+#[no_mangle]
+pub extern "C" fn interface4_source4(state: &[u8], row: &[u8], ip: u32) -> Reply
+    ensures { λ r. ⌜ r ≡ replyOf (onBytes (stateFits (now (state .entry))) (source4Call (rowWords 128 (now (row .entry))) ip (wordsOf (now (state .entry))) .reply)) ⌝ }
+{
+    if state.len() != 38028 {
+        return refused(200);
+    }
+    let mut s = [0u32; 9507];
+    endian::words_of(state, &mut s);
+    let mut r = [0u32; 32];
+    if row.len() != 128 {
+        return interface4w_source4(&s, &r[0..0], ip);
+    }
+    endian::words_of(row, &mut r);
+    interface4w_source4(&s, &r, ip)
 }
