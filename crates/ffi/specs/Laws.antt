@@ -11,6 +11,7 @@ use lib.ListN.{length}
 use borrow.Author.Tests.{eqb-true}
 use Rattle.lists.specs.Lists.{Row}
 use Rattle.lists.specs.All.{cond-case, test-case}
+use Rattle.lists.specs.Rows.{sized}
 use Rattle.layout.specs.Address.{optional}
 use Rattle.layout.specs.Route.{fitRoute}
 use Rattle.layout.specs.Request.{fitAddRoute4, fitDelRoute4}
@@ -150,3 +151,28 @@ rows-small d n e h = rw e at h
 pub as-local : (b : Bool) → _≡_ {A = Rep.Reply} (record { number = 0; present = 0; value = boolByte b; second = 0 }) (replyFrom (valuing (cond b 1 0)))
 as-local true = refl
 as-local false = refl
+
+-- ---- what a changing call told: rows of 34 words, as many as its value says
+pub record Told (r : Reply) : Type 0 where
+  pub counts : r .value ≡ length (r .rows)
+  pub few : length (r .rows) ≤ 384
+  pub size : sized 34 (r .rows) ≡ true
+
+module _ (w : List ℕ) (events : ℕ) where
+  pub down-told : Told (downCall events w .reply)
+  unfolding downCall step
+  down-told =
+      let e = told-bound (Call.down events) _ w refl in
+      record { counts = tells (eventsFit events) true (λ st. goes (Addresses.down st)) w .counts; few = e .few; size = e .size }
+
+  pub add-route4-told : (q : Row) → Told (addRoute4Call q events w .reply)
+  unfolding addRoute4Call step
+  add-route4-told q =
+      let e = told-bound (Call.addRoute4 q events) _ w refl in
+      record { counts = tells (requestIs 34 q && eventsFit events) (fitAddRoute4 q) (addRoute4 q) w .counts; few = e .few; size = e .size }
+
+  pub del-route4-told : (q : Row) → Told (delRoute4Call q events w .reply)
+  unfolding delRoute4Call step
+  del-route4-told q =
+      let e = told-bound (Call.delRoute4 q events) _ w refl in
+      record { counts = tells (requestIs 49 q && eventsFit events) (fitDelRoute4 q) (delRoute4Request q) w .counts; few = e .few; size = e .size }
