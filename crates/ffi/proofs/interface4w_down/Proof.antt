@@ -1,0 +1,43 @@
+use Rattle.definition.specs.Step.{downCall}
+use mathlib.Core.Path.{_≡_, sym, ap, _∙_}
+use Rattle.ffi.specs.Answer.{replyFrom, replyOf}
+use Rattle.changes.specs.Answer.{doneBy}
+use Rattle.ffi.specs.Laws.{down-numbers, small-by}
+use lib.ListN.{length}
+use borrow.Author.Needs.{needs}
+use Rattle.ffi.proofs.interface4w_down.Statement.{statement}
+use Rattle.ffi.proofs.interface4w_down.Tie as tie
+use Rattle.ffi.proofs.interface4w_down.Reads as reads
+use Rattle.ffi.proofs.interface4w_down.Lts as lts
+use Rattle.changes.proofs.down.Reads as down-reads
+use Rattle.ffi.proofs.done.Reads as done-reads
+
+-- src/lib.rt:173:10
+down-requires : tie.Need-down-requires
+down-requires c κs = search needs
+
+-- src/lib.rt:173:5
+done-requires : tie.Need-done-requires
+done-requires c κs =
+    let k = c .before .before .before .before in
+    let a = k .before .before .before .before .before .args in
+    small-by (k .down .result) (downCall (length (a .events .now)) (a .state .now) .reply) (k .down .ensures .0) (down-numbers (a .state .now) (length (a .events .now)) .1)
+
+-- src/lib.rt:167:1
+same-length : tie.Need-same-length
+same-length c = search needs
+
+-- src/lib.rt:167:1
+same-length-2 : tie.Need-same-length-2
+same-length-2 c = search needs
+
+-- src/lib.rt:167:1
+returns : tie.Need-returns
+returns c =
+    let k = c .before .before .before .before .before in
+    let a = k .before .before .before .before .before .args in
+    (c .done .ensures ∙ ap replyFrom (ap doneBy (k .down .ensures .0) ∙ down-numbers (a .state .now) (length (a .events .now)) .0), (k .down .ensures .1 .0, k .down .ensures .1 .1))
+
+pub interface4w-down-spec : {M : Type 1} → statement M
+interface4w-down-spec =
+    tie.close (tie.spec down-requires done-requires same-length same-length-2 returns)

@@ -1,0 +1,40 @@
+use mathlib.Core.Path.{_≡_, sym, ap, _∙_}
+use Rattle.ffi.specs.Answer.{replyFrom, replyOf}
+use Rattle.interface.specs.Answer.{sourcedBy}
+use Rattle.interface.specs.declared.Sourced.{Sourced}
+use borrow.Author.Needs.{needs}
+use Rattle.ffi.proofs.sourced.Statement.{statement}
+use Rattle.ffi.proofs.sourced.Tie as tie
+use Rattle.ffi.proofs.sourced.Reads as reads
+use Rattle.ffi.proofs.sourced.Lts as lts
+use Rattle.ffi.proofs.refused.Reads as refused-reads
+use Rattle.ffi.proofs.valued.Reads as valued-reads
+
+-- src/lib.rt:86:26
+enum-known-a : tie.Need-enum-known-a
+enum-known-a c = search needs
+
+-- src/lib.rt:86:32
+refused-requires : tie.Need-refused-requires
+refused-requires c κs = search needs
+
+-- src/lib.rt:87:26
+enum-known-a-2 : tie.Need-enum-known-a-2
+enum-known-a-2 c = search needs
+
+-- src/lib.rt:87:32
+valued-requires : tie.Need-valued-requires
+valued-requires c κs = search needs
+
+-- src/lib.rt:82:1
+returns : tie.Need-returns
+returns c = c .refused .ensures ∙ ap (λ (x : Sourced). replyFrom (sourcedBy x)) (sym (c .before .before .a .given .1))
+
+-- src/lib.rt:82:1
+returns-2 : tie.Need-returns-2
+returns-2 c = c .valued .ensures ∙ ap (λ (x : Sourced). replyFrom (sourcedBy x)) (sym (c .before .before .a2 .given .1))
+
+pub sourced-spec : {M : Type 1} → statement M
+sourced-spec =
+    tie.close
+    (tie.spec enum-known-a refused-requires enum-known-a-2 valued-requires returns returns-2)

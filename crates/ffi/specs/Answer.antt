@@ -1,0 +1,40 @@
+-- A reply as the host gets it: its numbers, the rows standing in the buffer that was lent.
+use Prim.Native.Nat.{ℕ}
+use mathlib.Core.Bool.{Bool, cond, _&&_}
+use mathlib.Core.List.{List, []}
+use lib.Dec.{eqb, leb}
+use lib.ListN.{length}
+use Rattle.endian.specs.Endian.{wordsOf, bytesOf}
+use Rattle.definition.specs.Call as Call
+use Rattle.interface.specs.Answer.{Numbers, numbers}
+use Rattle.ffi.specs.declared.Reply.{Reply}
+
+abbrev pub replyFrom : Numbers → Reply
+replyFrom n = record { number = n .number; present = n .present; value = n .value; second = n .second }
+
+abbrev pub replyOf : Call.Reply → Reply
+replyOf r = replyFrom (numbers r)
+
+-- ---- on bytes: 200 where there are not as many as there must be
+abbrev pub onBytes : Bool → Call.Reply → Call.Reply
+onBytes fit r = cond fit r (Call.refusal 200)
+
+-- a state's bytes
+abbrev pub stateFits : List ℕ → Bool
+stateFits b = eqb (length b) 38028
+
+-- a row handed over, of n bytes; other bytes are no row
+abbrev pub rowWords : ℕ → List ℕ → List ℕ
+rowWords n b = cond (eqb (length b) n) (wordsOf b) []
+
+-- a changing call's buffers
+abbrev pub changeFits : List ℕ → List ℕ → Bool
+changeFits b events = stateFits b && leb 52224 (length events)
+
+-- with a request of n bytes
+abbrev pub requestFits : ℕ → List ℕ → List ℕ → List ℕ → Bool
+requestFits n q b events = eqb (length q) n && changeFits b events
+
+-- the state's bytes after a changing call
+abbrev pub stateOn : Bool → List ℕ → List ℕ → List ℕ
+stateOn fit b w = cond fit (bytesOf w) b

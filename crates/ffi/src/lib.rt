@@ -1,0 +1,353 @@
+// The calls as a host links them: `interface4w_*` on words, without a copy, and `interface4_*` on bytes, each word as four, the
+// lowest first. Each gives the definition's number and values.
+use address::LeftReply;
+use changes::Done;
+use interface::Chosen;
+use interface::Found;
+use interface::Local;
+use interface::Sourced;
+ghost use mathlib.Core.Path.{_≡_};
+ghost use Prim.Native.Nat.{_<_, _≤_, _*_};
+ghost use lib.ListN.{length, take};
+ghost use Rattle.lists.specs.Lists.{flat, put};
+ghost use Rattle.definition.specs.Step.{lookup4Call, lookup4FlowCall, local4Call, source4Call, sourceCall, select4Call, leftCall, downCall, addRoute4Call, delRoute4Call};
+ghost use Rattle.interface.specs.Answer.{foundBy, localBy, chosenBy, sourcedBy};
+ghost use Rattle.changes.specs.Answer.{doneBy};
+ghost use Rattle.address.specs.Row.{replyOf as address·replyOf};
+ghost use Rattle.endian.specs.Endian.{wordsOf, bytesOf};
+ghost use Rattle.ffi.specs.Answer.{replyFrom, replyOf, onBytes, stateFits, rowWords, changeFits, requestFits, stateOn};
+
+// The number is 0, or the refusal's number and then the rest is 0.
+#[repr(C)]
+pub struct Reply {
+    pub number: u32,
+    pub present: u32,
+    pub value: u32,
+    pub second: u32,
+}
+
+fn refused(n: u32) -> Reply
+    ensures { λ r. ⌜ r ≡ record { number = n; present = 0; value = 0; second = 0 } ⌝ }
+{
+    Reply {
+        number: n,
+        present: 0,
+        value: 0,
+        second: 0,
+    }
+}
+
+fn valued(v: u32) -> Reply
+    ensures { λ r. ⌜ r ≡ record { number = 0; present = 0; value = v; second = 0 } ⌝ }
+{
+    Reply {
+        number: 0,
+        present: 0,
+        value: v,
+        second: 0,
+    }
+}
+
+fn found(f: Found) -> Reply
+    ensures { λ r. ⌜ r ≡ replyFrom (foundBy f) ⌝ }
+{
+    match f {
+        Found::Refused(n) => refused(n),
+        Found::Row => valued(0),
+    }
+}
+
+fn local(l: Local) -> Reply
+    ensures { λ r. ⌜ r ≡ replyFrom (localBy l) ⌝ }
+{
+    match l {
+        Local::Refused(n) => refused(n),
+        Local::Is(b) => valued(b as u32),
+    }
+}
+
+fn chosen(a: Chosen) -> Reply
+    ensures { λ r. ⌜ r ≡ replyFrom (chosenBy a) ⌝ }
+{
+    match a {
+        Chosen::Refused(n) => refused(n),
+        Chosen::Nothing => valued(0),
+        Chosen::Address(v) => Reply {
+            number: 0,
+            present: 1,
+            value: v,
+            second: 0,
+        },
+    }
+}
+
+fn sourced(a: Sourced) -> Reply
+    ensures { λ r. ⌜ r ≡ replyFrom (sourcedBy a) ⌝ }
+{
+    match a {
+        Sourced::Refused(n) => refused(n),
+        Sourced::Address(v) => valued(v),
+    }
+}
+
+fn remaining(l: LeftReply) -> Reply
+    ensures { λ r. ⌜ r ≡ replyOf (address·replyOf l) ⌝ }
+{
+    match l {
+        LeftReply::Refused(n) => refused(n),
+        LeftReply::Left { preferred, valid } => Reply {
+            number: 0,
+            present: 0,
+            value: preferred,
+            second: valid,
+        },
+    }
+}
+
+// A changing call tells of at most 384 events.
+fn done(d: Done) -> Reply
+    requires { ⌜ doneBy d .value < 4294967296 ⌝ }
+    ensures { λ r. ⌜ r ≡ replyFrom (doneBy d) ⌝ }
+{
+    match d {
+        Done::Refused(n) => refused(n),
+        Done::Rows(n) => valued(n as u32),
+    }
+}
+
+#[no_mangle]
+pub extern "C" fn interface4w_lookup4(state: &[u32], row: &mut [u32], ip: u32) -> Reply
+    ensures { λ r. ⌜ r ≡ replyOf (lookup4Call (length (now (row .entry))) ip (now (state .entry)) .reply) ⌝ }
+    ensures { λ _. ⌜ now (row .exit) ≡ put 0 (flat (lookup4Call (length (now (row .entry))) ip (now (state .entry)) .reply .rows)) (now (row .entry)) ⌝ }
+{
+    found(interface::lookup4(state, row, ip))
+}
+
+#[no_mangle]
+pub extern "C" fn interface4w_lookup4_flow(
+    state: &[u32],
+    row: &mut [u32],
+    ip: u32,
+    tos: u32,
+    oif: u32,
+) -> Reply
+    ensures { λ r. ⌜ r ≡ replyOf (lookup4FlowCall (length (now (row .entry))) ip tos oif (now (state .entry)) .reply) ⌝ }
+    ensures { λ _. ⌜ now (row .exit) ≡ put 0 (flat (lookup4FlowCall (length (now (row .entry))) ip tos oif (now (state .entry)) .reply .rows)) (now (row .entry)) ⌝ }
+{
+    found(interface::lookup4_flow(state, row, ip, tos, oif))
+}
+
+#[no_mangle]
+pub extern "C" fn interface4w_local4(state: &[u32], ip: u32) -> Reply
+    ensures { λ r. ⌜ r ≡ replyOf (local4Call ip (now (state .entry)) .reply) ⌝ }
+{
+    local(interface::local4(state, ip))
+}
+
+#[no_mangle]
+pub extern "C" fn interface4w_source4(state: &[u32], row: &[u32], ip: u32) -> Reply
+    ensures { λ r. ⌜ r ≡ replyOf (source4Call (now (row .entry)) ip (now (state .entry)) .reply) ⌝ }
+{
+    chosen(interface::source4(state, row, ip))
+}
+
+#[no_mangle]
+pub extern "C" fn interface4w_source(state: &[u32], ip: u32) -> Reply
+    ensures { λ r. ⌜ r ≡ replyOf (sourceCall ip (now (state .entry)) .reply) ⌝ }
+{
+    sourced(interface::source(state, ip))
+}
+
+#[no_mangle]
+pub extern "C" fn interface4w_select4(
+    state: &[u32],
+    dst_present: u32,
+    dst: u32,
+    scope: u32,
+) -> Reply
+    ensures { λ r. ⌜ r ≡ replyOf (select4Call «dst_present» dst scope (now (state .entry)) .reply) ⌝ }
+{
+    chosen(interface::select4(state, dst_present, dst, scope))
+}
+
+#[no_mangle]
+pub extern "C" fn interface4w_left(row: &[u32], clock: u64) -> Reply
+    ensures { λ r. ⌜ r ≡ replyOf (leftCall (now (row .entry)) clock) ⌝ }
+{
+    remaining(address::left(row, clock))
+}
+
+#[no_mangle]
+pub extern "C" fn interface4w_down(state: &mut [u32], events: &mut [u32]) -> Reply
+    ensures { λ r. ⌜ r ≡ replyOf (downCall (length (now (events .entry))) (now (state .entry)) .reply) ⌝ }
+    ensures { λ _. ⌜ now (state .exit) ≡ downCall (length (now (events .entry))) (now (state .entry)) .words ⌝ }
+    ensures { λ _. ⌜ now (events .exit) ≡ put 0 (flat (downCall (length (now (events .entry))) (now (state .entry)) .reply .rows)) (now (events .entry)) ⌝ }
+{
+    done(changes::down(state, events))
+}
+
+#[no_mangle]
+pub extern "C" fn interface4w_add_route4(
+    state: &mut [u32],
+    request: &[u32],
+    events: &mut [u32],
+) -> Reply
+    ensures { λ r. ⌜ r ≡ replyOf (addRoute4Call (now (request .entry)) (length (now (events .entry))) (now (state .entry)) .reply) ⌝ }
+    ensures { λ _. ⌜ now (state .exit) ≡ addRoute4Call (now (request .entry)) (length (now (events .entry))) (now (state .entry)) .words ⌝ }
+    ensures { λ _. ⌜ now (events .exit) ≡ put 0 (flat (addRoute4Call (now (request .entry)) (length (now (events .entry))) (now (state .entry)) .reply .rows)) (now (events .entry)) ⌝ }
+{
+    done(changes::add_route4(state, request, events))
+}
+
+#[no_mangle]
+pub extern "C" fn interface4w_del_route4(
+    state: &mut [u32],
+    request: &[u32],
+    events: &mut [u32],
+) -> Reply
+    ensures { λ r. ⌜ r ≡ replyOf (delRoute4Call (now (request .entry)) (length (now (events .entry))) (now (state .entry)) .reply) ⌝ }
+    ensures { λ _. ⌜ now (state .exit) ≡ delRoute4Call (now (request .entry)) (length (now (events .entry))) (now (state .entry)) .words ⌝ }
+    ensures { λ _. ⌜ now (events .exit) ≡ put 0 (flat (delRoute4Call (now (request .entry)) (length (now (events .entry))) (now (state .entry)) .reply .rows)) (now (events .entry)) ⌝ }
+{
+    done(changes::del_route4(state, request, events))
+}
+
+#[no_mangle]
+pub extern "C" fn interface4_local4(state: &[u8], ip: u32) -> Reply
+    ensures { λ r. ⌜ r ≡ replyOf (onBytes (stateFits (now (state .entry))) (local4Call ip (wordsOf (now (state .entry))) .reply)) ⌝ }
+{
+    if state.len() != 38028 {
+        return refused(200);
+    }
+    let mut s = [0u32; 9507];
+    endian::words_of(state, &mut s);
+    interface4w_local4(&s, ip)
+}
+
+#[no_mangle]
+pub extern "C" fn interface4_source(state: &[u8], ip: u32) -> Reply
+    ensures { λ r. ⌜ r ≡ replyOf (onBytes (stateFits (now (state .entry))) (sourceCall ip (wordsOf (now (state .entry))) .reply)) ⌝ }
+{
+    if state.len() != 38028 {
+        return refused(200);
+    }
+    let mut s = [0u32; 9507];
+    endian::words_of(state, &mut s);
+    interface4w_source(&s, ip)
+}
+
+#[no_mangle]
+pub extern "C" fn interface4_select4(state: &[u8], dst_present: u32, dst: u32, scope: u32) -> Reply
+    ensures { λ r. ⌜ r ≡ replyOf (onBytes (stateFits (now (state .entry))) (select4Call «dst_present» dst scope (wordsOf (now (state .entry))) .reply)) ⌝ }
+{
+    if state.len() != 38028 {
+        return refused(200);
+    }
+    let mut s = [0u32; 9507];
+    endian::words_of(state, &mut s);
+    interface4w_select4(&s, dst_present, dst, scope)
+}
+
+// A row of another length is no address: the call on words says so.
+#[no_mangle]
+pub extern "C" fn interface4_left(row: &[u8], clock: u64) -> Reply
+    ensures { λ r. ⌜ r ≡ replyOf (leftCall (rowWords 80 (now (row .entry))) clock) ⌝ }
+{
+    let mut r = [0u32; 20];
+    if row.len() != 80 {
+        return interface4w_left(&r[0..0], clock);
+    }
+    endian::words_of(row, &mut r);
+    interface4w_left(&r, clock)
+}
+
+#[no_mangle]
+pub extern "C" fn interface4_source4(state: &[u8], row: &[u8], ip: u32) -> Reply
+    ensures { λ r. ⌜ r ≡ replyOf (onBytes (stateFits (now (state .entry))) (source4Call (rowWords 128 (now (row .entry))) ip (wordsOf (now (state .entry))) .reply)) ⌝ }
+{
+    if state.len() != 38028 {
+        return refused(200);
+    }
+    let mut s = [0u32; 9507];
+    endian::words_of(state, &mut s);
+    let mut r = [0u32; 32];
+    if row.len() != 128 {
+        return interface4w_source4(&s, &r[0..0], ip);
+    }
+    endian::words_of(row, &mut r);
+    interface4w_source4(&s, &r, ip)
+}
+
+// The state's words and n event rows, as bytes.
+fn give_back(s: &[u32], e: &[u32], n: u32, state: &mut [u8], events: &mut [u8])
+    requires { ⌜ (length (now s) ≡ 9507) × (length (now e) ≡ 13056) × (n ≤ 384) × (length (now state) ≡ 38028) × (52224 ≤ length (now events)) ⌝ }
+    ensures { λ _. ⌜ now (state .exit) ≡ bytesOf (now (s .entry)) ⌝ }
+    ensures { λ _. ⌜ now (events .exit) ≡ put 0 (bytesOf (take (34 * n) (now (e .entry)))) (now (events .entry)) ⌝ }
+{
+    endian::bytes_of(s, state);
+    let end = 34 * (n as usize);
+    endian::bytes_of(&e[0..end], events);
+}
+
+#[no_mangle]
+pub extern "C" fn interface4_down(state: &mut [u8], events: &mut [u8]) -> Reply
+    ensures { λ r. ⌜ r ≡ replyOf (onBytes (changeFits (now (state .entry)) (now (events .entry))) (downCall 13056 (wordsOf (now (state .entry))) .reply)) ⌝ }
+    ensures { λ _. ⌜ now (state .exit) ≡ stateOn (changeFits (now (state .entry)) (now (events .entry))) (now (state .entry)) (downCall 13056 (wordsOf (now (state .entry))) .words) ⌝ }
+    ensures { λ _. ⌜ now (events .exit) ≡ put 0 (bytesOf (flat (onBytes (changeFits (now (state .entry)) (now (events .entry))) (downCall 13056 (wordsOf (now (state .entry))) .reply) .rows))) (now (events .entry)) ⌝ }
+{
+    if !((state.len() == 38028) & (52224 <= events.len())) {
+        return refused(200);
+    }
+    let mut s = [0u32; 9507];
+    endian::words_of(state, &mut s);
+    let mut e = [0u32; 13056];
+    let answer = interface4w_down(&mut s, &mut e);
+    give_back(&s, &e, answer.value, state, events);
+    answer
+}
+
+#[no_mangle]
+pub extern "C" fn interface4_add_route4(
+    state: &mut [u8],
+    request: &[u8],
+    events: &mut [u8],
+) -> Reply
+    ensures { λ r. ⌜ r ≡ replyOf (onBytes (requestFits 136 (now (request .entry)) (now (state .entry)) (now (events .entry))) (addRoute4Call (wordsOf (now (request .entry))) 13056 (wordsOf (now (state .entry))) .reply)) ⌝ }
+    ensures { λ _. ⌜ now (state .exit) ≡ stateOn (requestFits 136 (now (request .entry)) (now (state .entry)) (now (events .entry))) (now (state .entry)) (addRoute4Call (wordsOf (now (request .entry))) 13056 (wordsOf (now (state .entry))) .words) ⌝ }
+    ensures { λ _. ⌜ now (events .exit) ≡ put 0 (bytesOf (flat (onBytes (requestFits 136 (now (request .entry)) (now (state .entry)) (now (events .entry))) (addRoute4Call (wordsOf (now (request .entry))) 13056 (wordsOf (now (state .entry))) .reply) .rows))) (now (events .entry)) ⌝ }
+{
+    if !((request.len() == 136) & ((state.len() == 38028) & (52224 <= events.len()))) {
+        return refused(200);
+    }
+    let mut q = [0u32; 34];
+    endian::words_of(request, &mut q);
+    let mut s = [0u32; 9507];
+    endian::words_of(state, &mut s);
+    let mut e = [0u32; 13056];
+    let answer = interface4w_add_route4(&mut s, &q, &mut e);
+    give_back(&s, &e, answer.value, state, events);
+    answer
+}
+
+#[no_mangle]
+pub extern "C" fn interface4_del_route4(
+    state: &mut [u8],
+    request: &[u8],
+    events: &mut [u8],
+) -> Reply
+    ensures { λ r. ⌜ r ≡ replyOf (onBytes (requestFits 196 (now (request .entry)) (now (state .entry)) (now (events .entry))) (delRoute4Call (wordsOf (now (request .entry))) 13056 (wordsOf (now (state .entry))) .reply)) ⌝ }
+    ensures { λ _. ⌜ now (state .exit) ≡ stateOn (requestFits 196 (now (request .entry)) (now (state .entry)) (now (events .entry))) (now (state .entry)) (delRoute4Call (wordsOf (now (request .entry))) 13056 (wordsOf (now (state .entry))) .words) ⌝ }
+    ensures { λ _. ⌜ now (events .exit) ≡ put 0 (bytesOf (flat (onBytes (requestFits 196 (now (request .entry)) (now (state .entry)) (now (events .entry))) (delRoute4Call (wordsOf (now (request .entry))) 13056 (wordsOf (now (state .entry))) .reply) .rows))) (now (events .entry)) ⌝ }
+{
+    if !((request.len() == 196) & ((state.len() == 38028) & (52224 <= events.len()))) {
+        return refused(200);
+    }
+    let mut q = [0u32; 49];
+    endian::words_of(request, &mut q);
+    let mut s = [0u32; 9507];
+    endian::words_of(state, &mut s);
+    let mut e = [0u32; 13056];
+    let answer = interface4w_del_route4(&mut s, &q, &mut e);
+    give_back(&s, &e, answer.value, state, events);
+    answer
+}
