@@ -23,13 +23,17 @@ onBytes fit r = cond fit r (Call.refusal 200)
 abbrev pub stateFits : List ℕ → Bool
 stateFits b = eqb (length b) 38028
 
+-- a reading call's buffers, one of at least n bytes to write to
+abbrev pub roomFits : ℕ → List ℕ → List ℕ → Bool
+roomFits n b out = stateFits b && leb n (length out)
+
 -- a row handed over, of n bytes; other bytes are no row
 abbrev pub rowWords : ℕ → List ℕ → List ℕ
 rowWords n b = cond (eqb (length b) n) (wordsOf b) []
 
 -- a changing call's buffers
 abbrev pub changeFits : List ℕ → List ℕ → Bool
-changeFits b events = stateFits b && leb 52224 (length events)
+changeFits b events = roomFits 52224 b events
 
 -- with a request of n bytes
 abbrev pub requestFits : ℕ → List ℕ → List ℕ → List ℕ → Bool
