@@ -7,7 +7,7 @@ use std::{env, fs, process};
 
 /// From the repository's root.
 const DEFAULT: &str = "target/staticlib/libffi.a";
-const CALLS: [&str; 15] = [
+const CALLS: [&str; 16] = [
     "up",
     "down",
     "add_v4",
@@ -23,6 +23,7 @@ const CALLS: [&str; 15] = [
     "source",
     "select4",
     "left",
+    "check",
 ];
 
 fn main() {

@@ -1,11 +1,13 @@
 -- A reply as the host gets it: its numbers, the rows standing in the buffer that was lent.
 use Prim.Native.Nat.{ℕ}
-use mathlib.Core.Bool.{Bool, cond, _&&_}
+use mathlib.Core.Bool.{Bool, true, cond, _&&_}
 use mathlib.Core.List.{List, []}
 use lib.Dec.{eqb, leb}
 use lib.ListN.{length}
 use Rattle.endian.specs.Endian.{wordsOf, bytesOf}
 use Rattle.definition.specs.Call as Call
+use Rattle.definition.specs.Words.{stateSize, wellFormed}
+use Rattle.definition.specs.Step.{Result, checks}
 use Rattle.interface.specs.Answer.{Numbers, numbers}
 use Rattle.ffi.specs.declared.Reply.{Reply}
 
@@ -14,6 +16,10 @@ replyFrom n = record { number = n .number; present = n .present; value = n .valu
 
 abbrev pub replyOf : Call.Reply → Reply
 replyOf r = replyFrom (numbers r)
+
+-- words looked at alone: 200 or 201 as each call gives it, else 0
+abbrev pub checkCall : List ℕ → Result
+checkCall w = record { reply = Call.refusal (checks (eqb (length w) stateSize) (wellFormed w) true); words = w }
 
 -- ---- on bytes: 200 where there are not as many as there must be
 abbrev pub onBytes : Bool → Call.Reply → Call.Reply

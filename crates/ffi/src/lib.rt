@@ -17,7 +17,7 @@ ghost use Rattle.changes.specs.Answer.{doneBy};
 ghost use Rattle.dump.specs.Answer.{listedBy};
 ghost use Rattle.address.specs.Row.{replyOf as address·replyOf};
 ghost use Rattle.endian.specs.Endian.{wordsOf, bytesOf};
-ghost use Rattle.ffi.specs.Answer.{replyFrom, replyOf, onBytes, stateFits, roomFits, rowWords, changeFits, requestFits, stateOn};
+ghost use Rattle.ffi.specs.Answer.{replyFrom, replyOf, checkCall, onBytes, stateFits, roomFits, rowWords, changeFits, requestFits, stateOn};
 
 // The number is 0, or the refusal's number and then the rest is 0.
 #[repr(C)]
@@ -126,6 +126,14 @@ fn listed(l: Listed) -> Reply
         Listed::Refused(n) => refused(n),
         Listed::Rows(n) => valued(n as u32),
     }
+}
+
+// A host may look at words before it lends them on: no number but 200 and 201.
+#[no_mangle]
+pub extern "C" fn interface4w_check(state: &[u32]) -> Reply
+    ensures { λ r. ⌜ r ≡ replyOf (checkCall (now (state .entry)) .reply) ⌝ }
+{
+    refused(form::check(state))
 }
 
 #[no_mangle]
@@ -276,6 +284,18 @@ pub extern "C" fn interface4w_dump4(state: &[u32], listing: &mut [u32]) -> Reply
     ensures { λ _. ⌜ now (listing .exit) ≡ put 0 (flat (dump4Call (length (now (listing .entry))) (now (state .entry)) .reply .rows)) (now (listing .entry)) ⌝ }
 {
     listed(dump::dump4(state, listing))
+}
+
+#[no_mangle]
+pub extern "C" fn interface4_check(state: &[u8]) -> Reply
+    ensures { λ r. ⌜ r ≡ replyOf (onBytes (stateFits (now (state .entry))) (checkCall (wordsOf (now (state .entry))) .reply)) ⌝ }
+{
+    if state.len() != 38028 {
+        return refused(200);
+    }
+    let mut s = [0u32; 9507];
+    endian::words_of(state, &mut s);
+    interface4w_check(&s)
 }
 
 #[no_mangle]

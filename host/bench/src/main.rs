@@ -65,9 +65,8 @@ fn main() -> ExitCode {
     }
     if "check".contains(only.as_str()) {
         println!(
-            "\nA lookup without the check of the state: n/a, none is exported.\n\n\
-             The check of a state alone (the port: `local4` on words, the cheapest call that \
-             looks at the whole state):\n"
+            "\nThe check of a state alone (the port: `interface4w_check`); a call without it takes \
+             the difference:\n"
         );
         check_alone(rounds);
     }
@@ -187,11 +186,11 @@ fn summary(what: &str, all: &[(String, Times)], port: impl Fn(&Times) -> Option<
 fn check_alone(rounds: usize) {
     println!("| state | the port | the Rust, plain | tuned | all 9,507 words or-ed |");
     println!("|---|---:|---:|---:|---:|");
-    let there = words::EXPORTED.contains(&"interface4w_local4");
-    for size in [[0, 0, 0], [64, 256, 32]] {
+    let there = words::EXPORTED.contains(&"interface4w_check");
+    for size in [[0, 0, 0], [62, 250, 30], [64, 256, 32]] {
         let state = states::of_size(size);
         let port = || {
-            black_box(words::local4(black_box(&state), 0));
+            black_box(words::check(black_box(&state)));
         };
         let plain = || {
             black_box(same_job::well_formed::<false>(black_box(&state)));

@@ -160,3 +160,24 @@ all! { u32: interface4w_up interface4w_down interface4w_add_v4 interface4w_del_v
 interface4w_expire interface4w_add_route4 interface4w_del_route4 interface4w_dump4
 interface4w_lookup4 interface4w_lookup4_flow interface4w_local4 interface4w_source4
 interface4w_source interface4w_select4 interface4w_left }
+
+/// The check alone: what `local4` refuses.
+macro_rules! check {
+    ($element:ty: $name:ident $local4:ident) => {
+        /// # Safety
+        /// The pointer and length are those of one slice.
+        #[unsafe(no_mangle)]
+        pub unsafe extern "C" fn $name(state: *mut $element, length: usize) -> Reply {
+            let reply = unsafe { $local4(state, length, 0) };
+            Reply {
+                number: reply.number,
+                present: 0,
+                value: 0,
+                second: 0,
+            }
+        }
+    };
+}
+
+check! { u8: interface4_check interface4_local4 }
+check! { u32: interface4w_check interface4w_local4 }

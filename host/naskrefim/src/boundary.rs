@@ -88,6 +88,7 @@ pub mod bytes {
         "interface4_source" source(state: read; ip: u32);
         "interface4_select4" select4(state: read; dst_present: u32, dst: u32, scope: u32);
         "interface4_left" left(row: read; now: u64);
+        "interface4_check" check(state: read;);
     }
 }
 
@@ -109,5 +110,6 @@ pub mod words {
         "interface4w_source" source(state: read; ip: u32);
         "interface4w_select4" select4(state: read; dst_present: u32, dst: u32, scope: u32);
         "interface4w_left" left(row: read; now: u64);
+        "interface4w_check" check(state: read;);
     }
 }

@@ -22,9 +22,6 @@ const USAGE: &str = "usage: port [OPTION VALUE]..
   --calls A,B,..     only these calls (then no pairs)
   --boundary WHICH   bytes, words or addresses; all if it isn't given";
 
-/// Where `local4` stands among the calls.
-const LOCAL4: usize = 10;
-
 /// What comes between two looks at the clock.
 const BATCH: usize = 500;
 const PAIRS_PER_BATCH: usize = 3;
@@ -106,8 +103,9 @@ fn run(options: &Options) -> Result<(), String> {
     println!("seed {}", options.seed);
     let on_bytes = exported(naskrefim::bytes::EXPORTED, "interface4_");
     let on_words = exported(naskrefim::words::EXPORTED, "interface4w_");
-    // a state's words are taken up by way of one call
-    let typed = on_words.map(|there| there && on_words[LOCAL4]);
+    // a state's words are taken up by way of the check
+    let check = naskrefim::words::EXPORTED.contains(&"interface4w_check");
+    let typed = on_words.map(|there| there && check);
     let mut ports: [(Box<dyn Port>, Kinds); 3] = [
         (Box::new(OnBytes::default()), on_bytes),
         (Box::new(Bytes(OnWords::default())), on_words),
