@@ -38,7 +38,7 @@ fit-optional-requires-2 : tie.Need-fit-optional-requires-2
 fit-optional-requires-2 c κs = search needs
 
 returns : tie.Need-returns
-returns c = cc
+returns c = rw (c .fit-optional2 .ensures, c .before .before .before .fit-optional .ensures)
 
 pub fit-route-words-spec : {M : Type 1} → statement M
 fit-route-words-spec =

@@ -21,7 +21,7 @@ shared-slice-read-result-2 c = search needs
 -- src/lib.rt:56:1
 returns : tie.Need-returns
 unfolding sameAddress
-returns c = cc
+returns c = rw (c .before .before .same-subnet .ensures)
 
 pub same-address-spec : {M : Type 1} → statement M
 same-address-spec =

@@ -24,7 +24,7 @@ same-subnet-requires c κs = (fit-short _ (c .before .before .before .before .pr
 
 -- src/lib.rt:62:1
 returns : tie.Need-returns
-returns c = cc
+returns c = rw (c .same-subnet .ensures, c .before .secondary2 .ensures, c .before .before .secondary .ensures)
 
 pub goes-with-spec : {M : Type 1} → statement M
 goes-with-spec =

@@ -20,7 +20,7 @@ shared-slice-read-result c = search needs
 
 -- src/lib.rt:81:1
 returns : tie.Need-returns
-returns c = cc
+returns c = rw (c .before .secondary .ensures, c .before .before .own-network .ensures)
 
 pub brings-broadcast-spec : {M : Type 1} → statement M
 brings-broadcast-spec =

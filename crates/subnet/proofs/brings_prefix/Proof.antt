@@ -21,7 +21,7 @@ no-prefix-route-requires c κs = search needs
 
 -- src/lib.rt:70:1
 returns : tie.Need-returns
-returns c = cc
+returns c = rw (c .no-prefix-route .ensures, c .before .secondary .ensures, c .before .before .own-network .ensures)
 
 pub brings-prefix-spec : {M : Type 1} → statement M
 brings-prefix-spec =
