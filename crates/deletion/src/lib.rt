@@ -1,7 +1,7 @@
 // Routes taken out, each told at the start of what is lent of the events.
 ghost use mathlib.Core.Path.{_≡_};
 ghost use mathlib.Core.List.{List};
-ghost use Prim.Native.Nat.{ℕ, _+_, _*_, _≤_, _<_};
+ghost use Prim.Native.Nat.{_+_, _*_, _≤_, _<_};
 ghost use lib.ListN.{length};
 ghost use Rattle.lists.specs.Lists.{Row};
 ghost use Rattle.lists.specs.Laid.{Laid, Lays};
@@ -10,9 +10,12 @@ ghost use Rattle.layout.specs.Route.{fitRoute};
 ghost use Rattle.definition.specs.State.{State};
 ghost use Rattle.definition.specs.Words.{routeCount};
 ghost use Rattle.definition.specs.Reference.Insert.{named, kernelDel4};
+ghost use Rattle.definition.specs.Reference.Removal.{straysFrom};
 ghost use Rattle.definition.specs.Kept.Shrinking.{weight};
 ghost use Rattle.events.specs.Step.{Fits, Ready, Step};
-ghost use Rattle.deletion.specs.Strays.{dropped, strayTurn, walk};
+ghost use Rattle.deletion.specs.Strays.{straysGo};
+ghost use Rattle.deletion.specs.Delete.{dropped};
+ghost use Rattle.deletion.specs.Sweep.{Swept};
 
 // Row i goes; the number of rows told.
 pub fn drop_route(s: &mut [u32], ev: &mut [u32], i: usize) -> usize
@@ -81,33 +84,34 @@ pub fn kernel_del4(s: &mut [u32], ev: &mut [u32], p: &[u32]) -> usize
     drop_route(s, ev, i)
 }
 
-// Row i goes if it is a main row with the preferred source ip.
-fn stray_turn(s: &mut [u32], ev: &mut [u32], i: usize, ip: u32) -> usize
-    requires { ⌜ Ready weight (now s) (now ev) ⌝ }
-    requires { ⌜ i < routeCount (now s) ⌝ }
-    ensures { λ r. ⌜ r ≤ 1 ⌝ }
-    ensures { λ r. ⌜ ((st : State) → Fits weight st (now (s .entry)) (now (ev .entry)) → Step weight st (strayTurn ip i st) (now (s .exit)) (now (ev .entry)) (now (ev .exit)) r) ⌝ }
+// Row i, behind j that remain, is told if it is a main row with the preferred source ip, and becomes row j otherwise:
+// how many remain with it.
+fn stray_turn(s: &mut [u32], ev: &mut [u32], i: usize, j: usize, ip: u32) -> usize
+    requires { ⌜ (length (now s) ≡ 9507) × (j ≤ i) × (i < 256) ⌝ }
+    requires { ⌜ 34 ≤ length (now ev) ⌝ }
+    ensures { λ r. ⌜ Swept (straysFrom ip) i j (now (s .entry)) (now (s .exit)) (now (ev .entry)) (now (ev .exit)) r ⌝ }
 {
     let at = 1283 + 32 * i;
     let end = at + 32;
     if wanted::strays_from(&s[at..end], ip) {
-        return drop_route(s, ev, i);
+        events::del_route4(ev, &s[at..end]);
+        return j;
     }
-    0
+    retain::settle(s, i, j)
 }
 
-// The main rows with the preferred source ip go, in their order.
+// The main rows with the preferred source ip go, in their order: one pass tells them and closes the gaps.
 pub fn drop_strays(s: &mut [u32], ev: &mut [u32], ip: u32) -> usize
     requires { ⌜ Ready weight (now s) (now ev) ⌝ }
-    ensures { λ r. ⌜ ((st : State) → Fits weight st (now (s .entry)) (now (ev .entry)) → Step weight st (walk ip 0 st) (now (s .exit)) (now (ev .entry)) (now (ev .exit)) r) ⌝ }
+    ensures { λ r. ⌜ ((st : State) → Fits weight st (now (s .entry)) (now (ev .entry)) → Step weight st (straysGo ip st) (now (s .exit)) (now (ev .entry)) (now (ev .exit)) r) ⌝ }
 {
     let n = state::route_count(s);
     let mut i = 0usize;
-    let mut k = 0usize;
-    while i + k < n {
-        let r = stray_turn(s, &mut ev[34 * k..], i, ip);
-        i = i + 1 - r;
-        k += r;
+    let mut j = 0usize;
+    while i < n {
+        j = stray_turn(s, &mut ev[34 * (i - j)..], i, j, ip);
+        i += 1;
     }
-    k
+    retain::close(s, n, j);
+    n - j
 }
