@@ -147,7 +147,3 @@ sweeping-end ip {w} {ev₀ = ev₀} {n = n} {j = j} {st = st} k e f =
       less = omega (arith, length-keep q (st .routes), length-keep (λ x. not (q x)) (st .routes), count-pair q (st .routes));
       room = f .room;
     })
-
--- room for all that there are
-pub ready-room : {s ev : List ℕ} → Ready weight s ev → 34 * routeCount s ≤ length ev
-ready-room y = omega (arith, y .fits .room, count-routes (y .fits .holds))

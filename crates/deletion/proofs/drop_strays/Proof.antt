@@ -8,8 +8,8 @@ use denote.Ref.{now}
 use Rattle.definition.specs.Reference.Removal.{straysFrom}
 use Rattle.state.specs.Holds.{sizes-valid}
 use Rattle.retain.specs.Retain.{keeping-few}
-use Rattle.deletion.specs.Delete.{ready-valid}
-use Rattle.deletion.specs.Sweep.{length-rest, ready-room, Sweeping, sweeping-start, sweeping-turn, sweeping-end}
+use Rattle.deletion.specs.Delete.{ready-valid, ready-room}
+use Rattle.deletion.specs.Sweep.{length-rest, Sweeping, sweeping-start, sweeping-turn, sweeping-end}
 use borrow.Author.Needs.{needs}
 use Rattle.deletion.proofs.drop_strays.Statement.{statement}
 use Rattle.deletion.proofs.drop_strays.Tie as tie
