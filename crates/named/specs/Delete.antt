@@ -1,4 +1,4 @@
--- One of the kernel's routes deleted: the first that is named.
+-- A route deleted: the first that is named.
 -- Assumes nothing.
 use Prim.Native.Nat.{ℕ, suc, _+_, _-_, _*_, _≤_, _<_}
 use mathlib.Core.Path.{_≡_, refl, sym, ap, _∙_}
@@ -8,35 +8,28 @@ use mathlib.Core.Option.{Option, none, some}
 use native.Mathlib.Omega.{arith}
 use lib.ListN.{length, getD, getElem?, take, drop, length-drop}
 use lib.Seq.{length-take-le}
+use borrow.Author.Tests.{eqb-true}
 use Rattle.lists.specs.Lists.{Row, span, put, first, removeFirst}
-use Rattle.lists.specs.At.{removeAt}
-use Rattle.lists.specs.Laid.{Laid, Lays, laid-width}
-use Rattle.lists.specs.Place.{placeOf, place-le, place-here, place-past, first-at, remove-at, nothing-from, something-at}
-use Rattle.layout.specs.Route.{fitRoute}
+use Rattle.lists.specs.All.{fails, and-iff}
+use Rattle.lists.specs.Count.{count}
+use Rattle.lists.specs.At.{removeAt, sized-at}
+use Rattle.lists.specs.Place.{placeOf, first-at, remove-at, nothing-from, something-at}
+use Rattle.layout.specs.Route.{dst}
 use Rattle.layout.specs.Event.{delRoute4}
 use Rattle.definition.specs.State.{State, withRoutes}
+use Rattle.definition.specs.Words.{routeCount}
 use Rattle.definition.specs.Reference.Insert.{named, kernelDel4}
-use Rattle.state.specs.Holds.{Holds, Valid, sizedR}
+use Rattle.definition.specs.Kept.Shrinking.{weight, live, kernelDel4-away}
+use Rattle.state.specs.Holds.{Holds, Valid, sizedR, count-routes}
 use Rattle.state.specs.Change.{route-at}
-use Rattle.lists.specs.At.{sized-at}
-use Rattle.steps.specs.Does.{Does, does-none, does-one}
-use Rattle.insert.specs.Pass.{part, laid-count, part-row}
+use Rattle.steps.specs.Does.{Does, does-none, does-one, does-step}
+use Rattle.events.specs.Step.{Fits, Ready, Step}
 
--- ---- a search over rows laid out as words
-module _ (w : List ℕ) (n : ℕ) (long : length w ≡ 32 * n) (q : Row → Bool) (l : List Row) (h : Laid 32 fitRoute w l) where
-  pub search-here : (i : ℕ) → i < n → q (part w i) ≡ true → placeOf q l ≡ i + placeOf q (drop i l) → i ≡ placeOf q l
-  search-here i b e s =
-      omega (arith, s, place-here q l i [] (omega (arith, laid-count w n long l h)) (rw (part-row w n long l h i b) at e))
-
-  pub search-past : (i : ℕ) → i < n → q (part w i) ≡ false → placeOf q l ≡ i + placeOf q (drop i l) → placeOf q l ≡ i + 1 + placeOf q (drop (i + 1) l)
-  search-past i b e s =
-      omega (arith, s, place-past q l i [] (omega (arith, laid-count w n long l h)) (rw (part-row w n long l h i b) at e))
-
-  pub search-end : (i : ℕ) → n ≤ i → i ≤ n → placeOf q l ≡ i + placeOf q (drop i l) → n ≡ placeOf q l
-  search-end i b c s = omega (arith, s, place-le q (drop i l), length-drop i l, laid-count w n long l h)
-
-pub search-start : (q : Row → Bool) (l : List Row) → placeOf q l ≡ 0 + placeOf q (drop 0 l)
-search-start q l = omega arith
+-- ---- the row that a deletion names
+pub named-far : (p r : Row) → (dst p ≡ dst r → ⊥) → false ≡ named p r
+unfolding named
+named-far p r h =
+    sym (fails (named p r) (λ k. h (sym (eqb-true (dst r) (dst p) ((simp and-iff at k) .0 .0 .0 .0 .0 .0 .0 .0 .0 .1)))))
 
 -- ---- the deletion
 length-event : (r : Row) → length r ≡ 32 → length (delRoute4 r) ≡ 34
@@ -66,3 +59,12 @@ pub row-wide : (w : List ℕ) (i : ℕ) → length w ≡ 9507 → i < 256 → le
 row-wide w i h b =
     let size : 1283 + 32 * i + 32 - (1283 + 32 * i) ≡ 32 = omega arith in
     rw size (length-take-le 32 (drop (1283 + 32 * i) w) (rw length-drop (omega arith)))
+
+-- ---- among removals: it tells no more than the routes fall
+pub deletes : {st : State} {w w′ ev ev′ : List ℕ} {r : ℕ} (p : Row) → Fits weight st w ev → Does (kernelDel4 p st) w′ ev ev′ r → Step weight st (kernelDel4 p st) w′ ev ev′ r
+deletes {st} p f d =
+    let away = kernelDel4-away p st in
+    does-step d weight f (omega (arith, d .count, away .shrunk, ap (λ (l : List Row). length l + count live l) (away .sameAddresses)))
+
+pub ready-row : {w ev : List ℕ} → Ready weight w ev → 0 < routeCount w → 34 ≤ length ev
+ready-row y b = omega (arith, y .fits .room, count-routes (y .fits .holds))

@@ -12,11 +12,8 @@ use mathlib.Core.Path.{_≡_, refl, sym, _∙_}
 use mathlib.Core.List.{List}
 use Prim.Native.Nat.{_+_, _-_, _≤_}
 use borrow.Author.Needs.{needs}
-use Rattle.deletion.proofs.find_named.Statement.{statement}
-use Rattle.deletion.proofs.find_named.Tie as tie
-use Rattle.deletion.proofs.find_named.Reads as reads
-use Rattle.deletion.proofs.find_named.Lts as lts
-use Rattle.deletion.proofs.named.Reads as named-reads
+use Rattle.named.proofs.find_named.Statement.{statement}
+use Rattle.named.proofs.find_named.Tie as tie
 
 abbrev Inv-loop : tie.InvT-loop
 Inv-loop rows n p i₀ i =
@@ -25,39 +22,30 @@ Inv-loop rows n p i₀ i =
 abbrev μ-loop : tie.MeasureT-loop
 μ-loop rows n p i₀ i = n - i
 
--- src/lib.rt:60:5
 loop-holds : tie.Need-loop-holds Inv-loop μ-loop
 loop-holds c = (search needs, λ l h. sym (zero-add (placeOf (named (c .before .before .args .p .now)) l)))
 
--- src/lib.rt:61:18
 mul-at : tie.Need-mul-at Inv-loop μ-loop
 mul-at c = search needs
 
--- src/lib.rt:62:27
 add-r : tie.Need-add-r Inv-loop μ-loop
 add-r c = search needs
 
--- src/lib.rt:62:17
 mul-r : tie.Need-mul-r Inv-loop μ-loop
 mul-r c = search needs
 
--- src/lib.rt:62:17
 sub-r : tie.Need-sub-r Inv-loop μ-loop
 sub-r c = search needs
 
--- src/lib.rt:62:17
 part-r-start : tie.Need-part-r-start Inv-loop μ-loop
 part-r-start c = search needs
 
--- src/lib.rt:62:17
 part-r-end : tie.Need-part-r-end Inv-loop μ-loop
 part-r-end c = search needs
 
--- src/lib.rt:63:12
 named-requires : tie.Need-named-requires Inv-loop μ-loop
 named-requires c κs = search needs
 
--- src/lib.rt:64:13
 returns : tie.Need-returns Inv-loop μ-loop
 returns c =
     let k = c .before .before .before .before in
@@ -65,15 +53,12 @@ returns c =
     let a = s .args in
     λ l h. find-here (a .rows .now) (a .n) (lit< tt) (s .pre .0 .0) (named (a .p .now)) l h (k .loop .i) (k .loop .inv .1 l h) (c .before .before .before .loop-test .taken) (sym (c .before .named .ensures) ∙ c .if1 .taken)
 
--- src/lib.rt:66:9
 add-i : tie.Need-add-i Inv-loop μ-loop
 add-i c = search needs
 
--- src/lib.rt:60:5
 loop-less : tie.Need-loop-less Inv-loop μ-loop
 loop-less c = search needs
 
--- src/lib.rt:60:5
 loop-again : tie.Need-loop-again Inv-loop μ-loop
 loop-again c =
     let k = c .before .before .before .before in
@@ -83,7 +68,6 @@ loop-again c =
       λ l h. find-past (a .rows .now) (a .n) (lit< tt) (s .pre .0 .0) (named (a .p .now)) l h (k .loop .i) (k .loop .inv .1 l h) (c .before .before .before .loop-test .taken) (sym (c .before .named .ensures) ∙ c .if1 .left),
     )
 
--- src/lib.rt:54:1
 returns-2 : tie.Need-returns-2 Inv-loop μ-loop
 returns-2 c =
     let k = c .before in
