@@ -25,12 +25,17 @@ module _ {A : Type 0} (l : List A) (i : ℕ) (d : A) (h : i < length l) where
   pub pairwise-next : (r : A → A → Bool) → pairwise r (drop i l) ≡ all (r (getD l i d)) (drop (i + 1) l) && pairwise r (drop (i + 1) l)
   pairwise-next r = rw (drop-cons l i d h, add-one i)
 
--- nothing is left
+-- nothing is left, or one element
 pub all-end : {A : Type 0} (p : A → Bool) (l : List A) (i : ℕ) → length l ≤ i → all p (drop i l) ≡ true
 all-end p l i h = rw (drop-of-length-le l {i = i} h)
 
-pub pairwise-end : {A : Type 0} (r : A → A → Bool) (l : List A) (i : ℕ) → length l ≤ i → pairwise r (drop i l) ≡ true
-pairwise-end r l i h = rw (drop-of-length-le l {i = i} h)
+pub pairwise-end : {A : Type 0} (r : A → A → Bool) (l : List A) (i : ℕ) → length l ≤ i + 1 → pairwise r (drop i l) ≡ true
+pairwise-end {A} r l i h = go (drop i l) (rw length-drop (omega arith))
+  where
+    go : (l : List A) → length l ≤ 1 → pairwise r l ≡ true
+    go [] k = refl
+    go (a ∷ []) k = refl
+    go (a ∷ b ∷ l) k = absurd (omega arith)
 
 -- none is x where x is not among them
 pub all-other : (x : ℕ) (l : List ℕ) → all (λ b. not (eqb x b)) l ≡ not (among x l)
