@@ -6,16 +6,15 @@ use mathlib.Core.Bool.{Bool, true, false, not, _&&_}
 use mathlib.Core.List.{List, [], _∷_}
 use native.Mathlib.Numerals.{add-one}
 use native.Mathlib.Omega.{arith}
-use lib.Dec.{eqb}
-use lib.ListN.{length, getD, take, drop, length-drop}
-use lib.Seq.{drop-cons, drop-drop, take-all}
+use lib.ListN.{length, getD, take, drop}
+use lib.Seq.{drop-cons, drop-drop}
 use borrow.Author.Tests.{not-true}
-use Rattle.lists.specs.Lists.{Row, all, among, pairwise, eqRow, chop}
+use Rattle.lists.specs.Lists.{Row, all, pairwise, eqRow, chop}
 use Rattle.lists.specs.Rows.{length-chop}
-use Rattle.lists.specs.All.{and-both, all-mono, all-cons, pairwise-head, pairwise-tail, eqRow-true, fails, false-not, not-so}
-use Rattle.layout.specs.Route.{fitRoute, before}
-use Rattle.definition.specs.Words.{ordered, distinct, noneTwice}
-use Rattle.form.specs.Look.{row-of, row-next, all-next, pairwise-next, pairwise-end, all-other}
+use Rattle.lists.specs.All.{and-both, all-mono, all-cons, pairwise-head, eqRow-true, fails, false-not, not-so}
+use Rattle.layout.specs.Route.{before}
+use Rattle.definition.specs.Words.{ordered, distinct}
+use Rattle.form.specs.Look.{row-of, row-next, all-next, pairwise-next, pairwise-end, pairwise-drop}
 use Rattle.definition.specs.Kept.Order.{before-never, before-after, before-alike, level-alike}
 
 -- not before: the relation of the order
@@ -80,16 +79,11 @@ apart-of a b h x k = not-so (eqRow a x) (λ e. never (rw (eqRow-true a x e) at h
     never : before x b ≡ true → ⊥
     never f = let g = not-true (before x b) k in let z : _≡_ {A = ℕ} 0 1 = cc in omega arith
 
-ordered-drop : (l : List Row) (j : ℕ) → ordered l ≡ true → ordered (drop j l) ≡ true
-unfolding ordered
-ordered-drop l ℕ.zero h = h
-ordered-drop [] (suc j) h = refl
-ordered-drop (a ∷ l) (suc j) h = ordered-drop l j (pairwise-tail (λ x y. not (before y x)) a l h)
-
 pub ordered-later : (l : List Row) (i j : ℕ) → i ≤ j → ordered (drop i l) ≡ true → ordered (drop j l) ≡ true
+unfolding ordered
 ordered-later l i j h o =
-    let all-dropped : i + (j - i) ≡ j = omega arith in
-    rw (drop-drop (j - i) i l, all-dropped) at (ordered-drop (drop i l) (j - i) o)
+    let both : i + (j - i) ≡ j = omega arith in
+    rw (drop-drop (j - i) i l, both) at (pairwise-drop (λ x y. not (before y x)) (drop i l) (j - i) o)
 
 pub past-run : (rows : List Row) (a : Row) (j : ℕ) → ordered (drop j rows) ≡ true → j < length rows → before a (getD rows j []) ≡ true
     → all (λ x. not (eqRow a x)) (drop j rows) ≡ true
@@ -138,16 +132,3 @@ distinct-turn rows i t h eb et =
 pub distinct-end : (rows : List Row) (i : ℕ) → length rows ≤ i + 1 → distinct (drop i rows) ≡ true
 unfolding distinct
 distinct-end rows i h = pairwise-end (λ a x. not (eqRow a x)) rows i h
-
-pub none-turn : (l : List ℕ) (i : ℕ) {b : Bool} (t : Bool) → i < length l → b ≡ among (getD l i 0) (take (length l - (i + 1)) (drop (i + 1) l)) → b ≡ t
-    → noneTwice (drop i l) ≡ not t && noneTwice (drop (i + 1) l)
-unfolding noneTwice
-none-turn l i t h eb et =
-    let rest : take (length l - (i + 1)) (drop (i + 1) l) ≡ drop (i + 1) l = take-all (length l - (i + 1)) (drop (i + 1) l) (rw length-drop (omega arith)) in
-    let found : among (getD l i 0) (drop (i + 1) l) ≡ t = sym (rw rest at eb) ∙ et in
-    pairwise-next l i 0 h (λ a b. not (eqb a b))
-    ∙ ap (λ (b : Bool). b && pairwise (λ a b. not (eqb a b)) (drop (i + 1) l)) (all-other (getD l i 0) (drop (i + 1) l) ∙ ap not found)
-
-pub none-end : (l : List ℕ) (i : ℕ) → length l ≤ i → noneTwice (drop i l) ≡ true
-unfolding noneTwice
-none-end l i h = pairwise-end (λ a b. not (eqb a b)) l i (omega arith)

@@ -5,13 +5,13 @@ use mathlib.Core.Path.{_≡_, refl, sym, ap, _∙_}
 use mathlib.Core.Bool.{Bool, true, false, not, _&&_, and-assoc}
 use mathlib.Core.List.{List, []}
 use native.Mathlib.Omega.{arith}
-use lib.ListN.{length, getD, take, drop}
+use lib.ListN.{length, getD, drop}
 use lib.Seq.{getD-take, getD-drop}
 use borrow.Author.Tests.{lt-ltb}
 use Rattle.lists.specs.Lists.{Row, all, eqRow, chop}
 use Rattle.lists.specs.Rows.{length-chop}
 use Rattle.lists.specs.All.{fails, test-case, or-left}
-use Rattle.layout.specs.Route.{fitRoute, before, dst, len, table, tos, priority}
+use Rattle.layout.specs.Route.{fitRoute, before, dst}
 use Rattle.definition.specs.Words.{ordered, distinct}
 use Rattle.definition.specs.Kept.Order.{before-never}
 use Rattle.form.specs.Look.{chop-row}

@@ -6,12 +6,13 @@ ghost use mathlib.Core.List.{[]};
 ghost use Prim.Native.Nat.{_+_, _*_, _≤_, _<_};
 ghost use lib.Dec.{eqb};
 ghost use lib.ListN.{length, getD, drop};
-ghost use Rattle.lists.specs.Lists.{Row, all, chop, eqRow};
+ghost use Rattle.lists.specs.Lists.{Row, all, among, chop, eqRow};
 ghost use Rattle.layout.specs.Address.{fitAddress};
 ghost use Rattle.layout.specs.Route.{fitRoute};
 ghost use Rattle.definition.specs.Words.{stateSize, ordered, distinct, noneTwice, unusedZero, wellFormed, addressCount, routeCount, tableCount};
 ghost use Rattle.definition.specs.Step.{checks};
 ghost use Rattle.form.specs.Place.{inPlace};
+ghost use Rattle.form.specs.Twice.{marked};
 
 fn fit_addresses(p: &[u32], n: usize) -> bool
     requires { ⌜ length (now p) ≡ 20 * n ⌝ }
@@ -125,16 +126,31 @@ fn routes_form(p: &[u32], n: usize) -> bool
     fit_routes(p, n) & all_in_place(p, n)
 }
 
+// Number i is one of those behind it, each of which has set the bit that its low six bits name: where its own is not set it is
+// none of them.
+fn again(l: &[u32], i: usize, seen: u64) -> bool
+    requires { ⌜ (i < length (now l)) × (marked seen (drop (i + 1) (now l)) ≡ true) ⌝ }
+    ensures { λ r. ⌜ r ≡ among (getD (now (l .entry)) i 0) (drop (i + 1) (now (l .entry))) ⌝ }
+{
+    if (seen >> (l[i] & 63)) & 1 == 0 {
+        return false;
+    }
+    let next = i + 1;
+    words::among(&l[next..], l[i])
+}
+
 fn none_twice(l: &[u32]) -> bool
     ensures { λ r. ⌜ r ≡ noneTwice (now (l .entry)) ⌝ }
 {
-    let mut i = 0usize;
-    while i < l.len() {
-        let next = i + 1;
-        if words::among(&l[next..], l[i]) {
+    let mut seen = 0u64;
+    let mut i = l.len();
+    while 0 < i {
+        let at = i - 1;
+        if again(l, at, seen) {
             return false;
         }
-        i += 1;
+        seen |= 1u64 << (l[at] & 63);
+        i = at;
     }
     true
 }

@@ -1,7 +1,6 @@
 -- `form::all_in_place` meets its contract: all rows are in their places where those still to be looked at are.
 -- Assumes nothing.
 use mathlib.Core.Path.{_≡_, sym, _∙_}
-use mathlib.Core.Bool.{true, false}
 use Prim.Native.Nat.{_-_, _≤_}
 use native.Mathlib.Omega.{arith}
 use lib.ListN.{drop}
