@@ -1,4 +1,4 @@
--- `dump::list` meets its contract: the routes and tables in use are lent to the listing over rows.
+-- `listed::list` meets its contract: the routes and tables in use are lent to the listing over rows.
 -- Assumes nothing.
 use Prim.Native.Nat.{_-_}
 use mathlib.Core.Path.{ap, _∙_}
@@ -10,10 +10,10 @@ use Rattle.lists.specs.Lists.{Row, flat, put}
 use Rattle.definition.specs.Words.{decode}
 use Rattle.state.specs.Holds.{holds-decode, sizes-valid}
 use Rattle.view.specs.Parts.{of-routes}
-use Rattle.dump.specs.Listing.{valid, dump-ready, dumped}
+use Rattle.listed.specs.Listing.{valid, dump-ready, dumped}
 use borrow.Author.Needs.{needs}
-use Rattle.dump.proofs.list.Statement.{statement}
-use Rattle.dump.proofs.list.Tie as tie
+use Rattle.listed.proofs.list.Statement.{statement}
+use Rattle.listed.proofs.list.Tie as tie
 
 shared-slice-read-wide : tie.Need-shared-slice-read-wide
 shared-slice-read-wide c = search needs
