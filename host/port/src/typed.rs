@@ -30,6 +30,8 @@ impl WordPort for Typed {
             };
         }
         let mut lo = match Addresses::from_words(state) {
+            // no call replies so: the comparison stops here
+            Ok(_) if !well_formed::state(state) => return Reply::refused(u32::MAX),
             Ok(lo) => lo,
             Err(refused) => return Reply::refused(refused.number()),
         };
