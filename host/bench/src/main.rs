@@ -47,7 +47,12 @@ fn main() -> ExitCode {
          many at once. The clock's own time is taken off. Buffers are not cleared between calls. \
          After a call's name: addresses, routes, tables."
     );
-    let usual = wanted(states::usual());
+    let (usual, special) = (wanted(states::usual()), wanted(states::special()));
+    let check = "check".contains(only.as_str());
+    if usual.is_empty() && special.is_empty() && !check {
+        eprintln!("no call has {only} in its name\n{USAGE}");
+        return ExitCode::FAILURE;
+    }
     if !usual.is_empty() {
         let usual = table(&usual, rounds);
         println!(
@@ -58,12 +63,11 @@ fn main() -> ExitCode {
         summary("words", &usual, |t| t.words);
         summary("bytes", &usual, |t| t.bytes);
     }
-    let special = wanted(states::special());
     if !special.is_empty() {
         println!("\nThe longest jobs:");
         table(&special, rounds);
     }
-    if "check".contains(only.as_str()) {
+    if check {
         println!(
             "\nThe check of a state alone (the port: `interface4w_check`); a call without it takes \
              the difference:\n"
@@ -130,9 +134,9 @@ fn table(all: &[states::Measured], rounds: usize) -> Vec<(String, Times)> {
         println!(
             "| {} | {} | {} | {} | {} | {} | {} | {} | {} | {} |",
             one.name,
-            time(Some(times.own)),
-            time(Some(times.plain)),
-            time(Some(times.tuned)),
+            time(times.own),
+            time(times.plain),
+            time(times.tuned),
             time(times.words),
             time(times.bytes),
             ratio(times.words, times.plain),
@@ -145,32 +149,30 @@ fn table(all: &[states::Measured], rounds: usize) -> Vec<(String, Times)> {
     measured
 }
 
-fn time(nanoseconds: Option<f64>) -> String {
-    match nanoseconds {
-        None => "n/a".to_string(),
-        Some(ns) if ns < 1_000.0 => format!("{ns:.0} ns"),
-        Some(ns) => format!("{:.2} µs", ns / 1_000.0),
+fn time(nanoseconds: f64) -> String {
+    if nanoseconds < 1_000.0 {
+        format!("{nanoseconds:.0} ns")
+    } else {
+        format!("{:.2} µs", nanoseconds / 1_000.0)
     }
 }
 
-fn ratio(port: Option<f64>, rust: f64) -> String {
-    port.map_or("n/a".to_string(), |port| format!("{:.2}", port / rust))
+fn ratio(port: f64, rust: f64) -> String {
+    format!("{:.2}", port / rust)
 }
 
 /// The geometric mean and the greatest ratio, against either Rust.
-fn summary(what: &str, all: &[(String, Times)], port: impl Fn(&Times) -> Option<f64>) {
+fn summary(what: &str, all: &[(String, Times)], port: impl Fn(&Times) -> f64) {
     for (against, rust) in [
         ("plain", (|t| t.plain) as fn(&Times) -> f64),
         ("tuned", |t| t.tuned),
     ] {
         let ratios: Vec<(&str, f64)> = all
             .iter()
-            .filter_map(|(name, t)| Some((name.as_str(), port(t)? / rust(t))))
+            .map(|(name, t)| (name.as_str(), port(t) / rust(t)))
             .collect();
-        let Some(most) = ratios.iter().max_by(|a, b| a.1.total_cmp(&b.1)) else {
-            println!("- the port on {what}: n/a");
-            return;
-        };
+        let most = ratios.iter().max_by(|a, b| a.1.total_cmp(&b.1));
+        let most = most.expect("a row at least");
         let logarithms = ratios.iter().map(|(_, r)| r.ln()).sum::<f64>();
         println!(
             "- the port on {what}, against the {against} Rust, {} rows: geometric mean {:.2}, \
@@ -186,7 +188,6 @@ fn summary(what: &str, all: &[(String, Times)], port: impl Fn(&Times) -> Option<
 fn check_alone(rounds: usize) {
     println!("| state | the port | the Rust, plain | tuned | all 9,507 words or-ed |");
     println!("|---|---:|---:|---:|---:|");
-    let there = words::EXPORTED.contains(&"interface4w_check");
     for size in [[0, 0, 0], [62, 250, 30], [64, 256, 32]] {
         let state = states::of_size(size);
         let port = || {
@@ -201,22 +202,15 @@ fn check_alone(rounds: usize) {
         let scan = || {
             black_box(same_job::or_of(black_box(&state)));
         };
-        let calls = [
-            if there { enough(port) } else { 1 },
-            enough(plain),
-            enough(tuned),
-            enough(scan),
-        ];
+        let ways: [&dyn Fn(); 4] = [&port, &plain, &tuned, &scan];
+        let calls = ways.map(enough);
         let mut times: [Vec<f64>; 4] = Default::default();
         for _ in 0..rounds {
-            if there {
-                times[0].push(section(calls[0], port));
+            for (i, way) in ways.iter().enumerate() {
+                times[i].push(section(calls[i], way));
             }
-            times[1].push(section(calls[1], plain));
-            times[2].push(section(calls[2], tuned));
-            times[3].push(section(calls[3], scan));
         }
-        let [port, plain, tuned, scan] = times.map(|t| time((!t.is_empty()).then(|| median(t))));
+        let [port, plain, tuned, scan] = times.map(|t| time(median(t)));
         let [a, r, t] = size;
         println!("| {a}/{r}/{t} | {port} | {plain} | {tuned} | {scan} |");
     }

@@ -11,14 +11,13 @@ use reference::{Arguments, Native};
 use std::hint::black_box;
 use std::time::Instant;
 
-/// Nanoseconds for a call: medians. `None` where the linked library hasn't
-/// got it.
+/// Nanoseconds for a call: medians.
 pub struct Times {
     pub own: f64,
     pub plain: f64,
     pub tuned: f64,
-    pub words: Option<f64>,
-    pub bytes: Option<f64>,
+    pub words: f64,
+    pub bytes: f64,
 }
 
 /// What a timed part of many calls shall take, in nanoseconds.
@@ -135,15 +134,6 @@ impl<'a> Stage<'a> {
         }
     }
 
-    fn there(&self, way: Way) -> bool {
-        let name = self.measured.call.name();
-        match way {
-            Way::Own | Way::Plain | Way::Tuned => true,
-            Way::Words => words::EXPORTED.contains(&format!("interface4w_{name}").as_str()),
-            Way::Bytes => bytes::EXPORTED.contains(&format!("interface4_{name}").as_str()),
-        }
-    }
-
     /// Each way must do what the model does.
     fn check(&mut self) {
         let call = &self.measured.call;
@@ -154,24 +144,16 @@ impl<'a> Stage<'a> {
         let told = self.native.call(&self.arguments).write(&mut own);
         assert_eq!(told[0], reply.number, "{name}: the Rust on its own lists");
         assert_eq!(own, buffer, "{name}: the Rust on its own lists");
-        for way in [Way::Plain, Way::Tuned, Way::Words] {
-            if self.there(way) {
-                let (mut s, mut b) = (self.measured.state.clone(), self.buffer.clone());
-                let found = match way {
-                    Way::Plain => plain(call, &mut s, &mut b),
-                    Way::Tuned => tuned(call, &mut s, &mut b),
-                    _ => on_words(call, &mut s, &mut b),
-                };
-                assert!((found, s) == (reply, state.clone()), "{name}: on words");
-                assert!(b == buffer, "{name}: on words, the buffer");
-            }
+        for way in [plain, tuned, on_words] {
+            let (mut s, mut b) = (self.measured.state.clone(), self.buffer.clone());
+            let found = way(call, &mut s, &mut b);
+            assert!((found, &s) == (reply, &state), "{name}: on words");
+            assert!(b == buffer, "{name}: on words, the buffer");
         }
-        if self.there(Way::Bytes) {
-            let (mut s, mut b) = (self.first_bytes.clone(), self.buffer_bytes.clone());
-            let found = on_bytes(call, &mut s, &self.request, &mut b);
-            assert!((found, s) == (reply, bytes_of(&state)), "{name}: on bytes");
-            assert!(b == bytes_of(&buffer), "{name}: on bytes, the buffer");
-        }
+        let (mut s, mut b) = (self.first_bytes.clone(), self.buffer_bytes.clone());
+        let found = on_bytes(call, &mut s, &self.request, &mut b);
+        assert!((found, s) == (reply, bytes_of(&state)), "{name}: on bytes");
+        assert!(b == bytes_of(&buffer), "{name}: on bytes, the buffer");
     }
 }
 
@@ -184,29 +166,24 @@ pub fn measure(measured: &Measured, rounds: usize) -> Times {
     let changing = measured.call.buffer() == Buffer::Events;
     let clock = clock();
     let mut calls = [1; WAYS.len()];
-    for (way, calls) in WAYS.into_iter().zip(&mut calls) {
-        if stage.there(way) && !changing {
-            stage.restore(way);
-            *calls = enough(|| stage.run(way));
-        }
+    if !changing {
+        calls = WAYS.map(|way| enough(|| stage.run(way)));
     }
     let mut times: [Vec<f64>; WAYS.len()] = Default::default();
     for round in 0..rounds {
         for k in 0..WAYS.len() {
             let i = (round + k) % WAYS.len();
             let way = WAYS[i];
-            if stage.there(way) {
-                stage.restore(way);
-                let time = section(calls[i], || stage.run(way));
-                times[i].push((time - clock / calls[i] as f64).max(0.0));
-            }
+            stage.restore(way);
+            let time = section(calls[i], || stage.run(way));
+            times[i].push((time - clock / calls[i] as f64).max(0.0));
         }
     }
-    let [own, plain, tuned, words, bytes] = times.map(|t| (!t.is_empty()).then(|| median(t)));
+    let [own, plain, tuned, words, bytes] = times.map(median);
     Times {
-        own: own.unwrap_or(f64::NAN),
-        plain: plain.unwrap_or(f64::NAN),
-        tuned: tuned.unwrap_or(f64::NAN),
+        own,
+        plain,
+        tuned,
         words,
         bytes,
     }

@@ -2,23 +2,12 @@
 use crate::guarded::Guard;
 use crate::guarded::Lent::{Read, Write};
 use naskrefim::{bytes, words};
-use oracle::call::{Call, KINDS, NAMES, Reply};
-use oracle::campaign::Kinds;
+use oracle::call::{Call, Reply};
 use oracle::port::{Port, WordPort};
 
 /// What guards hold: no row has such words by chance.
 const BYTE: u8 = 0xc3;
 const WORD: u32 = 0xc3d2_e1f0;
-
-/// The calls that the linked library has, of those whose exported names
-/// begin so.
-pub fn exported(names: &[&str], prefix: &str) -> Kinds {
-    let mut kinds = [false; KINDS];
-    for (kind, name) in kinds.iter_mut().zip(NAMES) {
-        *kind = names.contains(&format!("{prefix}{name}").as_str());
-    }
-    kinds
-}
 
 /// The reply of `local4`, if the check alone refuses just as it does; else
 /// one that no call gives.
