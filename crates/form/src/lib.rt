@@ -1,5 +1,5 @@
-// Whether words are a well-formed state. Every call asks it: each row in use is looked at, a route beside the next one, and beside
-// those of its own place behind it where the next one's destination is no later; the words not in use are scanned.
+// Whether words are a well-formed state. Every call asks it: each row in use is looked at, a route beside the next one, and
+// where that has no later place, beside those of its own place behind it; the words not in use are scanned.
 ghost use mathlib.Core.Path.{_≡_};
 ghost use mathlib.Core.Bool.{true, not, _&&_};
 ghost use mathlib.Core.List.{[]};
@@ -85,8 +85,8 @@ fn in_place(p: &[u32], n: usize, i: usize) -> bool
     apart(p, n, i)
 }
 
-// The first row from a place on that is the last one, or whose destination is not before the next one's. Those passed over are
-// in their places. A loop of its own, so that all it needs is in registers.
+// The first row from a place on that is the last one, or whose place is not before the next one's. Those passed over are in their
+// places. A loop of its own, so that all it needs is in registers.
 fn rising(p: &[u32], n: usize, from: usize) -> usize
     requires { ⌜ (length (now p) ≡ 32 * n) × (from ≤ n) ⌝ }
     ensures { λ r. ⌜ (r ≤ n) × (from ≤ r) × (inPlace (drop from (chop 32 n (now (p .entry)))) ≡ inPlace (drop r (chop 32 n (now (p .entry))))) ⌝ }
@@ -94,7 +94,9 @@ fn rising(p: &[u32], n: usize, from: usize) -> usize
     let mut i = from;
     while i + 1 < n {
         let at = 32 * i;
-        if p[at + 1] < p[at + 33] {
+        let next = at + 32;
+        let end = next + 32;
+        if route::before(&p[at..next], &p[next..end]) {
             i += 1;
         } else {
             return i;

@@ -44,15 +44,18 @@ pub fn fit_route(r: &[u32]) -> bool
         & (r[14] <= 1)
 }
 
-// The place of a is before that of b.
+// The place of a is before that of b. Most rows differ in their destinations, so these are asked first.
 pub fn before(a: &[u32], b: &[u32]) -> bool
     requires { ⌜ (length (now a) ≡ 32) × (length (now b) ≡ 32) ⌝ }
     ensures { λ r. ⌜ r ≡ before (now (a .entry)) (now (b .entry)) ⌝ }
 {
+    if a[1] != b[1] {
+        return a[1] < b[1];
+    }
     let priority = (a[3] == b[3]) & (a[4] < b[4]);
     let tos = (a[0] == b[0]) & ((b[3] < a[3]) | priority);
     let table = (a[2] == b[2]) & ((b[0] < a[0]) | tos);
-    (a[1] < b[1]) | ((a[1] == b[1]) & ((b[2] < a[2]) | table))
+    (b[2] < a[2]) | table
 }
 
 // They have the same place.

@@ -18,7 +18,7 @@ abbrev μ-loop : tie.MeasureT-loop
 μ-loop p n from i₀ i = n - i
 
 loop-holds : tie.Need-loop-holds Inv-loop μ-loop
-loop-holds c = (omega (arith, c .pre), omega arith, refl)
+loop-holds c = (omega (arith, c .before .pre), omega arith, refl)
 
 add-loop : tie.Need-add-loop Inv-loop μ-loop
 add-loop c = search needs
@@ -26,23 +26,38 @@ add-loop c = search needs
 mul-at : tie.Need-mul-at Inv-loop μ-loop
 mul-at c = search needs
 
-add-if1 : tie.Need-add-if1 Inv-loop μ-loop
-add-if1 c = search needs
+add-next : tie.Need-add-next Inv-loop μ-loop
+add-next c = search needs
 
-mul-if1 : tie.Need-mul-if1 Inv-loop μ-loop
-mul-if1 c = search needs
+add-end : tie.Need-add-end Inv-loop μ-loop
+add-end c = search needs
 
-shared-slice-read-if1 : tie.Need-shared-slice-read-if1 Inv-loop μ-loop
-shared-slice-read-if1 c = search needs
+mul-before : tie.Need-mul-before Inv-loop μ-loop
+mul-before c = search needs
 
-add-if1-2 : tie.Need-add-if1-2 Inv-loop μ-loop
-add-if1-2 c = search needs
+sub-before : tie.Need-sub-before Inv-loop μ-loop
+sub-before c = search needs
 
-mul-if1-2 : tie.Need-mul-if1-2 Inv-loop μ-loop
-mul-if1-2 c = search needs
+part-before-start : tie.Need-part-before-start Inv-loop μ-loop
+part-before-start c = search needs
 
-shared-slice-read-if1-2 : tie.Need-shared-slice-read-if1-2 Inv-loop μ-loop
-shared-slice-read-if1-2 c = search needs
+part-before-end : tie.Need-part-before-end Inv-loop μ-loop
+part-before-end c = search needs
+
+mul-before-2 : tie.Need-mul-before-2 Inv-loop μ-loop
+mul-before-2 c = search needs
+
+sub-before-2 : tie.Need-sub-before-2 Inv-loop μ-loop
+sub-before-2 c = search needs
+
+part-before-start-2 : tie.Need-part-before-start-2 Inv-loop μ-loop
+part-before-start-2 c = search needs
+
+part-before-end-2 : tie.Need-part-before-end-2 Inv-loop μ-loop
+part-before-end-2 c = search needs
+
+before-requires : tie.Need-before-requires Inv-loop μ-loop
+before-requires c κs = search needs
 
 add-i : tie.Need-add-i Inv-loop μ-loop
 add-i c = search needs
@@ -52,13 +67,13 @@ loop-less c = search needs
 
 loop-again : tie.Need-loop-again Inv-loop μ-loop
 loop-again c =
-    let at-loop = c .before .before .before .before .loop in
-    let start = c .before .before .before .before .before in
-    let at-loop-test = c .before .before .before .loop-test in
-    (omega arith, omega arith, at-loop .inv .2 ∙ rise-turn (start .args .n) (now (start .args .p)) (at-loop .i) (start .pre .0) (at-loop-test .taken) (c .if1 .taken))
+    let start = c .before .before .before .before .before .before .before in
+    let at-loop = c .before .before .before .before .before .loop in
+    let at-loop-test = c .before .before .before .before .loop-test in
+    (omega arith, omega arith, at-loop .inv .2 ∙ rise-turn (start .args .n) (now (start .args .p)) (at-loop .i) (start .pre .0) (at-loop-test .taken) (c .before .before2 .ensures) (c .if1 .taken))
 
 returns : tie.Need-returns Inv-loop μ-loop
-returns c = c .before .before .before .before .loop .inv
+returns c = c .before .before .before .before .before .loop .inv
 
 returns-2 : tie.Need-returns-2 Inv-loop μ-loop
 returns-2 c = c .before .loop .inv
@@ -72,12 +87,17 @@ rising-spec =
     loop-holds
     add-loop
     mul-at
-    add-if1
-    mul-if1
-    shared-slice-read-if1
-    add-if1-2
-    mul-if1-2
-    shared-slice-read-if1-2
+    add-next
+    add-end
+    mul-before
+    sub-before
+    part-before-start
+    part-before-end
+    mul-before-2
+    sub-before-2
+    part-before-start-2
+    part-before-end-2
+    before-requires
     add-i
     loop-less
     loop-again
