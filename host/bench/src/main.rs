@@ -60,8 +60,11 @@ fn main() -> ExitCode {
              at most {WORDS_MEAN}; on bytes of at most {BYTES_MEAN}, and no call above \
              {BYTES_MOST}.\n"
         );
-        summary("words", &usual, |t| t.words);
-        summary("bytes", &usual, |t| t.bytes);
+        let plain: (&str, Part) = ("on lent words, plain", |t| t.plain);
+        let tuned: (&str, Part) = ("on lent words, tuned", |t| t.tuned);
+        let bytes: (&str, Part) = ("on lent bytes, plain", |t| t.plain_bytes);
+        summary("words", &usual, |t| t.words, [plain, tuned]);
+        summary("bytes", &usual, |t| t.bytes, [plain, bytes]);
     }
     if !special.is_empty() {
         println!("\nThe longest jobs:");
@@ -124,25 +127,27 @@ fn same_job_is_right() -> usize {
 /// Measures and prints one table.
 fn table(all: &[states::Measured], rounds: usize) -> Vec<(String, Times)> {
     println!(
-        "\n| call | the Rust, own lists | on lent words, plain | tuned | the port, words | bytes \
-         | words / plain | bytes / plain | words / tuned | bytes / tuned |"
+        "\n| call | the Rust, own lists | on lent words, plain | tuned | on lent bytes, plain \
+         | the port, words | bytes | words / plain | words / tuned | bytes / plain \
+         | bytes / plain on bytes |"
     );
-    println!("|---|---:|---:|---:|---:|---:|---:|---:|---:|---:|");
+    println!("|---|---:|---:|---:|---:|---:|---:|---:|---:|---:|---:|");
     let mut measured = Vec::new();
     for one in all {
         let times = measure(one, rounds);
         println!(
-            "| {} | {} | {} | {} | {} | {} | {} | {} | {} | {} |",
+            "| {} | {} | {} | {} | {} | {} | {} | {} | {} | {} | {} |",
             one.name,
             time(times.own),
             time(times.plain),
             time(times.tuned),
+            time(times.plain_bytes),
             time(times.words),
             time(times.bytes),
             ratio(times.words, times.plain),
-            ratio(times.bytes, times.plain),
             ratio(times.words, times.tuned),
-            ratio(times.bytes, times.tuned)
+            ratio(times.bytes, times.plain),
+            ratio(times.bytes, times.plain_bytes)
         );
         measured.push((one.name.clone(), times));
     }
@@ -161,12 +166,11 @@ fn ratio(port: f64, rust: f64) -> String {
     format!("{:.2}", port / rust)
 }
 
-/// The geometric mean and the greatest ratio, against either Rust.
-fn summary(what: &str, all: &[(String, Times)], port: impl Fn(&Times) -> f64) {
-    for (against, rust) in [
-        ("plain", (|t| t.plain) as fn(&Times) -> f64),
-        ("tuned", |t| t.tuned),
-    ] {
+type Part = fn(&Times) -> f64;
+
+/// The geometric mean and the greatest ratio, against two of the Rust's.
+fn summary(what: &str, all: &[(String, Times)], port: Part, rusts: [(&str, Part); 2]) {
+    for (against, rust) in rusts {
         let ratios: Vec<(&str, f64)> = all
             .iter()
             .map(|(name, t)| (name.as_str(), port(t) / rust(t)))
@@ -175,7 +179,7 @@ fn summary(what: &str, all: &[(String, Times)], port: impl Fn(&Times) -> f64) {
         let most = most.expect("a row at least");
         let logarithms = ratios.iter().map(|(_, r)| r.ln()).sum::<f64>();
         println!(
-            "- the port on {what}, against the {against} Rust, {} rows: geometric mean {:.2}, \
+            "- the port on {what}, against the Rust {against}, {} rows: geometric mean {:.2}, \
              greatest {:.2} ({})",
             ratios.len(),
             (logarithms / ratios.len() as f64).exp(),
