@@ -1,16 +1,16 @@
 -- What a scan that ors has seen: no bit is set where no word had one.
 -- Assumes nothing.
-use Prim.Native.Nat.{ℕ, zero, suc, _+_, _<_}
+use Prim.Native.Nat.{ℕ, zero, suc, _+_, _-_, _<_}
 use mathlib.Core.Path.{_≡_, refl, sym, ap, _∙_}
 use mathlib.Core.Bool.{Bool, true, false, _&&_, _||_}
-use mathlib.Core.List.{List, [], _∷_}
+use mathlib.Core.List.{List, [], _∷_, _++_}
 use native.Mathlib.Nat.{not-suc-le-zero, le-of-suc-le-suc}
 use native.Mathlib.Numerals.{add-one}
 use native.Mathlib.Omega.{arith}
 use lib.Bits.{bitOr, bitXor, or-add-and, and-le-l, and-le-r, xor-add-and, xor-self}
 use lib.Dec.{eqb}
-use lib.ListN.{length, getD, take, drop}
-use lib.Seq.{drop-cons}
+use lib.ListN.{length, getD, take, drop, length-drop, take-append-drop}
+use lib.Seq.{drop-cons, take-add, take-all}
 use borrow.Author.Tests.{eqb-true, eq-eqb}
 use Rattle.lists.specs.Lists.{any, allZero, eqRow}
 use Rattle.lists.specs.All.{and-left, and-right, and-both, eqRow-true}
@@ -58,6 +58,26 @@ module _ (x : ℕ) where
   pub zero-more : (l : List ℕ) (i : ℕ) → i < length l → eqb x 0 ≡ allZero (take i l) → eqb (bitOr x (getD l i 0)) 0 ≡ allZero (take (i + 1) l)
   zero-more l i h e =
       or-none x (getD l i 0) ∙ ap (λ (b : Bool). b && eqb 0 (getD l i 0)) e ∙ sym (rw (add-one, zero-suc l i))
+
+  -- a part scanned by itself
+  or-part : (w : ℕ) (l m : List ℕ) → eqb x 0 ≡ allZero l → eqb w 0 ≡ allZero m → eqb (bitOr x w) 0 ≡ allZero (l ++ m)
+  or-part w l m e f = or-none x w ∙ rw (e, turned, f) (parts l)
+    where
+      turned : eqb 0 w ≡ eqb w 0
+      turned = same-test (eqb 0 w) (eqb w 0) (λ q. eq-eqb w 0 (sym (eqb-true 0 w q))) (λ q. eq-eqb 0 w (sym (eqb-true w 0 q)))
+
+      parts : (l : List ℕ) → allZero l && allZero m ≡ allZero (l ++ m)
+      parts [] = refl
+      parts (v ∷ l) = sym (and-shift (eqb 0 v) (allZero l) (allZero m)) ∙ ap (λ (b : Bool). eqb 0 v && b) (parts l)
+
+  pub zero-part : (w : ℕ) (l : List ℕ) (i n : ℕ) → eqb x 0 ≡ allZero (take i l) → eqb w 0 ≡ allZero (take (i + n - i) (drop i l)) → eqb (bitOr x w) 0 ≡ allZero (take (i + n) l)
+  zero-part w l i n e f =
+      let long : i + n - i ≡ n = omega arith in
+      or-part w (take i l) (take n (drop i l)) e (rw long at f) ∙ ap allZero (sym (take-add i n l))
+
+  pub zero-rest : (w : ℕ) (l : List ℕ) (i : ℕ) → eqb x 0 ≡ allZero (take i l) → eqb w 0 ≡ allZero (take (length l - i) (drop i l)) → eqb (bitOr x w) 0 ≡ allZero l
+  zero-rest w l i e f =
+      or-part w (take i l) (drop i l) e (f ∙ ap allZero (take-all (length l - i) (drop i l) (rw length-drop (omega arith)))) ∙ ap allZero (take-append-drop i l)
 
   same-suc : (l m : List ℕ) (i : ℕ) → i < length l → i < length m → eqRow (take (suc i) l) (take (suc i) m) ≡ eqRow (take i l) (take i m) && eqb (getD l i 0) (getD m i 0)
   same-suc [] m i h k = absurd (not-suc-le-zero h)

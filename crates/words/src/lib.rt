@@ -2,6 +2,7 @@
 ghost use mathlib.Core.Path.{_≡_};
 ghost use mathlib.Core.List.{_++_};
 ghost use Prim.Native.Nat.{_+_, _≤_};
+ghost use lib.Dec.{eqb};
 ghost use lib.ListN.{length};
 ghost use Rattle.lists.specs.Lists.{put, span, zeros, allZero, eqRow, among};
 
@@ -79,9 +80,9 @@ pub fn remove(s: &mut [u32], at: usize, k: usize, n: usize)
     clear(s, at + n, k);
 }
 
-// No word is other than 0. The scan leaves nowhere early, so that it is done by vectors.
-pub fn all_zero(s: &[u32]) -> bool
-    ensures { λ r. ⌜ r ≡ allZero (now (s .entry)) ⌝ }
+// The words' bits together: 0 where no word is other than 0. The scan leaves nowhere early, so that it is done by vectors.
+fn or_of(s: &[u32]) -> u32
+    ensures { λ r. ⌜ eqb r 0 ≡ allZero (now (s .entry)) ⌝ }
 {
     let mut some = 0u32;
     let mut i = 0usize;
@@ -89,7 +90,21 @@ pub fn all_zero(s: &[u32]) -> bool
         some |= s[i];
         i += 1;
     }
-    some == 0
+    some
+}
+
+// No word is other than 0. Of parts whose length is a constant, so that each is scanned without a loop.
+pub fn all_zero(s: &[u32]) -> bool
+    ensures { λ r. ⌜ r ≡ allZero (now (s .entry)) ⌝ }
+{
+    let mut some = 0u32;
+    let mut i = 0usize;
+    while 64 <= s.len() - i {
+        let end = i + 64;
+        some |= or_of(&s[i..end]);
+        i = end;
+    }
+    (some | or_of(&s[i..])) == 0
 }
 
 // The two are the same words, as many.

@@ -1,14 +1,13 @@
--- `words::all_zero` meets its contract: the or of the words so far is 0 where each of them is.
+-- `words::all_zero` meets its contract: the or of the parts so far is 0 where each of their words is.
 -- Assumes nothing.
 use Prim.Native.Nat.{_-_, _≤_}
-use mathlib.Core.Path.{_≡_, refl, ap, _∙_}
+use mathlib.Core.Path.{_≡_, refl}
 use native.Mathlib.Omega.{arith}
 use denote.Ref.{now}
 use lib.Dec.{eqb}
 use lib.ListN.{length, take}
-use lib.Seq.{take-all}
 use Rattle.lists.specs.Lists.{allZero}
-use Rattle.words.specs.Scan.{zero-more}
+use Rattle.words.specs.Scan.{zero-part, zero-rest}
 use borrow.Author.Needs.{needs}
 use Rattle.words.proofs.all_zero.Statement.{statement}
 use Rattle.words.proofs.all_zero.Tie as tie
@@ -22,29 +21,56 @@ abbrev μ-loop : tie.MeasureT-loop
 loop-holds : tie.Need-loop-holds Inv-loop μ-loop
 loop-holds c = (omega arith, refl)
 
-mul-some : tie.Need-mul-some Inv-loop μ-loop
-mul-some c = search needs
+sub-loop : tie.Need-sub-loop Inv-loop μ-loop
+sub-loop c = search needs
 
-shared-slice-read-some : tie.Need-shared-slice-read-some Inv-loop μ-loop
-shared-slice-read-some c = search needs
+add-end : tie.Need-add-end Inv-loop μ-loop
+add-end c = search needs
 
-add-i : tie.Need-add-i Inv-loop μ-loop
-add-i c = search needs
+mul-or-of : tie.Need-mul-or-of Inv-loop μ-loop
+mul-or-of c = search needs
+
+sub-or-of : tie.Need-sub-or-of Inv-loop μ-loop
+sub-or-of c = search needs
+
+part-or-of-start : tie.Need-part-or-of-start Inv-loop μ-loop
+part-or-of-start c = search needs
+
+part-or-of-end : tie.Need-part-or-of-end Inv-loop μ-loop
+part-or-of-end c = search needs
+
+or-of-requires : tie.Need-or-of-requires Inv-loop μ-loop
+or-of-requires c κs = search needs
 
 loop-less : tie.Need-loop-less Inv-loop μ-loop
 loop-less c = search needs
 
 loop-again : tie.Need-loop-again Inv-loop μ-loop
 loop-again c =
-    let w = c .before .before in
-    let a = w .before .args in
-    (omega arith, zero-more (w .loop .some) (now (a .s)) (w .loop .i) (omega arith) (w .loop .inv .1))
+    let start = c .before .before .before .before .before in
+    let at-loop = c .before .before .before .loop in
+    (omega arith, zero-part (at-loop .some) (c .or-of .result) (now (start .args .s)) (at-loop .i) 64 (at-loop .inv .1) (c .or-of .ensures))
+
+mul-or-of-2 : tie.Need-mul-or-of-2 Inv-loop μ-loop
+mul-or-of-2 c = search needs
+
+sub-or-of-2 : tie.Need-sub-or-of-2 Inv-loop μ-loop
+sub-or-of-2 c = search needs
+
+part-or-of-start-2 : tie.Need-part-or-of-start-2 Inv-loop μ-loop
+part-or-of-start-2 c = search needs
+
+part-or-of-end-2 : tie.Need-part-or-of-end-2 Inv-loop μ-loop
+part-or-of-end-2 c = search needs
+
+or-of-requires-2 : tie.Need-or-of-requires-2 Inv-loop μ-loop
+or-of-requires-2 c κs = search needs
 
 returns : tie.Need-returns Inv-loop μ-loop
 returns c =
-    let w = c .before in
-    let a = w .before .args in
-    w .loop .inv .1 ∙ ap allZero (take-all (w .loop .i) (now (a .s)) (omega arith))
+    let start = c .before .before .before .before .before in
+    let at-loop = c .before .before .before .loop in
+    zero-rest (at-loop .some) (c .or-of2 .result) (now (start .args .s)) (at-loop .i) (at-loop .inv .1) (c .or-of2 .ensures)
 
 pub all-zero-spec : {M : Type 1} → statement M
 all-zero-spec =
@@ -53,9 +79,18 @@ all-zero-spec =
     Inv-loop
     μ-loop
     loop-holds
-    mul-some
-    shared-slice-read-some
-    add-i
+    sub-loop
+    add-end
+    mul-or-of
+    sub-or-of
+    part-or-of-start
+    part-or-of-end
+    or-of-requires
     loop-less
     loop-again
+    mul-or-of-2
+    sub-or-of-2
+    part-or-of-start-2
+    part-or-of-end-2
+    or-of-requires-2
     returns)
