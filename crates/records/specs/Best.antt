@@ -1,7 +1,7 @@
 -- A pass over addresses that keeps the first of the greatest rank.
 -- Assumes nothing.
 use Prim.Native.Nat.{ℕ}
-use mathlib.Core.Bool.{Bool, cond, not, _&&_}
+use mathlib.Core.Bool.{cond, not, _&&_}
 use mathlib.Core.List.{List, [], _∷_}
 use mathlib.Core.Option.{Option}
 use lib.Dec.{eqb, ltb}

@@ -1,17 +1,23 @@
 -- What a pass over the records finds is what the reference says of their rows.
 -- Assumes nothing.
-use Prim.Native.Nat.{ℕ, _-_, _<_, min}
+use Prim.Native.Nat.{ℕ, _+_, _-_, _≤_, _<_, min}
+use native.Mathlib.Numerals.{add-one}
 use native.Mathlib.Omega.{arith}
 use mathlib.Core.Path.{_≡_, refl, sym, ap, _∙_}
 use mathlib.Core.Bool.{Bool, true, false, cond, not, _&&_, _||_}
-use mathlib.Core.List.{List, [], _∷_, map}
+use mathlib.Core.List.{List, [], _∷_, _++_, map, map-append}
 use mathlib.Core.Option.{Option, none, some}
 use lib.Dec.{eqb, leb}
+use lib.ListN.{length, getD, take, set}
+use lib.Seq.{take-suc, take-suc-set}
 use borrow.Author.Tests.{le-ltb}
 use Rattle.lists.specs.Lists.{Row, first}
 use Rattle.lists.specs.All.{test-case, and-left, and-right, and-rest}
 use Rattle.prefix.specs.Mask.{network}
-use Rattle.layout.specs.Address.{local, secondary}
+use Rattle.layout.specs.Address.{local, secondary, fitAddress}
+use Rattle.definition.specs.State.{State}
+use Rattle.definition.specs.Words.{addressCount, decode}
+use Rattle.definition.specs.Call.{Reply, valued}
 use Rattle.definition.specs.Reference.Addresses.{covers, sameSubnet, hostScope, localOr, primaryOf}
 use Rattle.definition.specs.Reference.Source.{eligible, reaches, select4, localOf, orElse}
 use Rattle.address.specs.declared.V4.{V4}
@@ -19,7 +25,12 @@ use Rattle.address.specs.V4.{secondaryV4, coversV4}
 use Rattle.address.specs.Words.{rowOf}
 use Rattle.source.specs.Selected.{wanted, localIn}
 use Rattle.source.specs.Laws.{reaches-test}
+use Rattle.state.specs.Holds.{Valid, sizes-valid}
+use Rattle.interface.specs.declared.Sourced.the-variants.{Refused, Address}
+use Rattle.interface.specs.Answer.{sourcedOf}
+use Rattle.interface.specs.Laws.{checked, read-refused, read-answered, sourced-refused}
 use Rattle.records.specs.declared.Best.{Best}
+use Rattle.records.specs.Call.{primaryOfCall}
 use Rattle.records.specs.Best.{better, start, bestFrom, selectRank, selectedOf, primaryRank, primaryIn}
 
 abbrev at : ℕ → ℕ → Best
@@ -155,3 +166,34 @@ module _ (b : Best) (a v : V4) (s cov : Bool) (es : s ≡ secondaryV4 v) (ec : c
 
   pub step-other : of-subnet ≡ false → b ≡ then
   step-other e = rw (← ep, e) (no-better b (v .local))
+
+-- ---- rows read into records, one after the other
+pub read-more : (rows : List V4) (i : ℕ) (l : List Row) (v : V4) → i < length rows → i < length l → rowOf v ≡ getD l i [] → map rowOf (take i rows) ≡ take i l
+    → map rowOf (take (i + 1) (set rows i v)) ≡ take (i + 1) l
+read-more rows i l v b c e sofar =
+    ap (λ (k : ℕ). map rowOf (take k (set rows i v))) (add-one i)
+    ∙ ap (map rowOf) (take-suc-set rows i v b)
+    ∙ map-append rowOf (take i rows) (v ∷ [])
+    ∙ ap (λ (h : List Row). h ++ (rowOf v ∷ [])) sofar
+    ∙ ap (λ (r : Row). take i l ++ (r ∷ [])) e
+    ∙ sym (ap (λ (k : ℕ). take k l) (add-one i) ∙ take-suc l i [] c)
+
+-- the addresses in use are 64 at most
+pub few : {w : List ℕ} (n : ℕ) → Valid w → n ≡ addressCount w → n ≤ 64
+few n v e = omega (arith, sizes-valid v .addresses)
+
+-- ---- the public primary_of
+module _ (w : List ℕ) (row : Row) (n : ℕ) (fit : Bool) (f : fit ≡ fitAddress row) where
+  abbrev reply : State → Reply
+  reply st = valued (primaryOf (st .addresses) row)
+
+  same : n ≡ checked true fit true w → n ≡ checked true (fitAddress row) true w
+  same c = c ∙ ap (λ (b : Bool). checked true b true w) f
+
+  pub primary-no : n ≡ checked true fit true w → (n ≡ 0 → ⊥) → Refused n ≡ sourcedOf (primaryOfCall row w .reply)
+  unfolding primaryOfCall
+  primary-no c h = sourced-refused n h ∙ ap sourcedOf (sym (read-refused true (fitAddress row) true reply w n (same c) h))
+
+  pub primary-yes : (a : ℕ) → n ≡ checked true fit true w → n ≡ 0 → a ≡ primaryOf (decode w .addresses) row → Address a ≡ sourcedOf (primaryOfCall row w .reply)
+  unfolding primaryOfCall
+  primary-yes a c z e = ap (λ (v : ℕ). sourcedOf (valued v)) e ∙ ap sourcedOf (sym (read-answered true (fitAddress row) true reply w n (same c) z))

@@ -4,15 +4,25 @@ use interface::Chosen;
 use interface::Sourced;
 use source::Selected;
 ghost use mathlib.Core.Path.{_≡_};
-ghost use mathlib.Core.List.{map};
+ghost use mathlib.Core.Bool.{true};
+ghost use mathlib.Core.List.{List, map};
 ghost use lib.ListN.{length, take};
-ghost use Prim.Native.Nat.{_≤_, min};
+ghost use Prim.Native.Nat.{_*_, _≤_, min};
+ghost use Rattle.lists.specs.Lists.{Row};
+ghost use Rattle.lists.specs.Laid.{Laid, Lays};
+ghost use Rattle.layout.specs.Address.{fitAddress};
 ghost use Rattle.address.specs.V4.{secondaryV4, coversV4};
 ghost use Rattle.address.specs.Words.{rowOf};
 ghost use Rattle.definition.specs.Reference.Addresses.{hostScope, primaryOf};
 ghost use Rattle.definition.specs.Reference.Source.{select4};
+ghost use Rattle.definition.specs.State.{State};
+ghost use Rattle.definition.specs.Words.{addressCount};
+ghost use Rattle.definition.specs.Step.{select4Call};
 ghost use Rattle.source.specs.Selected.{wanted, localIn};
+ghost use Rattle.state.specs.Holds.{Holds, Valid};
+ghost use Rattle.interface.specs.Answer.{chosenOf, sourcedOf};
 ghost use Rattle.records.specs.Best.{better, selectRank, selectedOf, primaryRank, primaryIn};
+ghost use Rattle.records.specs.Call.{primaryOfCall};
 
 // The first address of the greatest rank so far, by its local address: none while the rank is 0.
 pub struct Best {
@@ -26,7 +36,10 @@ fn better(best: Best, rank: u32, local: u32) -> Best
     ensures { λ r. ⌜ r ≡ better best rank local ⌝ }
 {
     if best.rank < rank {
-        return Best { rank: rank, local: local };
+        return Best {
+            rank: rank,
+            local: local,
+        };
     }
     best
 }
@@ -133,4 +146,81 @@ fn lend_primary_of(rows: [V4; 64], n: usize, a: V4) -> u32
     ensures { λ r. ⌜ r ≡ primaryOf (map rowOf (take n rows)) (rowOf a) ⌝ }
 {
     primary_of(&rows[..n], a)
+}
+
+fn record_of(row: &[u32]) -> V4
+    requires { ⌜ fitAddress (now row) ≡ true ⌝ }
+    ensures { λ r. ⌜ rowOf r ≡ now (row .entry) ⌝ }
+{
+    address::v4_of(row)
+}
+
+// The records of n rows. What stands behind them is not looked at.
+fn read(words: &[u32], n: usize) -> [V4; 64]
+    requires { ⌜ (n ≤ 64) × (length (now words) ≡ 20 * n) × Lays 20 fitAddress (now words) ⌝ }
+    ensures { λ r. ⌜ ((l : List Row) → Laid 20 fitAddress (now (words .entry)) l → map rowOf (take n r) ≡ l) ⌝ }
+{
+    let mut rows = [address::v4_of(&[0u32; 20]); 64];
+    let mut i = 0usize;
+    while i < n {
+        let at = 20 * i;
+        let v = record_of(&words[at..at + 20]);
+        rows[i] = v;
+        i += 1;
+    }
+    rows
+}
+
+// The records of the addresses that words hold.
+fn decoded(s: &[u32]) -> [V4; 64]
+    requires { ⌜ Valid (now s) ⌝ }
+    ensures { λ r. ⌜ ((st : State) → Holds (now (s .entry)) st → map rowOf (take (addressCount (now (s .entry))) r) ≡ st .addresses) ⌝ }
+{
+    read(view::addresses(s), state::address_count(s))
+}
+
+fn select4_in(s: &[u32], dst_present: bool, dst: u32, scope: u32) -> Selected
+    requires { ⌜ Valid (now s) ⌝ }
+    ensures { λ r. ⌜ ((st : State) → Holds (now (s .entry)) st → localIn r ≡ select4 (st .addresses) (wanted «dst_present» dst) scope) ⌝ }
+{
+    lend_select4(decoded(s), state::address_count(s), dst_present, dst, scope)
+}
+
+fn primary_of_in(s: &[u32], row: &[u32]) -> u32
+    requires { ⌜ Valid (now s) ⌝ }
+    requires { ⌜ fitAddress (now row) ≡ true ⌝ }
+    ensures { λ r. ⌜ ((st : State) → Holds (now (s .entry)) st → r ≡ primaryOf (st .addresses) (now (row .entry))) ⌝ }
+{
+    lend_primary_of(decoded(s), state::address_count(s), record_of(row))
+}
+
+// The call on the words of a state.
+pub fn select4_words(state: &[u32], dst_present: u32, dst: u32, scope: u32) -> Chosen
+    ensures { λ r. ⌜ r ≡ chosenOf (select4Call «dst_present» dst scope (now (state .entry)) .reply) ⌝ }
+{
+    let n = interface::checked(
+        state,
+        true,
+        true,
+        address::fit_optional(dst_present, dst) & (scope < 256),
+    );
+    if n != 0 {
+        return Chosen::Refused(n);
+    }
+    let selected = select4_in(state, dst_present == 1, dst, scope);
+    match selected {
+        Selected::Local(a) => Chosen::Address(a),
+        Selected::Nothing => Chosen::Nothing,
+    }
+}
+
+// By the words of a state, the local address of the primary whose subnet an address is in, handed over as any row of words.
+pub fn primary_of_words(state: &[u32], row: &[u32]) -> Sourced
+    ensures { λ r. ⌜ r ≡ sourcedOf (primaryOfCall (now (row .entry)) (now (state .entry)) .reply) ⌝ }
+{
+    let n = interface::checked(state, true, address::fit_address(row), true);
+    if n != 0 {
+        return Sourced::Refused(n);
+    }
+    Sourced::Address(primary_of_in(state, row))
 }
