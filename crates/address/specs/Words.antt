@@ -29,13 +29,14 @@ abbrev pub valueOf : Optional → ℕ
 valueOf Absent = 0
 valueOf (Present v) = v
 
-abbrev pub rowOf : V4 → Row
-rowOf v =
+-- the row, with the words that are computed
+abbrev pub rowWith : V4 → ℕ → ℕ → ℕ → ℕ → ℕ → ℕ → Row
+rowWith v mark value createdLow createdHigh changedLow changedHigh =
     v .local
     ∷ v .address
     ∷ v .prefix
-    ∷ markOf (v .broadcast)
-    ∷ valueOf (v .broadcast)
+    ∷ mark
+    ∷ value
     ∷ v .scope
     ∷ v .flags
     ∷ v .proto
@@ -47,11 +48,16 @@ rowOf v =
     ∷ v .priority
     ∷ v .life .valid .0
     ∷ v .life .preferred .0
-    ∷ lowWord (v .life .created .0)
-    ∷ highWord (v .life .created .0)
-    ∷ lowWord (v .life .changed .0)
-    ∷ highWord (v .life .changed .0)
+    ∷ createdLow
+    ∷ createdHigh
+    ∷ changedLow
+    ∷ changedHigh
     ∷ []
+
+abbrev pub rowOf : V4 → Row
+rowOf v =
+    rowWith v (markOf (v .broadcast)) (valueOf (v .broadcast))
+    (lowWord (v .life .created .0)) (highWord (v .life .created .0)) (lowWord (v .life .changed .0)) (highWord (v .life .changed .0))
 
 -- ---- a list of known length, spelled out
 abbrev pub spelled : ℕ → ℕ → List ℕ → List ℕ
@@ -91,7 +97,7 @@ row-again a h made changed =
     (sym (spells 20 0 a (length-address a h)))
 
 -- ---- a record is read back from its row
-optional-again : (o : Optional) → optionalOf (markOf o) (valueOf o) ≡ o
+pub optional-again : (o : Optional) → optionalOf (markOf o) (valueOf o) ≡ o
 optional-again Absent = refl
 optional-again (Present v) = refl
 
@@ -99,3 +105,11 @@ pub record-again : (v : V4) → length (v .label .words) ≡ 4 → v4Of (rowOf v
 record-again v h =
     let label : spelled 4 0 (v .label .words) ≡ v .label .words = sym (spells 4 0 (v .label .words) h) in
     rw (optional-again (v .broadcast), clock-words (v .life .created .0), clock-words (v .life .changed .0), label)
+
+-- both, of a row whose computed words are right
+pub written : (v : V4) (m x a b c d : ℕ) → length (v .label .words) ≡ 4 → m ≡ markOf (v .broadcast) → x ≡ valueOf (v .broadcast)
+    → a ≡ lowWord (v .life .created .0) → b ≡ highWord (v .life .created .0) → c ≡ lowWord (v .life .changed .0) → d ≡ highWord (v .life .changed .0)
+    → (rowWith v m x a b c d ≡ rowOf v) × (v4Of (rowWith v m x a b c d) ≡ v)
+written v m x a b c d h em ex ea eb ec ed =
+    let same : rowWith v m x a b c d ≡ rowOf v = rw (em, ex, ea, eb, ec, ed) in
+    (same, ap v4Of same ∙ record-again v h)

@@ -25,9 +25,9 @@ ghost use Rattle.records.specs.Best.{better, selectRank, selectedOf, pri
 ghost use Rattle.records.specs.Call.{primaryOfCall};
 
 // The first address of the greatest rank so far, by its local address: none while the rank is 0.
-pub struct Best {
-    pub rank: u32,
-    pub local: u32,
+struct Best {
+    rank: u32,
+    local: u32,
 }
 
 const SCOPE_HOST: u32 = 254;
@@ -133,7 +133,7 @@ pub fn primary_of(addresses: &[V4], a: V4) -> u32
     primary(best, a)
 }
 
-// The first n of 64 records, lent.
+// The first n of 64 records, lent: whoever calls this needs no walk by hand.
 fn lend_select4(rows: [V4; 64], n: usize, dst_present: bool, dst: u32, scope: u32) -> Selected
     requires { ⌜ n ≤ 64 ⌝ }
     ensures { λ r. ⌜ localIn r ≡ select4 (map rowOf (take n rows)) (wanted «dst_present» dst) scope ⌝ }
@@ -148,13 +148,6 @@ fn lend_primary_of(rows: [V4; 64], n: usize, a: V4) -> u32
     primary_of(&rows[..n], a)
 }
 
-fn record_of(row: &[u32]) -> V4
-    requires { ⌜ fitAddress (now row) ≡ true ⌝ }
-    ensures { λ r. ⌜ rowOf r ≡ now (row .entry) ⌝ }
-{
-    address::v4_of(row)
-}
-
 // The records of n rows. What stands behind them is not looked at.
 fn read(words: &[u32], n: usize) -> [V4; 64]
     requires { ⌜ (n ≤ 64) × (length (now words) ≡ 20 * n) × Lays 20 fitAddress (now words) ⌝ }
@@ -164,7 +157,7 @@ fn read(words: &[u32], n: usize) -> [V4; 64]
     let mut i = 0usize;
     while i < n {
         let at = 20 * i;
-        let v = record_of(&words[at..at + 20]);
+        let v = address::record_of(&words[at..at + 20]);
         rows[i] = v;
         i += 1;
     }
@@ -191,7 +184,7 @@ fn primary_of_in(s: &[u32], row: &[u32]) -> u32
     requires { ⌜ fitAddress (now row) ≡ true ⌝ }
     ensures { λ r. ⌜ ((st : State) → Holds (now (s .entry)) st → r ≡ primaryOf (st .addresses) (now (row .entry))) ⌝ }
 {
-    lend_primary_of(decoded(s), state::address_count(s), record_of(row))
+    lend_primary_of(decoded(s), state::address_count(s), address::record_of(row))
 }
 
 // The call on the words of a state.

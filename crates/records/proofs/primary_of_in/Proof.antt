@@ -34,7 +34,7 @@ returns c =
     c .lend-primary-of .ensures
     ∙ ap (λ (n : ℕ). primaryOf (map rowOf (take n (d .decoded .result))) (rowOf (c .before .record-of .result))) (k .address-count .ensures)
     ∙ ap (λ (l : List Row). primaryOf l (rowOf (c .before .record-of .result))) (d .decoded .ensures st h)
-    ∙ ap (primaryOf (st .addresses)) (c .before .record-of .ensures)
+    ∙ ap (primaryOf (st .addresses)) (c .before .record-of .ensures .1)
 
 pub primary-of-in-spec : {M : Type 1} → statement M
 primary-of-in-spec =

@@ -85,7 +85,7 @@ loop-again c =
       simp length-set long,
       λ l h.
           let there : i < length l = omega (arith, laid-rows w n (lit< tt) (s .pre .1) l h) in
-          read-more rows i l (c .record-of .result) (omega arith) there (c .record-of .ensures ∙ laid-part h i there) (inv .2 l h),
+          read-more rows i l (c .record-of .result) (omega arith) there (c .record-of .ensures .1 ∙ laid-part h i there) (inv .2 l h),
     )
 
 returns : tie.Need-returns Inv-loop μ-loop
