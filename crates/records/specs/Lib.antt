@@ -1,3 +1,4 @@
 pub mod Best
 pub mod Call
 pub mod Laws
+pub mod Decoded
