@@ -5,6 +5,7 @@ use life::Lifetimes;
 use life::Nanoseconds;
 use life::Seconds;
 ghost use mathlib.Core.Path.{_≡_};
+ghost use mathlib.Core.Bool.{true};
 ghost use Prim.Native.Nat.{_+_, _-_, _*_, _^_, _≤_};
 ghost use lib.ListN.{length};
 ghost use Rattle.prefix.specs.Mask.{mask};
@@ -12,6 +13,7 @@ ghost use Rattle.layout.specs.Address.{optional, fitLabel, fitAddress};
 ghost use Rattle.definition.specs.Reference.Addresses.{lifeFlags};
 ghost use Rattle.definition.specs.Step.{leftCall};
 ghost use Rattle.address.specs.V4.{v4Of, optionalOf, labelOf, lifeOf, secondaryV4, coversV4, setLifeV4, leftV4};
+ghost use Rattle.address.specs.Words.{markOf, valueOf, rowOf};
 ghost use Rattle.address.specs.Row.{wordEnds, leftReply, replyOf};
 
 // The flags of an address that the kernel keeps (rtnetlink's IFA_F_*).
@@ -24,6 +26,28 @@ pub const PERMANENT: u32 = 0x80;
 pub enum Optional {
     Absent,
     Present(u32),
+}
+
+impl Optional {
+    // Whether there is one, as the word that says so.
+    pub fn mark(self) -> u32
+        ensures { λ r. ⌜ r ≡ markOf self ⌝ }
+    {
+        match self {
+            Optional::Absent => 0,
+            Optional::Present(_) => 1,
+        }
+    }
+
+    // Its word, 0 where it is absent.
+    pub fn value(self) -> u32
+        ensures { λ r. ⌜ r ≡ valueOf self ⌝ }
+    {
+        match self {
+            Optional::Absent => 0,
+            Optional::Present(v) => v,
+        }
+    }
 }
 
 // Sixteen bytes, little-endian, of which the first `len` are the label.
@@ -110,6 +134,41 @@ impl V4 {
     }
 }
 
+impl V4 {
+    // Its row, from which it is read again.
+    pub fn words(self) -> [u32; 20]
+        ensures { λ r. ⌜ r ≡ rowOf self ⌝ }
+        ensures { λ r. ⌜ v4Of r ≡ self ⌝ }
+    {
+        let broadcast = self.broadcast;
+        let name = self.label.words;
+        let created = self.life.created;
+        let changed = self.life.changed;
+        [
+            self.local,
+            self.address,
+            self.prefix,
+            broadcast.mark(),
+            broadcast.value(),
+            self.scope,
+            self.flags,
+            self.proto,
+            self.label.len,
+            name[0],
+            name[1],
+            name[2],
+            name[3],
+            self.priority,
+            self.life.valid.0,
+            self.life.preferred.0,
+            created.low(),
+            created.high(),
+            changed.low(),
+            changed.high(),
+        ]
+    }
+}
+
 pub fn optional_of(present: u32, value: u32) -> Optional
     ensures { λ r. ⌜ r ≡ optionalOf present value ⌝ }
 {
@@ -163,6 +222,15 @@ pub fn v4_of(row: &[u32]) -> V4
         priority: row[13],
         life: life,
     }
+}
+
+// The record of a row that could stand in a well-formed state, which gives the row again.
+pub fn record_of(row: &[u32]) -> V4
+    requires { ⌜ fitAddress (now row) ≡ true ⌝ }
+    ensures { λ r. ⌜ r ≡ v4Of (now (row .entry)) ⌝ }
+    ensures { λ r. ⌜ rowOf r ≡ now (row .entry) ⌝ }
+{
+    v4_of(row)
 }
 
 // Whether the bytes of `word`, which come after `from` others, are 0 from the `n`th on.

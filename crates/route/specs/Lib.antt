@@ -1,2 +1,3 @@
 pub mod Fit
 pub mod Order
+pub mod Route4

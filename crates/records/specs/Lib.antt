@@ -1,0 +1,4 @@
+pub mod Best
+pub mod Call
+pub mod Laws
+pub mod Decoded
