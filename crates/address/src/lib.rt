@@ -105,11 +105,13 @@ impl V4 {
         prefix::mask4(self.prefix)
     }
 
-    // Whether `ip` is in its subnet.
+    // Whether `ip` is in its subnet. A prefix over 32 counts as 32.
     pub fn covers(self, ip: u32) -> bool
-        requires { ⌜ self .prefix ≤ 32 ⌝ }
         ensures { λ r. ⌜ r ≡ coversV4 self ip ⌝ }
     {
+        if 32 < self.prefix {
+            return prefix::same_network(ip, self.address, 32);
+        }
         prefix::same_network(ip, self.address, self.prefix)
     }
 

@@ -13,7 +13,6 @@ use lib.Seq.{take-suc, take-suc-set}
 use borrow.Author.Tests.{le-ltb}
 use Rattle.lists.specs.Lists.{Row, first}
 use Rattle.lists.specs.All.{test-case, and-left, and-right, and-rest}
-use Rattle.prefix.specs.Mask.{network}
 use Rattle.layout.specs.Address.{local, secondary, fitAddress}
 use Rattle.definition.specs.State.{State}
 use Rattle.definition.specs.Words.{addressCount, decode}
@@ -112,13 +111,6 @@ module _ (a : Row) where
       (λ s. rw s)
 
 -- ---- what the code's tests come to
--- a prefix over 32 leaves no host bits, as one of 32
-pub covers-all : (v : V4) (ip : ℕ) → 32 < v .prefix → eqb (network ip 32) (network (v .address) 32) ≡ coversV4 v ip
-unfolding network
-covers-all v ip h =
-    let e : 32 - v .prefix ≡ 0 = omega arith in
-    rw e
-
 -- rank 0 is none
 pub no-better : (b : Best) (x : ℕ) → b ≡ better b 0 x
 no-better b x = rw (le-ltb (b .rank) 0 (omega arith))

@@ -11,7 +11,6 @@ ghost use Prim.Native.Nat.{_*_, _≤_, min};
 ghost use Rattle.lists.specs.Lists.{Row};
 ghost use Rattle.lists.specs.Laid.{Laid, Lays};
 ghost use Rattle.layout.specs.Address.{fitAddress};
-ghost use Rattle.address.specs.V4.{secondaryV4, coversV4};
 ghost use Rattle.address.specs.Words.{rowOf};
 ghost use Rattle.definition.specs.Reference.Addresses.{hostScope, primaryOf};
 ghost use Rattle.definition.specs.Reference.Source.{select4};
@@ -44,16 +43,6 @@ fn better(best: Best, rank: u32, local: u32) -> Best
     best
 }
 
-// Whether ip is in the address's subnet; a prefix over 32 counts as 32.
-fn covers(a: V4, ip: u32) -> bool
-    ensures { λ r. ⌜ r ≡ coversV4 a ip ⌝ }
-{
-    if 32 < a.prefix {
-        return prefix::same_network(ip, a.address, 32);
-    }
-    prefix::same_network(ip, a.address, a.prefix)
-}
-
 fn host_at_most(scope: u32) -> u32
     ensures { λ r. ⌜ r ≡ min scope hostScope ⌝ }
 {
@@ -68,7 +57,7 @@ fn select_step(best: Best, a: V4, dst_present: bool, dst: u32, scope: u32) -> Be
     ensures { λ r. ⌜ r ≡ better best (selectRank (wanted «dst_present» dst) scope (rowOf a)) (a .local) ⌝ }
 {
     let fit = !a.secondary() & (host_at_most(a.scope) <= scope);
-    let near = !dst_present | covers(a, dst);
+    let near = !dst_present | a.covers(dst);
     if fit & near {
         return better(best, 2, a.local);
     }
@@ -104,7 +93,7 @@ pub fn select4(addresses: &[V4], dst_present: bool, dst: u32, scope: u32) -> Sel
 fn primary_step(best: Best, b: V4, a: V4) -> Best
     ensures { λ r. ⌜ r ≡ better best (primaryRank (rowOf a) (rowOf b)) (b .local) ⌝ }
 {
-    let same = (b.prefix == a.prefix) & covers(b, a.address);
+    let same = (b.prefix == a.prefix) & b.covers(a.address);
     if !b.secondary() & same {
         return better(best, 1, b.local);
     }
