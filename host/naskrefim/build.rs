@@ -1,5 +1,5 @@
-//! Finds the port's static library, reads which functions it exports, and
-//! has it linked. NASKREFIM_LIB names the file; without it, it is looked
+//! Finds the port's static library, sees that it exports every function,
+//! and has it linked. NASKREFIM_LIB names the file; without it, it is looked
 //! for where `rt staticlib ffi` writes it.
 
 use std::path::{Path, PathBuf};
@@ -7,29 +7,14 @@ use std::{env, fs, process};
 
 /// From the repository's root.
 const DEFAULT: &str = "target/staticlib/libffi.a";
-const CALLS: [&str; 15] = [
-    "up",
-    "down",
-    "add_v4",
-    "del_v4",
-    "expire",
-    "add_route4",
-    "del_route4",
-    "dump4",
-    "lookup4",
-    "lookup4_flow",
-    "local4",
-    "source4",
-    "source",
-    "select4",
-    "left",
-];
+/// What it exports, behind each prefix: on bytes and on words.
+const PREFIXES: [&str; 2] = ["interface4_", "interface4w_"];
+const CALLS: &str = "up down add_v4 del_v4 expire add_route4 del_route4 dump4 lookup4 \
+                     lookup4_flow local4 source4 source select4 left check";
 
 fn main() {
     println!("cargo::rerun-if-changed=build.rs");
     println!("cargo::rerun-if-env-changed=NASKREFIM_LIB");
-    println!("cargo::rerun-if-env-changed=NASKREFIM_PARTIAL");
-    println!("cargo::rustc-check-cfg=cfg(exported, values(any()))");
     if let Err(message) = build() {
         println!("cargo::error={message}");
         process::exit(1);
@@ -56,19 +41,14 @@ fn build() -> Result<(), String> {
     let archive = fs::read(&library).map_err(|e| format!("{}: {e}", library.display()))?;
     let exported = symbols(&archive)
         .ok_or_else(|| format!("{named} {}: no archive with an index", library.display()))?;
-    let (there, missing): (Vec<String>, Vec<String>) = wanted()
-        .into_iter()
-        .partition(|name| exported.contains(name));
-    if !missing.is_empty() && env::var_os("NASKREFIM_PARTIAL").is_none() {
+    let mut missing = wanted();
+    missing.retain(|name| !exported.contains(name));
+    if !missing.is_empty() {
         return Err(format!(
-            "{named} {}, which lacks {}. With NASKREFIM_PARTIAL set, what it has is linked, and \
-             a call of the rest panics",
+            "{named} {}, which lacks {}",
             library.display(),
             missing.join(", ")
         ));
-    }
-    for name in there {
-        println!("cargo::rustc-cfg=exported=\"{name}\"");
     }
     let (Some(folder), Some(file)) = (library.parent(), library.file_name()) else {
         return Err(format!("{} is no file", library.display()));
@@ -83,10 +63,8 @@ fn build() -> Result<(), String> {
 }
 
 fn wanted() -> Vec<String> {
-    ["interface4_", "interface4w_"]
-        .iter()
-        .flat_map(|prefix| CALLS.iter().map(move |call| format!("{prefix}{call}")))
-        .collect()
+    let named = |prefix| CALLS.split(' ').map(move |call| format!("{prefix}{call}"));
+    PREFIXES.into_iter().flat_map(named).collect()
 }
 
 /// The names in an archive's index: its first member, `/`, with a number,

@@ -1,4 +1,5 @@
 // add_v4 and up over words that hold a state, with their events. Where a list lacks room the words are left anyhow.
+use life::Lifetimes;
 use steps::Told;
 ghost use mathlib.Core.Path.{_≡_};
 ghost use mathlib.Core.Bool.{true};
@@ -118,6 +119,7 @@ pub fn up(s: &mut [u32], ev: &mut [u32], clock: u64) -> Told
     ensures { λ r. ⌜ rowsOf r ≤ 325 ⌝ }
     ensures { λ r. ⌜ AddsFrom (up clock) (now (s .entry)) (now (s .exit)) (now (ev .entry)) (now (ev .exit)) r ⌝ }
 {
+    let forever = Lifetimes::FOREVER;
     let loopback = [
         0x7f000001u32,
         0x7f000001,
@@ -133,8 +135,8 @@ pub fn up(s: &mut [u32], ev: &mut [u32], clock: u64) -> Told
         0,
         0,
         0,
-        0xffffffff,
-        0xffffffff,
+        forever.valid.0,
+        forever.preferred.0,
         0,
         1,
     ];

@@ -1,23 +1,19 @@
 -- What the steps that add come to as public answers.
-use Prim.Native.Nat.{ℕ, _≤_, _<_}
+use Prim.Native.Nat.{ℕ}
 use native.Mathlib.Omega.{arith}
-use mathlib.Core.Path.{_≡_, refl, sym, ap, subst, _∙_}
-use mathlib.Core.Bool.{Bool, true, false, cond, _&&_}
-use mathlib.Core.List.{List, []}
-use mathlib.Core.Option.{Option, none, some}
-use lib.Dec.{eqb}
+use mathlib.Core.Path.{_≡_, refl, sym, ap, _∙_}
+use mathlib.Core.Bool.{Bool, true, false, cond}
+use mathlib.Core.List.{List}
 use lib.ListN.{length}
 use borrow.Author.Tests.{ne-eqb}
-use Rattle.lists.specs.Lists.{Row, flat, put, first}
-use Rattle.layout.specs.Request.{replaceAsked}
 use Rattle.definition.specs.State.{State, Out, sizes}
 use Rattle.definition.specs.Words.{within, encode, decode}
 use Rattle.definition.specs.Call.{refusal, written}
-use Rattle.definition.specs.Step.{Result, outcome, changing, upCall, eventsFit}
-use Rattle.definition.specs.Reference.Addresses.{Outcome, goes, refused, addV4, addedOver, changeV4, sameAddress, up}
+use Rattle.definition.specs.Step.{Result, outcome, upCall, eventsFit}
+use Rattle.definition.specs.Reference.Addresses.{Outcome, goes, refused, up}
 use Rattle.definition.specs.Kept.Numbers.{Numbered}
+use Rattle.definition.specs.Laws.Refusals.{Leaves}
 use Rattle.definition.specs.Kept.Encode.{Good, good-decode}
-use Rattle.state.specs.Holds.{Holds}
 use Rattle.steps.specs.Does.{Does}
 use Rattle.steps.specs.Adds.{Adds}
 use Rattle.steps.specs.declared.Told as Told
@@ -27,9 +23,8 @@ use Rattle.bring.specs.Sound.{Sound}
 use Rattle.interface.specs.Laws.{checked, passed, held}
 use Rattle.changes.specs.declared.Done.{Done}
 use Rattle.changes.specs.declared.Done.the-variants.{Refused, Rows}
-use Rattle.changes.specs.Answer.{doneOf}
 use Rattle.changes.specs.Laws.{Answers, answers-refused, change-refused, change-made, kept}
-use Rattle.changes.specs.Requests.{answers-by, encoded}
+use Rattle.changes.specs.Requests.{answers-by}
 
 abbrev pub cameOf : adding.Done → Done
 cameOf (adding.the-variants.Rows k) = Rows k
@@ -49,23 +44,6 @@ good-passed buffers request w n c z =
 pub bring-sound : (buffers request : Bool) (w : List ℕ) (n : ℕ) → n ≡ checked buffers true request w → n ≡ 0 → Sound w
 bring-sound buffers request w n c z =
     record { state = decode w; holds = held buffers true request w n c z; fits = good-passed buffers request w n c z .fits }
-
--- a refusal of add_v4 leaves the state
-abbrev pub Leaves : State → Outcome → Type 0
-Leaves st (goes o) = Unit {0}
-Leaves st (refused n later) = later ≡ st
-
-leaves-either : (st : State) (b : Bool) (x y : Outcome) → Leaves st x → Leaves st y → Leaves st (cond b x y)
-leaves-either st true x y h k = h
-leaves-either st false x y h k = k
-
-over-leaves : (q : Row) (now : ℕ) (o : Option Row) (st : State) → Leaves st (addedOver q now o st)
-over-leaves q now none st = tt
-over-leaves q now (some old) st = leaves-either st (eqb (replaceAsked q) 1) (goes (changeV4 q old now st)) (refused 17 st) tt refl
-
-pub addV4-leaves : (q : Row) (now : ℕ) (st : State) → Leaves st (addV4 q now st)
-unfolding addV4
-addV4-leaves q now st = over-leaves q now (first (sameAddress q) (st .addresses)) st
 
 -- ---- a step that adds, by whether the lists keep to their limits
 module _ (w w′ ev ev′ : List ℕ) where

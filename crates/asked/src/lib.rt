@@ -1,9 +1,12 @@
 // What a request for a route asks for, by its words alone.
+use kind::FoundKind;
+use kind::Kind;
 ghost use mathlib.Core.Path.{_≡_};
 ghost use mathlib.Core.Bool.{cond};
 ghost use Prim.Native.Nat.{_≤_, _<_};
 ghost use lib.ListN.{length};
 ghost use Rattle.lists.specs.Lists.{put};
+ghost use Rattle.kind.specs.Kind.{isKind};
 ghost use Rattle.layout.specs.Route.{scope};
 ghost use Rattle.definition.specs.Reference.Routes.{tableNamed, badPrefix, deadFlags, onlinkFlag, unsupported, then, refuse, mark, formCheck, askedRoute};
 
@@ -91,13 +94,23 @@ fn unknown_kind(code: u32) -> u32
     INVALID
 }
 
+fn known_kind(code: u32) -> bool
+    ensures { λ r. ⌜ r ≡ isKind code ⌝ }
+{
+    let found = Kind::of(code);
+    match found {
+        FoundKind::Is(_) => true,
+        FoundKind::Unknown => false,
+    }
+}
+
 // Length and host bits, scope and dead flags, metrics, kind: 0 where all is well.
 pub fn form_check(q: &[u32]) -> u32
     requires { ⌜ length (now q) ≡ 34 ⌝ }
     ensures { λ r. ⌜ r ≡ formCheck (now (q .entry)) ⌝ }
 {
     let narrow = q[7] < kind::least_scope(q[5]);
-    let known = kind::is_kind(q[5]);
+    let known = known_kind(q[5]);
     first_of(
         refuse(bad_prefix(q), INVALID),
         first_of(

@@ -99,7 +99,7 @@ fn moved(s: &mut [u32], ev: &mut [u32], q: &[u32], old: &[u32]) -> Told
     match came {
         Told::Rows(k) => {
             let from = 34 * k;
-            let went = kernel::kernel_del4(s, &mut ev[from..], &gone);
+            let went = named::kernel_del4(s, &mut ev[from..], &gone);
             Told::Rows(k + went)
         }
         Told::Full => Told::Full,

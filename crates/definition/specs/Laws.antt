@@ -2,3 +2,4 @@
 pub mod Lookup
 pub mod Expire
 pub mod Private
+pub mod Refusals

@@ -10,3 +10,4 @@ pub mod Apart
 pub mod Theorem
 pub mod Computed
 pub mod Examples
+pub mod Public

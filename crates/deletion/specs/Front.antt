@@ -1,10 +1,10 @@
 -- The first element that passes, behind a front where none does.
 -- Assumes nothing.
 use Prim.Native.Nat.{ℕ, zero, suc, _+_, _<_}
-use mathlib.Core.Path.{_≡_, refl, ap, _∙_}
-use mathlib.Core.Bool.{Bool, true, false, cond, _||_}
+use mathlib.Core.Path.{_≡_, ap}
+use mathlib.Core.Bool.{Bool, true, false}
 use mathlib.Core.List.{List, [], _∷_, _++_}
-use mathlib.Core.Option.{Option, some}
+use mathlib.Core.Option.{some}
 use native.Mathlib.Omega.{arith}
 use native.Mathlib.Numerals.{add-one}
 use lib.ListN.{length, getD, take, drop}
@@ -21,6 +21,18 @@ module _ {A : Type 0} where
       rw (k .0) (any-joined p l m (k .1) h)
 
   module _ (q : A → Bool) where
+    pub first-behind : (front : List A) (x : A) (l : List A) → any q front ≡ false → q x ≡ true → first q (front ++ (x ∷ l)) ≡ some x
+    first-behind [] x l c e = rw e
+    first-behind (y ∷ front) x l c e =
+        let k = or-false (q y) (any q front) c in
+        rw (k .0) (first-behind front x l (k .1) e)
+
+    pub remove-behind : (front : List A) (x : A) (l : List A) → any q front ≡ false → q x ≡ true → removeFirst q (front ++ (x ∷ l)) ≡ front ++ l
+    remove-behind [] x l c e = rw e
+    remove-behind (y ∷ front) x l c e =
+        let k = or-false (q y) (any q front) c in
+        rw (k .0) (ap (λ (m : List A). y ∷ m) (remove-behind front x l (k .1) e))
+
     pub first-front : (i : ℕ) (l : List A) (d : A) → any q (take i l) ≡ false → i < length l → q (getD l i d) ≡ true → first q l ≡ some (getD l i d)
     first-front i [] d c b e = absurd (omega arith)
     first-front zero (x ∷ l) d c b e = rw e

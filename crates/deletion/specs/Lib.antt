@@ -1,3 +1,4 @@
 pub mod Front
 pub mod Strays
 pub mod Delete
+pub mod Sweep

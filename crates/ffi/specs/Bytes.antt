@@ -2,8 +2,7 @@
 -- Assumes nothing.
 use Prim.Native.Nat.{ℕ, _+_, _*_}
 use native.Mathlib.Omega.{arith}
-use mathlib.Core.Path.{_≡_, refl, sym, ap, _∙_}
-use mathlib.Core.Bool.{Bool, true, false, cond}
+use mathlib.Core.Path.{_≡_, sym, ap, _∙_}
 use mathlib.Core.List.{List, [], append-nil}
 use lib.Dec.{eqb}
 use lib.ListN.{length, drop, drop-of-length-le}
@@ -14,7 +13,6 @@ use Rattle.definition.specs.Call as Call
 use Rattle.definition.specs.Step.{Result}
 use Rattle.endian.specs.Endian.{wordsOf}
 use Rattle.endian.specs.Laws.{length-wordsOf}
-use Rattle.ffi.specs.declared.Reply.{Reply}
 use Rattle.ffi.specs.Answer.{replyOf, onBytes, stateFits, rowWords}
 
 -- words as many as there is room for are all of it

@@ -2,6 +2,7 @@
 // lowest first. Each gives the definition's number and values.
 use address::LeftReply;
 use changes::Done;
+use dump::Listed;
 use interface::Chosen;
 use interface::Found;
 use interface::Local;
@@ -10,12 +11,13 @@ ghost use mathlib.Core.Path.{_≡_};
 ghost use Prim.Native.Nat.{_<_, _≤_, _*_};
 ghost use lib.ListN.{length, take};
 ghost use Rattle.lists.specs.Lists.{flat, put};
-ghost use Rattle.definition.specs.Step.{lookup4Call, lookup4FlowCall, local4Call, source4Call, sourceCall, select4Call, leftCall, downCall, addRoute4Call, delRoute4Call};
+ghost use Rattle.definition.specs.Step.{upCall, downCall, addV4Call, delV4Call, expireCall, addRoute4Call, delRoute4Call, dump4Call, lookup4Call, lookup4FlowCall, local4Call, source4Call, sourceCall, select4Call, leftCall};
 ghost use Rattle.interface.specs.Answer.{foundBy, localBy, chosenBy, sourcedBy};
 ghost use Rattle.changes.specs.Answer.{doneBy};
+ghost use Rattle.dump.specs.Answer.{listedBy};
 ghost use Rattle.address.specs.Row.{replyOf as address·replyOf};
 ghost use Rattle.endian.specs.Endian.{wordsOf, bytesOf};
-ghost use Rattle.ffi.specs.Answer.{replyFrom, replyOf, onBytes, stateFits, rowWords, changeFits, requestFits, stateOn};
+ghost use Rattle.ffi.specs.Answer.{replyFrom, replyOf, checkCall, onBytes, stateFits, roomFits, rowWords, changeFits, requestFits, stateOn};
 
 // The number is 0, or the refusal's number and then the rest is 0.
 #[repr(C)]
@@ -113,6 +115,25 @@ fn done(d: Done) -> Reply
         Done::Refused(n) => refused(n),
         Done::Rows(n) => valued(n as u32),
     }
+}
+
+// A listing has at most 256 rows.
+fn listed(l: Listed) -> Reply
+    requires { ⌜ listedBy l .value < 4294967296 ⌝ }
+    ensures { λ r. ⌜ r ≡ replyFrom (listedBy l) ⌝ }
+{
+    match l {
+        Listed::Refused(n) => refused(n),
+        Listed::Rows(n) => valued(n as u32),
+    }
+}
+
+// A host may look at words before it lends them on: no number but 200 and 201.
+#[no_mangle]
+pub extern "C" fn interface4w_check(state: &[u32]) -> Reply
+    ensures { λ r. ⌜ r ≡ replyOf (checkCall (now (state .entry)) .reply) ⌝ }
+{
+    refused(form::check(state))
 }
 
 #[no_mangle]
@@ -213,6 +234,71 @@ pub extern "C" fn interface4w_del_route4(
 }
 
 #[no_mangle]
+pub extern "C" fn interface4w_up(state: &mut [u32], events: &mut [u32], clock: u64) -> Reply
+    ensures { λ r. ⌜ r ≡ replyOf (upCall (length (now (events .entry))) clock (now (state .entry)) .reply) ⌝ }
+    ensures { λ _. ⌜ now (state .exit) ≡ upCall (length (now (events .entry))) clock (now (state .entry)) .words ⌝ }
+    ensures { λ _. ⌜ now (events .exit) ≡ put 0 (flat (upCall (length (now (events .entry))) clock (now (state .entry)) .reply .rows)) (now (events .entry)) ⌝ }
+{
+    done(additions::up(state, events, clock))
+}
+
+#[no_mangle]
+pub extern "C" fn interface4w_add_v4(
+    state: &mut [u32],
+    request: &[u32],
+    events: &mut [u32],
+    clock: u64,
+) -> Reply
+    ensures { λ r. ⌜ r ≡ replyOf (addV4Call (now (request .entry)) (length (now (events .entry))) clock (now (state .entry)) .reply) ⌝ }
+    ensures { λ _. ⌜ now (state .exit) ≡ addV4Call (now (request .entry)) (length (now (events .entry))) clock (now (state .entry)) .words ⌝ }
+    ensures { λ _. ⌜ now (events .exit) ≡ put 0 (flat (addV4Call (now (request .entry)) (length (now (events .entry))) clock (now (state .entry)) .reply .rows)) (now (events .entry)) ⌝ }
+{
+    done(additions::add_v4(state, request, events, clock))
+}
+
+#[no_mangle]
+pub extern "C" fn interface4w_del_v4(
+    state: &mut [u32],
+    request: &[u32],
+    events: &mut [u32],
+) -> Reply
+    ensures { λ r. ⌜ r ≡ replyOf (delV4Call (now (request .entry)) (length (now (events .entry))) (now (state .entry)) .reply) ⌝ }
+    ensures { λ _. ⌜ now (state .exit) ≡ delV4Call (now (request .entry)) (length (now (events .entry))) (now (state .entry)) .words ⌝ }
+    ensures { λ _. ⌜ now (events .exit) ≡ put 0 (flat (delV4Call (now (request .entry)) (length (now (events .entry))) (now (state .entry)) .reply .rows)) (now (events .entry)) ⌝ }
+{
+    done(changes::del_v4(state, request, events))
+}
+
+#[no_mangle]
+pub extern "C" fn interface4w_expire(state: &mut [u32], events: &mut [u32], clock: u64) -> Reply
+    ensures { λ r. ⌜ r ≡ replyOf (expireCall (length (now (events .entry))) clock (now (state .entry)) .reply) ⌝ }
+    ensures { λ _. ⌜ now (state .exit) ≡ expireCall (length (now (events .entry))) clock (now (state .entry)) .words ⌝ }
+    ensures { λ _. ⌜ now (events .exit) ≡ put 0 (flat (expireCall (length (now (events .entry))) clock (now (state .entry)) .reply .rows)) (now (events .entry)) ⌝ }
+{
+    done(changes::expire(state, events, clock))
+}
+
+#[no_mangle]
+pub extern "C" fn interface4w_dump4(state: &[u32], listing: &mut [u32]) -> Reply
+    ensures { λ r. ⌜ r ≡ replyOf (dump4Call (length (now (listing .entry))) (now (state .entry)) .reply) ⌝ }
+    ensures { λ _. ⌜ now (listing .exit) ≡ put 0 (flat (dump4Call (length (now (listing .entry))) (now (state .entry)) .reply .rows)) (now (listing .entry)) ⌝ }
+{
+    listed(dump::dump4(state, listing))
+}
+
+#[no_mangle]
+pub extern "C" fn interface4_check(state: &[u8]) -> Reply
+    ensures { λ r. ⌜ r ≡ replyOf (onBytes (stateFits (now (state .entry))) (checkCall (wordsOf (now (state .entry))) .reply)) ⌝ }
+{
+    if state.len() != 38028 {
+        return refused(200);
+    }
+    let mut s = [0u32; 9507];
+    endian::words_of(state, &mut s);
+    interface4w_check(&s)
+}
+
+#[no_mangle]
 pub extern "C" fn interface4_local4(state: &[u8], ip: u32) -> Reply
     ensures { λ r. ⌜ r ≡ replyOf (onBytes (stateFits (now (state .entry))) (local4Call ip (wordsOf (now (state .entry))) .reply)) ⌝ }
 {
@@ -276,6 +362,15 @@ pub extern "C" fn interface4_source4(state: &[u8], row: &[u8], ip: u32) -> Reply
     }
     endian::words_of(row, &mut r);
     interface4w_source4(&s, &r, ip)
+}
+
+// n rows of 32 words, as bytes.
+fn give_rows(l: &[u32], n: u32, out: &mut [u8])
+    requires { ⌜ (n ≤ 256) × (32 * n ≤ length (now l)) × (128 * n ≤ length (now out)) ⌝ }
+    ensures { λ _. ⌜ now (out .exit) ≡ put 0 (bytesOf (take (32 * n) (now (l .entry)))) (now (out .entry)) ⌝ }
+{
+    let end = 32 * (n as usize);
+    endian::bytes_of(&l[0..end], out);
 }
 
 // The state's words and n event rows, as bytes.
@@ -349,5 +444,136 @@ pub extern "C" fn interface4_del_route4(
     let mut e = [0u32; 13056];
     let answer = interface4w_del_route4(&mut s, &q, &mut e);
     give_back(&s, &e, answer.value, state, events);
+    answer
+}
+
+#[no_mangle]
+pub extern "C" fn interface4_up(state: &mut [u8], events: &mut [u8], clock: u64) -> Reply
+    ensures { λ r. ⌜ r ≡ replyOf (onBytes (changeFits (now (state .entry)) (now (events .entry))) (upCall 13056 clock (wordsOf (now (state .entry))) .reply)) ⌝ }
+    ensures { λ _. ⌜ now (state .exit) ≡ stateOn (changeFits (now (state .entry)) (now (events .entry))) (now (state .entry)) (upCall 13056 clock (wordsOf (now (state .entry))) .words) ⌝ }
+    ensures { λ _. ⌜ now (events .exit) ≡ put 0 (bytesOf (flat (onBytes (changeFits (now (state .entry)) (now (events .entry))) (upCall 13056 clock (wordsOf (now (state .entry))) .reply) .rows))) (now (events .entry)) ⌝ }
+{
+    if !((state.len() == 38028) & (52224 <= events.len())) {
+        return refused(200);
+    }
+    let mut s = [0u32; 9507];
+    endian::words_of(state, &mut s);
+    let mut e = [0u32; 13056];
+    let answer = interface4w_up(&mut s, &mut e, clock);
+    give_back(&s, &e, answer.value, state, events);
+    answer
+}
+
+#[no_mangle]
+pub extern "C" fn interface4_add_v4(
+    state: &mut [u8],
+    request: &[u8],
+    events: &mut [u8],
+    clock: u64,
+) -> Reply
+    ensures { λ r. ⌜ r ≡ replyOf (onBytes (requestFits 72 (now (request .entry)) (now (state .entry)) (now (events .entry))) (addV4Call (wordsOf (now (request .entry))) 13056 clock (wordsOf (now (state .entry))) .reply)) ⌝ }
+    ensures { λ _. ⌜ now (state .exit) ≡ stateOn (requestFits 72 (now (request .entry)) (now (state .entry)) (now (events .entry))) (now (state .entry)) (addV4Call (wordsOf (now (request .entry))) 13056 clock (wordsOf (now (state .entry))) .words) ⌝ }
+    ensures { λ _. ⌜ now (events .exit) ≡ put 0 (bytesOf (flat (onBytes (requestFits 72 (now (request .entry)) (now (state .entry)) (now (events .entry))) (addV4Call (wordsOf (now (request .entry))) 13056 clock (wordsOf (now (state .entry))) .reply) .rows))) (now (events .entry)) ⌝ }
+{
+    if !((request.len() == 72) & ((state.len() == 38028) & (52224 <= events.len()))) {
+        return refused(200);
+    }
+    let mut q = [0u32; 18];
+    endian::words_of(request, &mut q);
+    let mut s = [0u32; 9507];
+    endian::words_of(state, &mut s);
+    let mut e = [0u32; 13056];
+    let answer = interface4w_add_v4(&mut s, &q, &mut e, clock);
+    give_back(&s, &e, answer.value, state, events);
+    answer
+}
+
+#[no_mangle]
+pub extern "C" fn interface4_del_v4(state: &mut [u8], request: &[u8], events: &mut [u8]) -> Reply
+    ensures { λ r. ⌜ r ≡ replyOf (onBytes (requestFits 44 (now (request .entry)) (now (state .entry)) (now (events .entry))) (delV4Call (wordsOf (now (request .entry))) 13056 (wordsOf (now (state .entry))) .reply)) ⌝ }
+    ensures { λ _. ⌜ now (state .exit) ≡ stateOn (requestFits 44 (now (request .entry)) (now (state .entry)) (now (events .entry))) (now (state .entry)) (delV4Call (wordsOf (now (request .entry))) 13056 (wordsOf (now (state .entry))) .words) ⌝ }
+    ensures { λ _. ⌜ now (events .exit) ≡ put 0 (bytesOf (flat (onBytes (requestFits 44 (now (request .entry)) (now (state .entry)) (now (events .entry))) (delV4Call (wordsOf (now (request .entry))) 13056 (wordsOf (now (state .entry))) .reply) .rows))) (now (events .entry)) ⌝ }
+{
+    if !((request.len() == 44) & ((state.len() == 38028) & (52224 <= events.len()))) {
+        return refused(200);
+    }
+    let mut q = [0u32; 11];
+    endian::words_of(request, &mut q);
+    let mut s = [0u32; 9507];
+    endian::words_of(state, &mut s);
+    let mut e = [0u32; 13056];
+    let answer = interface4w_del_v4(&mut s, &q, &mut e);
+    give_back(&s, &e, answer.value, state, events);
+    answer
+}
+
+#[no_mangle]
+pub extern "C" fn interface4_expire(state: &mut [u8], events: &mut [u8], clock: u64) -> Reply
+    ensures { λ r. ⌜ r ≡ replyOf (onBytes (changeFits (now (state .entry)) (now (events .entry))) (expireCall 13056 clock (wordsOf (now (state .entry))) .reply)) ⌝ }
+    ensures { λ _. ⌜ now (state .exit) ≡ stateOn (changeFits (now (state .entry)) (now (events .entry))) (now (state .entry)) (expireCall 13056 clock (wordsOf (now (state .entry))) .words) ⌝ }
+    ensures { λ _. ⌜ now (events .exit) ≡ put 0 (bytesOf (flat (onBytes (changeFits (now (state .entry)) (now (events .entry))) (expireCall 13056 clock (wordsOf (now (state .entry))) .reply) .rows))) (now (events .entry)) ⌝ }
+{
+    if !((state.len() == 38028) & (52224 <= events.len())) {
+        return refused(200);
+    }
+    let mut s = [0u32; 9507];
+    endian::words_of(state, &mut s);
+    let mut e = [0u32; 13056];
+    let answer = interface4w_expire(&mut s, &mut e, clock);
+    give_back(&s, &e, answer.value, state, events);
+    answer
+}
+
+#[no_mangle]
+pub extern "C" fn interface4_dump4(state: &[u8], listing: &mut [u8]) -> Reply
+    ensures { λ r. ⌜ r ≡ replyOf (onBytes (roomFits 32768 (now (state .entry)) (now (listing .entry))) (dump4Call 8192 (wordsOf (now (state .entry))) .reply)) ⌝ }
+    ensures { λ _. ⌜ now (listing .exit) ≡ put 0 (bytesOf (flat (onBytes (roomFits 32768 (now (state .entry)) (now (listing .entry))) (dump4Call 8192 (wordsOf (now (state .entry))) .reply) .rows))) (now (listing .entry)) ⌝ }
+{
+    if !((state.len() == 38028) & (32768 <= listing.len())) {
+        return refused(200);
+    }
+    let mut s = [0u32; 9507];
+    endian::words_of(state, &mut s);
+    let mut l = [0u32; 8192];
+    let answer = interface4w_dump4(&s, &mut l);
+    give_rows(&l, answer.value, listing);
+    answer
+}
+
+#[no_mangle]
+pub extern "C" fn interface4_lookup4(state: &[u8], row: &mut [u8], ip: u32) -> Reply
+    ensures { λ r. ⌜ r ≡ replyOf (onBytes (roomFits 128 (now (state .entry)) (now (row .entry))) (lookup4Call 32 ip (wordsOf (now (state .entry))) .reply)) ⌝ }
+    ensures { λ _. ⌜ now (row .exit) ≡ put 0 (bytesOf (flat (onBytes (roomFits 128 (now (state .entry)) (now (row .entry))) (lookup4Call 32 ip (wordsOf (now (state .entry))) .reply) .rows))) (now (row .entry)) ⌝ }
+{
+    if !((state.len() == 38028) & (128 <= row.len())) {
+        return refused(200);
+    }
+    let mut s = [0u32; 9507];
+    endian::words_of(state, &mut s);
+    let mut l = [0u32; 32];
+    let answer = interface4w_lookup4(&s, &mut l, ip);
+    give_rows(&l, (answer.number == 0) as u32, row);
+    answer
+}
+
+#[no_mangle]
+pub extern "C" fn interface4_lookup4_flow(
+    state: &[u8],
+    row: &mut [u8],
+    ip: u32,
+    tos: u32,
+    oif: u32,
+) -> Reply
+    ensures { λ r. ⌜ r ≡ replyOf (onBytes (roomFits 128 (now (state .entry)) (now (row .entry))) (lookup4FlowCall 32 ip tos oif (wordsOf (now (state .entry))) .reply)) ⌝ }
+    ensures { λ _. ⌜ now (row .exit) ≡ put 0 (bytesOf (flat (onBytes (roomFits 128 (now (state .entry)) (now (row .entry))) (lookup4FlowCall 32 ip tos oif (wordsOf (now (state .entry))) .reply) .rows))) (now (row .entry)) ⌝ }
+{
+    if !((state.len() == 38028) & (128 <= row.len())) {
+        return refused(200);
+    }
+    let mut s = [0u32; 9507];
+    endian::words_of(state, &mut s);
+    let mut l = [0u32; 32];
+    let answer = interface4w_lookup4_flow(&s, &mut l, ip, tos, oif);
+    give_rows(&l, (answer.number == 0) as u32, row);
     answer
 }

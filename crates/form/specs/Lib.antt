@@ -1,2 +1,4 @@
 pub mod Look
 pub mod Order
+pub mod Place
+pub mod Twice

@@ -1,6 +1,6 @@
 -- What is left to look at of a list, one element on; and the rows of a part.
 -- Assumes nothing.
-use Prim.Native.Nat.{ℕ, _+_, _-_, _*_, _≤_, _<_}
+use Prim.Native.Nat.{ℕ, suc, _+_, _-_, _*_, _≤_, _<_}
 use mathlib.Core.Path.{_≡_, refl, sym, ap, _∙_}
 use mathlib.Core.Bool.{Bool, true, false, not, _&&_, _||_}
 use mathlib.Core.List.{List, [], _∷_, _++_, append-nil}
@@ -12,6 +12,7 @@ use lib.ListN.{length, getD, take, drop, length-drop, drop-of-length-le}
 use lib.Seq.{drop-cons, take-all}
 use borrow.Author.Tests.{le-leb, lt-leb}
 use Rattle.lists.specs.Lists.{Row, all, among, pairwise, flat, span, chop, allZero}
+use Rattle.lists.specs.All.{pairwise-tail}
 use Rattle.lists.specs.Rows.{flat-chop, sized-chop, length-chop, chop-flat}
 use Rattle.lists.specs.Parts.{part-row}
 use Rattle.layout.specs.Address.{fitAddress}
@@ -25,12 +26,23 @@ module _ {A : Type 0} (l : List A) (i : ℕ) (d : A) (h : i < length l) where
   pub pairwise-next : (r : A → A → Bool) → pairwise r (drop i l) ≡ all (r (getD l i d)) (drop (i + 1) l) && pairwise r (drop (i + 1) l)
   pairwise-next r = rw (drop-cons l i d h, add-one i)
 
--- nothing is left
+-- nothing is left, or one element
 pub all-end : {A : Type 0} (p : A → Bool) (l : List A) (i : ℕ) → length l ≤ i → all p (drop i l) ≡ true
 all-end p l i h = rw (drop-of-length-le l {i = i} h)
 
-pub pairwise-end : {A : Type 0} (r : A → A → Bool) (l : List A) (i : ℕ) → length l ≤ i → pairwise r (drop i l) ≡ true
-pairwise-end r l i h = rw (drop-of-length-le l {i = i} h)
+pub pairwise-end : {A : Type 0} (r : A → A → Bool) (l : List A) (i : ℕ) → length l ≤ i + 1 → pairwise r (drop i l) ≡ true
+pairwise-end {A} r l i h = go (drop i l) (rw length-drop (omega arith))
+  where
+    go : (l : List A) → length l ≤ 1 → pairwise r l ≡ true
+    go [] k = refl
+    go (a ∷ []) k = refl
+    go (a ∷ b ∷ l) k = absurd (omega arith)
+
+-- what holds of all two holds of those from i on
+pub pairwise-drop : {A : Type 0} (r : A → A → Bool) (l : List A) (i : ℕ) → pairwise r l ≡ true → pairwise r (drop i l) ≡ true
+pairwise-drop r l ℕ.zero h = h
+pairwise-drop r [] (suc i) h = refl
+pairwise-drop r (a ∷ l) (suc i) h = pairwise-drop r l i (pairwise-tail r a l h)
 
 -- none is x where x is not among them
 pub all-other : (x : ℕ) (l : List ℕ) → all (λ b. not (eqb x b)) l ≡ not (among x l)

@@ -6,16 +6,15 @@ use mathlib.Core.Bool.{Bool, true, false, not, _&&_}
 use mathlib.Core.List.{List, [], _∷_}
 use native.Mathlib.Numerals.{add-one}
 use native.Mathlib.Omega.{arith}
-use lib.Dec.{eqb}
-use lib.ListN.{length, getD, take, drop, length-drop}
-use lib.Seq.{drop-cons, take-all}
+use lib.ListN.{length, getD, take, drop}
+use lib.Seq.{drop-cons, drop-drop}
 use borrow.Author.Tests.{not-true}
-use Rattle.lists.specs.Lists.{Row, all, among, pairwise, eqRow, chop}
+use Rattle.lists.specs.Lists.{Row, all, pairwise, eqRow, chop}
 use Rattle.lists.specs.Rows.{length-chop}
-use Rattle.lists.specs.All.{and-both, all-mono, all-cons, pairwise-head, pairwise-tail, eqRow-true, fails, false-not, not-so}
-use Rattle.layout.specs.Route.{fitRoute, before}
-use Rattle.definition.specs.Words.{ordered, distinct, noneTwice}
-use Rattle.form.specs.Look.{row-of, row-next, all-next, pairwise-next, pairwise-end, all-other}
+use Rattle.lists.specs.All.{and-both, all-mono, all-cons, pairwise-head, eqRow-true, fails, false-not, not-so}
+use Rattle.layout.specs.Route.{before}
+use Rattle.definition.specs.Words.{ordered, distinct}
+use Rattle.form.specs.Look.{row-of, row-next, all-next, pairwise-next, pairwise-end, pairwise-drop}
 use Rattle.definition.specs.Kept.Order.{before-never, before-after, before-alike, level-alike}
 
 -- not before: the relation of the order
@@ -71,12 +70,7 @@ module _ (rows : List Row) (i : ℕ) (h : i + 1 < length rows) where
 -- at most one row is left
 pub order-end : (rows : List Row) (i : ℕ) → length rows ≤ i + 1 → ordered (drop i rows) ≡ true
 unfolding ordered
-order-end rows i h = go (drop i rows) (rw length-drop (omega arith))
-  where
-    go : (l : List Row) → length l ≤ 1 → pairwise (λ x y. not (before y x)) l ≡ true
-    go [] k = refl
-    go (a ∷ []) k = refl
-    go (a ∷ b ∷ l) k = absurd (omega arith)
+order-end rows i h = pairwise-end (λ x y. not (before y x)) rows i h
 
 -- ---- a row before row j is none of those from j on
 apart-of : (a b : Row) → before a b ≡ true → (x : Row) → not (before x b) ≡ true → not (eqRow a x) ≡ true
@@ -85,19 +79,19 @@ apart-of a b h x k = not-so (eqRow a x) (λ e. never (rw (eqRow-true a x e) at h
     never : before x b ≡ true → ⊥
     never f = let g = not-true (before x b) k in let z : _≡_ {A = ℕ} 0 1 = cc in omega arith
 
-ordered-drop : (l : List Row) (j : ℕ) → ordered l ≡ true → ordered (drop j l) ≡ true
+pub ordered-later : (l : List Row) (i j : ℕ) → i ≤ j → ordered (drop i l) ≡ true → ordered (drop j l) ≡ true
 unfolding ordered
-ordered-drop l ℕ.zero h = h
-ordered-drop [] (suc j) h = refl
-ordered-drop (a ∷ l) (suc j) h = ordered-drop l j (pairwise-tail (λ x y. not (before y x)) a l h)
+ordered-later l i j h o =
+    let both : i + (j - i) ≡ j = omega arith in
+    rw (drop-drop (j - i) i l, both) at (pairwise-drop (λ x y. not (before y x)) (drop i l) (j - i) o)
 
-pub past-run : (rows : List Row) (a : Row) (j : ℕ) → ordered rows ≡ true → j < length rows → before a (getD rows j []) ≡ true
+pub past-run : (rows : List Row) (a : Row) (j : ℕ) → ordered (drop j rows) ≡ true → j < length rows → before a (getD rows j []) ≡ true
     → all (λ x. not (eqRow a x)) (drop j rows) ≡ true
 unfolding ordered
 past-run rows a j o h e =
     let b = getD rows j [] in
     let tail = drop (suc j) rows in
-    let f : pairwise (λ x y. not (before y x)) (b ∷ tail) ≡ true = rw (drop-cons rows j [] h) at (ordered-drop rows j o) in
+    let f : pairwise (λ x y. not (before y x)) (b ∷ tail) ≡ true = rw (drop-cons rows j [] h) at o in
     rw (drop-cons rows j [] h)
     (all-mono (λ x. not (before x b)) (λ x. not (eqRow a x)) (b ∷ tail) (apart-of a b e)
     (all-cons (λ x. not (before x b)) b tail (not-so (before b b) (λ g. before-never b b g g)) (pairwise-head (λ x y. not (before y x)) b tail f)))
@@ -135,35 +129,6 @@ unfolding distinct
 distinct-turn rows i t h eb et =
     pairwise-next rows i [] h (λ a x. not (eqRow a x)) ∙ ap (λ (b : Bool). b && pairwise (λ a x. not (eqRow a x)) (drop (i + 1) rows)) (sym eb ∙ et)
 
-pub distinct-end : (rows : List Row) (i : ℕ) → length rows ≤ i → distinct (drop i rows) ≡ true
+pub distinct-end : (rows : List Row) (i : ℕ) → length rows ≤ i + 1 → distinct (drop i rows) ≡ true
 unfolding distinct
 distinct-end rows i h = pairwise-end (λ a x. not (eqRow a x)) rows i h
-
-pub none-turn : (l : List ℕ) (i : ℕ) {b : Bool} (t : Bool) → i < length l → b ≡ among (getD l i 0) (take (length l - (i + 1)) (drop (i + 1) l)) → b ≡ t
-    → noneTwice (drop i l) ≡ not t && noneTwice (drop (i + 1) l)
-unfolding noneTwice
-none-turn l i t h eb et =
-    let rest : take (length l - (i + 1)) (drop (i + 1) l) ≡ drop (i + 1) l = take-all (length l - (i + 1)) (drop (i + 1) l) (rw length-drop (omega arith)) in
-    let found : among (getD l i 0) (drop (i + 1) l) ≡ t = sym (rw rest at eb) ∙ et in
-    pairwise-next l i 0 h (λ a b. not (eqb a b))
-    ∙ ap (λ (b : Bool). b && pairwise (λ a b. not (eqb a b)) (drop (i + 1) l)) (all-other (getD l i 0) (drop (i + 1) l) ∙ ap not found)
-
-pub none-end : (l : List ℕ) (i : ℕ) → length l ≤ i → noneTwice (drop i l) ≡ true
-unfolding noneTwice
-none-end l i h = pairwise-end (λ a b. not (eqb a b)) l i h
-
--- the routes' three tests, the order asked first
-pub routes-tests : {f d : Bool} {o : Bool} (rows : List Row) → f ≡ all fitRoute rows → o ≡ ordered rows → o ≡ true → d ≡ distinct rows
-    → (f && d) ≡ all fitRoute rows && ordered rows && distinct rows
-routes-tests rows ef eo et ed = rw (ef, ed, sym eo ∙ et) (thrice (all fitRoute rows) (distinct rows))
-  where
-    thrice : (a b : Bool) → a && b ≡ a && true && b
-    thrice true b = refl
-    thrice false b = refl
-
-pub routes-broken : {o : Bool} (rows : List Row) → o ≡ ordered rows → o ≡ false → false ≡ all fitRoute rows && ordered rows && distinct rows
-routes-broken rows eo et = rw (sym eo ∙ et) (off (all fitRoute rows) (distinct rows))
-  where
-    off : (a b : Bool) → false ≡ a && false && b
-    off true b = refl
-    off false b = refl

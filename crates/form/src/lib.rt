@@ -1,16 +1,18 @@
-// Whether words are a well-formed state. Every call asks it: each row in use is looked at once, a route with the next one and
-// with those of its own place behind it, and the words not in use are scanned.
+// Whether words are a well-formed state. Every call asks it: each row in use is looked at, a route beside the next one, and
+// where that has no later place, beside those of its own place behind it; the words not in use are scanned.
 ghost use mathlib.Core.Path.{_≡_};
 ghost use mathlib.Core.Bool.{true, not, _&&_};
 ghost use mathlib.Core.List.{[]};
 ghost use Prim.Native.Nat.{_+_, _*_, _≤_, _<_};
 ghost use lib.Dec.{eqb};
 ghost use lib.ListN.{length, getD, drop};
-ghost use Rattle.lists.specs.Lists.{Row, all, chop, eqRow};
+ghost use Rattle.lists.specs.Lists.{Row, all, among, chop, eqRow};
 ghost use Rattle.layout.specs.Address.{fitAddress};
 ghost use Rattle.layout.specs.Route.{fitRoute};
 ghost use Rattle.definition.specs.Words.{stateSize, ordered, distinct, noneTwice, unusedZero, wellFormed, addressCount, routeCount, tableCount};
 ghost use Rattle.definition.specs.Step.{checks};
+ghost use Rattle.form.specs.Place.{inPlace};
+ghost use Rattle.form.specs.Twice.{marked};
 
 fn fit_addresses(p: &[u32], n: usize) -> bool
     requires { ⌜ length (now p) ≡ 20 * n ⌝ }
@@ -46,28 +48,11 @@ fn fit_routes(p: &[u32], n: usize) -> bool
     true
 }
 
-// No row's place is before that of the row in front of it.
-fn in_order(p: &[u32], n: usize) -> bool
-    requires { ⌜ length (now p) ≡ 32 * n ⌝ }
-    ensures { λ r. ⌜ r ≡ ordered (chop 32 n (now (p .entry))) ⌝ }
-{
-    let mut i = 0usize;
-    while i + 1 < n {
-        let at = 32 * i;
-        let next = at + 32;
-        let end = next + 32;
-        if route::before(&p[next..end], &p[at..next]) {
-            return false;
-        }
-        i += 1;
-    }
-    true
-}
-
-// Row i is none of those behind it. Only those of its own place are compared: the others have a later place.
+// Row i is none of those behind it, where they are in order. Only those of its own place are compared: the others have a later
+// place.
 fn apart(p: &[u32], n: usize, i: usize) -> bool
-    requires { ⌜ (length (now p) ≡ 32 * n) × (i < n) × (ordered (chop 32 n (now p)) ≡ true) ⌝ }
-    ensures { λ r. ⌜ r ≡ all (λ (b : Row). not (eqRow (getD (chop 32 n (now (p .entry))) i []) b)) (drop (i + 1) (chop 32 n (now (p .entry)))) ⌝ }
+    requires { ⌜ (length (now p) ≡ 32 * n) × (i < n) ⌝ }
+    ensures { λ r. ⌜ (ordered (drop i (chop 32 n (now (p .entry)))) ≡ true → r ≡ all (λ (b : Row). not (eqRow (getD (chop 32 n (now (p .entry))) i []) b)) (drop (i + 1) (chop 32 n (now (p .entry))))) ⌝ }
 {
     let at = 32 * i;
     let end = at + 32;
@@ -86,14 +71,49 @@ fn apart(p: &[u32], n: usize, i: usize) -> bool
     true
 }
 
-fn all_apart(p: &[u32], n: usize) -> bool
-    requires { ⌜ (length (now p) ≡ 32 * n) × (ordered (chop 32 n (now p)) ≡ true) ⌝ }
-    ensures { λ r. ⌜ r ≡ distinct (chop 32 n (now (p .entry))) ⌝ }
+// Row i, which is not the last, is in its place: the next one's is not before it, and it is none of those behind it.
+fn in_place(p: &[u32], n: usize, i: usize) -> bool
+    requires { ⌜ (length (now p) ≡ 32 * n) × (i + 1 < n) ⌝ }
+    ensures { λ r. ⌜ inPlace (drop i (chop 32 n (now (p .entry)))) ≡ r && inPlace (drop (i + 1) (chop 32 n (now (p .entry)))) ⌝ }
 {
-    let mut i = 0usize;
-    while i < n {
-        if apart(p, n, i) {
+    let at = 32 * i;
+    let next = at + 32;
+    let end = next + 32;
+    if route::before(&p[next..end], &p[at..next]) {
+        return false;
+    }
+    apart(p, n, i)
+}
+
+// The first row from a place on that is the last one, or whose place is not before the next one's. Those passed over are in their
+// places. A loop of its own, so that all it needs is in registers.
+fn rising(p: &[u32], n: usize, from: usize) -> usize
+    requires { ⌜ (length (now p) ≡ 32 * n) × (from ≤ n) ⌝ }
+    ensures { λ r. ⌜ (r ≤ n) × (from ≤ r) × (inPlace (drop from (chop 32 n (now (p .entry)))) ≡ inPlace (drop r (chop 32 n (now (p .entry))))) ⌝ }
+{
+    let mut i = from;
+    while i + 1 < n {
+        let at = 32 * i;
+        let next = at + 32;
+        let end = next + 32;
+        if route::before(&p[at..next], &p[next..end]) {
             i += 1;
+        } else {
+            return i;
+        }
+    }
+    i
+}
+
+// The rows are in order, and no two are the same.
+fn all_in_place(p: &[u32], n: usize) -> bool
+    requires { ⌜ length (now p) ≡ 32 * n ⌝ }
+    ensures { λ r. ⌜ r ≡ inPlace (chop 32 n (now (p .entry))) ⌝ }
+{
+    let mut i = rising(p, n, 0);
+    while i + 1 < n {
+        if in_place(p, n, i) {
+            i = rising(p, n, i + 1);
         } else {
             return false;
         }
@@ -105,23 +125,34 @@ fn routes_form(p: &[u32], n: usize) -> bool
     requires { ⌜ length (now p) ≡ 32 * n ⌝ }
     ensures { λ r. ⌜ r ≡ all fitRoute (chop 32 n (now (p .entry))) && ordered (chop 32 n (now (p .entry))) && distinct (chop 32 n (now (p .entry))) ⌝ }
 {
-    let fit = fit_routes(p, n);
-    if in_order(p, n) {
-        return fit & all_apart(p, n);
+    fit_routes(p, n) & all_in_place(p, n)
+}
+
+// Number i is one of those behind it, each of which has set the bit that its low six bits name: where its own is not set it is
+// none of them.
+fn again(l: &[u32], i: usize, seen: u64) -> bool
+    requires { ⌜ (i < length (now l)) × (marked seen (drop (i + 1) (now l)) ≡ true) ⌝ }
+    ensures { λ r. ⌜ r ≡ among (getD (now (l .entry)) i 0) (drop (i + 1) (now (l .entry))) ⌝ }
+{
+    if (seen >> (l[i] & 63)) & 1 == 0 {
+        return false;
     }
-    false
+    let next = i + 1;
+    words::among(&l[next..], l[i])
 }
 
 fn none_twice(l: &[u32]) -> bool
     ensures { λ r. ⌜ r ≡ noneTwice (now (l .entry)) ⌝ }
 {
-    let mut i = 0usize;
-    while i < l.len() {
-        let next = i + 1;
-        if words::among(&l[next..], l[i]) {
+    let mut seen = 0u64;
+    let mut i = l.len();
+    while 0 < i {
+        let at = i - 1;
+        if again(l, at, seen) {
             return false;
         }
-        i += 1;
+        seen |= 1u64 << (l[at] & 63);
+        i = at;
     }
     true
 }

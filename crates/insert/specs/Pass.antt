@@ -6,17 +6,23 @@ use mathlib.Core.Path.{_≡_, sym, ap, _∙_}
 use mathlib.Core.Bool.{Bool, true, false, _||_}
 use mathlib.Core.List.{List, []}
 use lib.ListN.{length, getD, take, drop}
+use borrow.Author.Tests.{lt-ltb}
 use Rattle.lists.specs.Lists.{Row, eqRow}
 use Rattle.lists.specs.All.{fails, eqRow-true}
 use Rattle.lists.specs.Count.{tick}
 use Rattle.lists.specs.Laid.{Laid, Lays, laid-length, laid-part, laid-width}
 use Rattle.layout.specs.Route.{before, dst, fitRoute}
 use Rattle.definition.specs.Words.{ordered}
+use Rattle.definition.specs.Kept.Order.{before-never}
 use Rattle.insert.specs.Run.{Sofar, Run, sofar-next, sofar-stop, sofar-end}
 
 -- rows with different destinations differ
 pub not-same : (a b : Row) → (dst a ≡ dst b → ⊥) → false ≡ eqRow a b
 not-same a b h = sym (fails (eqRow a b) (λ e. h (ap dst (eqRow-true a b e))))
+
+lower-before : (a b : Row) → dst a < dst b → before a b ≡ true
+unfolding before
+lower-before a b h = rw (lt-ltb (dst a) (dst b) h)
 
 -- the row at place i, as it is lent
 abbrev pub part : List ℕ → ℕ → List ℕ
@@ -36,6 +42,14 @@ module _ (w : List ℕ) (n : ℕ) (long : length w ≡ 32 * n) where
     pub pass-next : i < n → before new (part w i) ≡ false → Sofar new l (i + 1) (start + tick (before (part w i) new)) (there || eqRow new (part w i))
     pass-next b e =
         rw (part-row l h i b) (sofar-next new l i start there s (omega (arith, laid-count l h)) (rw (part-row l h i b) at e))
+
+    -- a row to a lower destination
+    pub pass-lower : i < n → dst (part w i) < dst new → start ≡ i → there ≡ false → Sofar new l (i + 1) (i + 1) false
+    pass-lower b d e f =
+        let r : Row = part w i in
+        let front : before r new ≡ true = lower-before r new d in
+        let m : Sofar new l (i + 1) (start + tick (before r new)) (there || eqRow new r) = pass-next b (fails (before new r) (λ k. before-never r new front k)) in
+        rw (front, f, ← (not-same new r (λ k. omega (arith, k))), e) at m
 
     pub pass-stop : i < n → before new (part w i) ≡ true → ordered l ≡ true → Run new l start i there
     pass-stop b e o = sofar-stop new l i start there s (omega (arith, laid-count l h)) o (rw (part-row l h i b) at e)

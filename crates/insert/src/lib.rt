@@ -1,6 +1,6 @@
 // A route put into its place among the rows.
 ghost use mathlib.Core.Path.{_≡_};
-ghost use mathlib.Core.Bool.{true, not};
+ghost use mathlib.Core.Bool.{true, false, not};
 ghost use Prim.Native.Nat.{_+_, _*_, _≤_, _<_};
 ghost use mathlib.Core.List.{List};
 ghost use lib.Dec.{eqb};
@@ -14,7 +14,7 @@ ghost use Rattle.definition.specs.State.{State};
 ghost use Rattle.definition.specs.Words.{ordered, fitState};
 ghost use Rattle.definition.specs.Reference.Insert.{insert4};
 ghost use Rattle.state.specs.Holds.{Holds, Valid};
-ghost use Rattle.insert.specs.Run.{Run};
+ghost use Rattle.insert.specs.Run.{Sofar, Run};
 ghost use Rattle.insert.specs.Plan.{planned, placed, created, replacing, among, InsertedInto};
 
 // Whether the rows are the same.
@@ -44,6 +44,26 @@ pub struct Alike {
     pub there: bool,
 }
 
+// The rows in front that are to lower destinations: so many. Nearly all of a pass is this, a word a row.
+fn lower(rows: &[u32], n: usize, new: &[u32]) -> usize
+    requires { ⌜ (length (now rows) ≡ 32 * n) × Lays 32 fitRoute (now rows) ⌝ }
+    requires { ⌜ length (now new) ≡ 32 ⌝ }
+    ensures { λ r. ⌜ ((l : List Row) → Laid 32 fitRoute (now (rows .entry)) l → Sofar (now (new .entry)) l r r false) ⌝ }
+    ensures { λ r. ⌜ r ≤ n ⌝ }
+{
+    let dst = new[1];
+    let mut i = 0usize;
+    while i < n {
+        let at = 32 * i;
+        let r = &rows[at..at + 32];
+        if dst <= r[1] {
+            return i;
+        }
+        i += 1;
+    }
+    n
+}
+
 // One pass from the first row, up to the first one after the run.
 pub fn alike4(rows: &[u32], n: usize, new: &[u32]) -> Alike
     requires { ⌜ (length (now rows) ≡ 32 * n) × Lays 32 fitRoute (now rows) ⌝ }
@@ -51,9 +71,10 @@ pub fn alike4(rows: &[u32], n: usize, new: &[u32]) -> Alike
     ensures { λ r. ⌜ ((l : List Row) → Laid 32 fitRoute (now (rows .entry)) l → ordered l ≡ true → Run (now (new .entry)) l (r .start) (r .end) (r .there)) ⌝ }
     ensures { λ r. ⌜ (r .start ≤ r .end) × (r .end ≤ n) ⌝ }
 {
-    let mut start = 0usize;
+    let front = lower(rows, n, new);
+    let mut start = front;
     let mut there = false;
-    let mut i = 0usize;
+    let mut i = front;
     while i < n {
         let at = 32 * i;
         let r = &rows[at..at + 32];

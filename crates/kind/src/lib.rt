@@ -56,9 +56,10 @@ impl Kind {
     }
 }
 
-// The tables are indexed by code, with 0 above.
-const CODES: [u32; 12] = [0, 1, 1, 1, 0, 0, 1, 1, 1, 1, 0, 0];
+// The codes of the seven, a bit for each.
+const CODES: u32 = 0b11_1100_1110;
 
+// The tables are indexed by code, with 0 above.
 const ERRORS: [u32; 12] = [0, 0, 0, 0, 0, 0, 22, 113, 13, 11, 0, 0];
 
 const LEAST_SCOPES: [u32; 12] = [255, 0, 254, 253, 253, 0, 0, 0, 0, 0, 255, 255];
@@ -70,7 +71,7 @@ pub fn is_kind(code: u32) -> bool
     if 12 <= code {
         return false;
     }
-    CODES[code as usize] == 1
+    (CODES >> code) & 1 == 1
 }
 
 // The error of a code, 0 for none.

@@ -23,7 +23,7 @@ use Rattle.state.specs.Holds.{Holds, Valid, holds-long}
 use Rattle.view.specs.Parts.{addressPart}
 use Rattle.events.specs.Step.{Fits, Ready, Step, rest, rest-fits, step-none, step-length, step-rows, step-also}
 use Rattle.events.specs.Turns.{Going, like-refl, like-eq, going-start, going-turn, going-end}
-use Rattle.deletion.specs.Strays.{walk}
+use Rattle.deletion.specs.Strays.{straysGo}
 use Rattle.deletion.specs.Delete.{step-eq}
 use Rattle.leave.specs.One.{unlessWanted, from, from-start, from-turn, from-end, loses, fallFrom, step-quiet, disable-quiet}
 
@@ -130,7 +130,7 @@ module _ {st : State} {s ev : List ℕ} (ip : ℕ) (f : Fits weight st s ev) whe
       (step-none weight f)
 
   pub fall-listed : (lost b m : Bool) {s′ ev′ : List ℕ} {r : ℕ} → lost ≡ true → b ≡ local4 st ip → b ≡ false → m ≡ listed mainTable st → m ≡ true
-      → Step weight st (walk ip 0 st) s′ ev ev′ r → Step weight st (fallFrom ip lost st) s′ ev ev′ r
+      → Step weight st (straysGo ip st) s′ ev ev′ r → Step weight st (fallFrom ip lost st) s′ ev ev′ r
   unfolding fallFrom
   fall-listed lost b m k q e p d t =
       step-eq (cond-true (lost && not (local4 st ip)) (through kernelDel4 (cond (listed mainTable st) (keep (straysFrom ip) (st .routes)) []) st) (stays st) (goes lost b k q e)

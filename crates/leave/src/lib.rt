@@ -35,7 +35,7 @@ fn unless_wanted(s: &mut [u32], ev: &mut [u32], r: &[u32]) -> usize
     if wanted_in(s, r) {
         return 0;
     }
-    deletion::kernel_del4(s, ev, r)
+    named::kernel_del4(s, ev, r)
 }
 
 // The m routes in rows, one after the other.

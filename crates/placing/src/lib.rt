@@ -22,7 +22,7 @@ fn choose(b: bool, x: usize, y: usize) -> usize
     y
 }
 
-// Whether a new primary goes behind an address: a primary of a scope as wide or wider (a smaller number is wider).
+// Whether a new primary goes behind an address: a primary of its own scope or a narrower one (a larger number is narrower).
 fn yields(new: &[u32], old: &[u32]) -> bool
     requires { ⌜ (length (now new) ≡ 20) × (length (now old) ≡ 20) ⌝ }
     ensures { λ r. ⌜ r ≡ yields (now (new .entry)) (now (old .entry)) ⌝ }

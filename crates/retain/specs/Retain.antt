@@ -1,6 +1,6 @@
 -- Rows retained in place, one after the other.
 -- Assumes nothing.
-use Prim.Native.Nat.{ℕ, zero, suc, _+_, _-_, _*_, _≤_}
+use Prim.Native.Nat.{ℕ, zero, suc, _+_, _-_, _*_, _≤_, _<_}
 use mathlib.Core.Path.{_≡_, refl, sym, ap, _∙_}
 use mathlib.Core.Bool.{Bool, true, false, cond, not, _&&_}
 use mathlib.Core.List.{List, [], _∷_, _++_, append-nil}
@@ -16,7 +16,7 @@ use Rattle.lists.specs.All.{all-keep}
 use Rattle.lists.specs.Keep.{keep-append}
 use Rattle.lists.specs.Count.{length-keep, count-most}
 use Rattle.lists.specs.Rows.{length-flat, length-chop, sized-chop, chop-pad, length-zeros, length-span}
-use Rattle.lists.specs.Put.{put-behind, put-none, span-put-behind}
+use Rattle.lists.specs.Put.{cut, put-behind, put-none, span-put-behind}
 use Rattle.lists.specs.At.{flat-append, flat-cons}
 use Rattle.layout.specs.Route.{device, scope}
 use Rattle.definition.specs.State.{State, withRoutes}
@@ -47,19 +47,23 @@ keep-le p l = omega (arith, length-keep p l, count-most p l)
 abbrev pub rowsOf : ℕ → ℕ → List ℕ → ℕ → List Row
 rowsOf base k w i = chop k i (drop base w)
 
+pub rows-next : (base k : ℕ) (w : List ℕ) (i : ℕ) → rowsOf base k w (i + 1) ≡ rowsOf base k w i ++ (span (base + k * i) k w ∷ [])
+unfolding span
+rows-next base k w i =
+    rw add-one
+    (chop-more k i (drop base w)
+    ∙ ap (λ (x : List ℕ). rowsOf base k w i ++ (take k x ∷ [])) (drop-drop (k * i) base w))
+
+-- of those the ones that pass
+pub keep-next : (p : Row → Bool) (base k : ℕ) (w : List ℕ) (i : ℕ) → keep p (rowsOf base k w (i + 1)) ≡ keep p (rowsOf base k w i) ++ keep p (span (base + k * i) k w ∷ [])
+keep-next p base k w i = ap (keep p) (rows-next base k w i) ∙ keep-append p (rowsOf base k w i) (span (base + k * i) k w ∷ [])
+
 module _ (p : Row → Bool) (base k : ℕ) (w : List ℕ) (i : ℕ) (h : base + (k * i + k) ≤ length w) where
   abbrev kept : List Row
   kept = keep p (rowsOf base k w i)
 
   abbrev row : Row
   row = span (base + k * i) k w
-
-  next : rowsOf base k w (i + 1) ≡ rowsOf base k w i ++ (row ∷ [])
-  unfolding span
-  next =
-      rw add-one
-      (chop-more k i (drop base w)
-      ∙ ap (λ (x : List ℕ). rowsOf base k w i ++ (take k x ∷ [])) (drop-drop (k * i) base w))
 
   length-kept : length (flat kept) ≡ k * length kept
   length-kept =
@@ -93,10 +97,10 @@ module _ (p : Row → Bool) (base k : ℕ) (w : List ℕ) (i : ℕ) (h : base + 
   then false e = (rw (e, append-nil), rw (e, append-nil) (omega arith))
 
   pub step-words : cond (p row) (put (base + k * length kept) row (put base (flat kept) w)) (put base (flat kept) w) ≡ put base (flat (keep p (rowsOf base k w (i + 1)))) w
-  step-words = then (p row) refl .0 ∙ ap (λ (x : List Row). put base (flat x) w) (sym (ap (keep p) next ∙ keep-append p (rowsOf base k w i) (row ∷ [])))
+  step-words = then (p row) refl .0 ∙ ap (λ (x : List Row). put base (flat x) w) (sym (keep-next p base k w i))
 
   pub step-count : length kept + cond (p row) 1 0 ≡ length (keep p (rowsOf base k w (i + 1)))
-  step-count = then (p row) refl .1 ∙ ap (λ (x : List Row). length x) (sym (ap (keep p) next ∙ keep-append p (rowsOf base k w i) (row ∷ [])))
+  step-count = then (p row) refl .1 ∙ ap (λ (x : List Row). length x) (sym (keep-next p base k w i))
 
 -- ---- the routes
 pub routes-of : {w : List ℕ} {st : State} → Holds w st → rowsOf 1283 32 w (routeCount w) ≡ st .routes
@@ -158,22 +162,70 @@ pub no-disable : (st : State) → (length (st .addresses) ≡ 0 → ⊥) → st 
 unfolding disable
 no-disable st e = rw (ne-eqb (length (st .addresses)) 0 e)
 
--- ---- one turn, and the end
-pub kept-few : (p : Row → Bool) (base k : ℕ) (w : List ℕ) (i : ℕ) → length (keep p (rowsOf base k w i)) ≤ i
-kept-few p base k w i = rw (length-chop k i (drop base w)) at (keep-le p (rowsOf base k w i))
+-- ---- a pass over the routes
+-- row i, as it is lent
+abbrev pub lentRow : List ℕ → ℕ → List ℕ
+lentRow s i = take (1283 + 32 * i + 32 - (1283 + 32 * i)) (drop (1283 + 32 * i) s)
 
-pub next-both : (p : Row → Bool) (base k : ℕ) (w : List ℕ) (i : ℕ) → base + (k * i + k) ≤ length w → {j r : ℕ} {s x : List ℕ}
-    → j ≡ length (keep p (rowsOf base k w i)) → s ≡ put base (flat (keep p (rowsOf base k w i))) w
-    → r ≡ j + cond (p (span (base + k * i) k s)) 1 0 → x ≡ cond (p (span (base + k * i) k s)) (put (base + k * j) (span (base + k * i) k s) s) s
-    → (r ≡ length (keep p (rowsOf base k w (i + 1)))) × (x ≡ put base (flat (keep p (rowsOf base k w (i + 1)))) w)
-next-both p base k w i h ej es er ex =
-    (er ∙ rw (es, ej, read-next p base k w i h) (step-count p base k w i h), ex ∙ rw (es, ej, read-next p base k w i h) (step-words p base k w i h))
+pub lent-span : (s : List ℕ) (i : ℕ) → lentRow s i ≡ span (1283 + 32 * i) 32 s
+unfolding span
+lent-span s i = let whole : 1283 + 32 * i + 32 - (1283 + 32 * i) ≡ 32 = omega arith in ap (λ (n : ℕ). take n (drop (1283 + 32 * i) s)) whole
 
-pub none-kept : (p : Row → Bool) (w : List ℕ) → w ≡ put 1283 (flat (keep p (rowsOf 1283 32 w 0))) w
+-- a row that becomes itself
+pub itself : (s : List ℕ) {i j : ℕ} → i ≡ j → 1283 + 32 * i + 32 ≤ length s → s ≡ put (1283 + 32 * j) (span (1283 + 32 * i) 32 s) s
+unfolding put
+itself s {i} {j} e h =
+    let long : length (span (1283 + 32 * i) 32 s) ≡ 32 = length-span (1283 + 32 * i) 32 s h in
+    cut (1283 + 32 * i) 32 s
+    ∙ ap (λ (n : ℕ). take (1283 + 32 * i) s ++ (span (1283 + 32 * i) 32 s ++ drop (1283 + 32 * i + n) s)) (sym long)
+    ∙ ap (λ (n : ℕ). put (1283 + 32 * n) (span (1283 + 32 * i) 32 s) s) e
+
+-- row i was looked at behind j that remain: where it passes it becomes row j, and r remain with it
+pub record Turned (p : Row → Bool) (i j : ℕ) (s s′ : List ℕ) (r : ℕ) : Type 0 where
+  pub count : r ≡ j + cond (p (span (1283 + 32 * i) 32 s)) 1 0
+  pub words : s′ ≡ cond (p (span (1283 + 32 * i) 32 s)) (put (1283 + 32 * j) (span (1283 + 32 * i) 32 s) s) s
+
+module _ (p : Row → Bool) (i j : ℕ) (s : List ℕ) where
+  pub turned-stays : p (lentRow s i) ≡ true → {s′ : List ℕ} {r : ℕ} → r ≡ j + 1 → s′ ≡ put (1283 + 32 * j) (span (1283 + 32 * i) 32 s) s → Turned p i j s s′ r
+  turned-stays e c w =
+      let b : p (span (1283 + 32 * i) 32 s) ≡ true = ap p (sym (lent-span s i)) ∙ e in
+      record { count = c ∙ sym (rw b); words = w ∙ sym (rw b) }
+
+  pub turned-goes : p (lentRow s i) ≡ false → Turned p i j s s j
+  turned-goes e =
+      let b : p (span (1283 + 32 * i) 32 s) ≡ false = ap p (sym (lent-span s i)) ∙ e in
+      record { count = rw b (omega arith); words = sym (rw b) }
+
+-- of the first i routes of w those that pass, j of them, stand in front
+pub record Keeping (p : Row → Bool) (w : List ℕ) (i j : ℕ) (s : List ℕ) : Type 0 where
+  pub whole : length w ≡ 9507
+  pub count : j ≡ length (keep p (rowsOf 1283 32 w i))
+  pub words : s ≡ put 1283 (flat (keep p (rowsOf 1283 32 w i))) w
+  pub long : length s ≡ 9507
+
+pub keeping-start : (p : Row → Bool) (w : List ℕ) → length w ≡ 9507 → Keeping p w 0 0 w
 unfolding flat chop
-none-kept p w = put-none 1283 w
+keeping-start p w h = record { whole = h; count = refl; words = put-none 1283 w; long = h }
 
-pub ended : {w : List ℕ} {st : State} (p : Row → Bool) → Holds w st → {n i j v : ℕ} {s x : List ℕ} → n ≡ routeCount w → i ≡ n
-    → j ≡ length (keep p (rowsOf 1283 32 w i)) → s ≡ put 1283 (flat (keep p (rowsOf 1283 32 w i))) w
-    → x ≡ put (1283 + 32 * j) (zeros (32 * (n - j))) s → v ≡ j → Holds (set x 1 v) (withRoutes (keep p (st .routes)) st)
-ended p h en ei ej es ex ev = rw (ev, ex, es, ej, ei, en) (retained p h)
+module _ {p : Row → Bool} {w : List ℕ} {i j : ℕ} {s : List ℕ} (k : Keeping p w i j s) where
+  pub keeping-few : j ≤ i
+  keeping-few = omega (arith, k .count, length-chop 32 i (drop 1283 w), keep-le p (rowsOf 1283 32 w i))
+
+  -- row i still stands
+  pub keeping-row : i < 256 → span (1283 + 32 * i) 32 s ≡ span (1283 + 32 * i) 32 w
+  keeping-row b = ap (span (1283 + 32 * i) 32) (k .words) ∙ read-next p 1283 32 w i (omega (arith, k .whole))
+
+  pub keeping-turn : i < 256 → {s′ : List ℕ} {r : ℕ} → length s′ ≡ length s → Turned p i j s s′ r → Keeping p w (i + 1) r s′
+  keeping-turn b l t =
+      let room : 1283 + (32 * i + 32) ≤ length w = omega (arith, k .whole) in
+      let row = keeping-row b in
+      record {
+        whole = k .whole;
+        count = t .count ∙ rw (row, k .count) (step-count p 1283 32 w i room);
+        words = t .words ∙ rw (row, k .count, k .words) (step-words p 1283 32 w i room);
+        long = l ∙ k .long;
+      }
+
+  -- zeros behind them, and their count
+  pub keeping-end : {st : State} → Holds w st → i ≡ routeCount w → Holds (set (put (1283 + 32 * j) (zeros (32 * (i - j))) s) 1 j) (withRoutes (keep p (st .routes)) st)
+  keeping-end h e = rw (k .words, k .count, e) (retained p h)

@@ -1,14 +1,13 @@
 // Routes retained in place: those that go leave zeros behind the others.
 ghost use mathlib.Core.Path.{_≡_};
-ghost use mathlib.Core.Bool.{true, false, cond};
-ghost use Prim.Native.Nat.{_+_, _*_, _≤_, _<_};
-ghost use lib.ListN.{length};
-ghost use Rattle.lists.specs.Lists.{put, span, keep};
+ghost use Prim.Native.Nat.{_+_, _-_, _*_, _≤_, _<_};
+ghost use lib.ListN.{length, set};
+ghost use Rattle.lists.specs.Lists.{put, span, keep, zeros};
 ghost use Rattle.definition.specs.State.{State, withRoutes};
 ghost use Rattle.definition.specs.Reference.Addresses.{down};
 ghost use Rattle.definition.specs.Reference.Removal.{disable};
 ghost use Rattle.state.specs.Holds.{Holds, Valid};
-ghost use Rattle.retain.specs.Retain.{remains};
+ghost use Rattle.retain.specs.Retain.{Turned, remains};
 
 // Whether a route remains: all do that are not through the device, and with host those of host scope too.
 fn remains(r: &[u32], host: bool) -> bool
@@ -24,19 +23,17 @@ fn remains(r: &[u32], host: bool) -> bool
     false
 }
 
-// Row i, where it remains, goes to the place of row j: how many rows remain with it.
-fn settle(s: &mut [u32], i: usize, j: usize, host: bool) -> usize
+// Row i becomes row j of those that remain: how many they are with it.
+pub fn settle(s: &mut [u32], i: usize, j: usize) -> usize
     requires { ⌜ (length (now s) ≡ 9507) × (j ≤ i) × (i < 256) ⌝ }
-    ensures { λ r. ⌜ r ≡ j + cond (remains host (span (1283 + 32 * i) 32 (now (s .entry)))) 1 0 ⌝ }
-    ensures { λ _. ⌜ now (s .exit) ≡ cond (remains host (span (1283 + 32 * i) 32 (now (s .entry)))) (put (1283 + 32 * j) (span (1283 + 32 * i) 32 (now (s .entry))) (now (s .entry))) (now (s .entry)) ⌝ }
+    ensures { λ r. ⌜ r ≡ j + 1 ⌝ }
+    ensures { λ _. ⌜ now (s .exit) ≡ put (1283 + 32 * j) (span (1283 + 32 * i) 32 (now (s .entry))) (now (s .entry)) ⌝ }
 {
-    let from = 1283 + 32 * i;
-    let end = from + 32;
-    if remains(&s[from..end], host) {
-        words::move_down(s, from, 1283 + 32 * j, 32);
+    if i == j {
         return j + 1;
     }
-    j
+    words::move_down(s, 1283 + 32 * i, 1283 + 32 * j, 32);
+    j + 1
 }
 
 fn narrow(n: usize) -> u32
@@ -44,6 +41,28 @@ fn narrow(n: usize) -> u32
     ensures { λ r. ⌜ r ≡ n ⌝ }
 {
     n as u32
+}
+
+// Of n rows j remain: zeros for the others, and the count.
+pub fn close(s: &mut [u32], n: usize, j: usize)
+    requires { ⌜ (length (now s) ≡ 9507) × (j ≤ n) × (n ≤ 256) ⌝ }
+    ensures { λ _. ⌜ now (s .exit) ≡ set (put (1283 + 32 * j) (zeros (32 * (n - j))) (now (s .entry))) 1 j ⌝ }
+{
+    words::clear(s, 1283 + 32 * j, 32 * (n - j));
+    s[1] = narrow(j);
+}
+
+// Row i, behind j that remain, is looked at.
+fn turn(s: &mut [u32], i: usize, j: usize, host: bool) -> usize
+    requires { ⌜ (length (now s) ≡ 9507) × (j ≤ i) × (i < 256) ⌝ }
+    ensures { λ r. ⌜ Turned (remains host) i j (now (s .entry)) (now (s .exit)) r ⌝ }
+{
+    let at = 1283 + 32 * i;
+    let end = at + 32;
+    if remains(&s[at..end], host) {
+        return settle(s, i, j);
+    }
+    j
 }
 
 // The routes that remain.
@@ -55,11 +74,10 @@ fn retain(s: &mut [u32], host: bool)
     let mut j = 0usize;
     let mut i = 0usize;
     while i < n {
-        j = settle(s, i, j, host);
+        j = turn(s, i, j, host);
         i += 1;
     }
-    words::clear(s, 1283 + 32 * j, 32 * (n - j));
-    s[1] = narrow(j);
+    close(s, n, j);
 }
 
 // The device goes down: its routes go, but for those of host scope.

@@ -6,13 +6,17 @@ use mathlib.Core.Path.{_≡_, refl, sym, ap, _∙_}
 use mathlib.Core.List.{List, [], _∷_}
 use lib.ListN.{length, getD}
 use Rattle.lists.specs.Lists.{Row, put}
-use Rattle.life.specs.Life.{lowWord, highWord}
+use Rattle.life.specs.Life.{lowWord, highWord, seconds, nanoseconds, lifeSet}
+use Rattle.life.specs.declared.Life.{Life}
+use Rattle.life.specs.declared.Lifetimes.{Lifetimes}
 use Rattle.life.specs.Laws.{clock-words}
 use Rattle.layout.specs.Flags.{clearBit, setBit}
 use Rattle.layout.specs.Address as Address
 use Rattle.layout.specs.Address.{flags, secondaryBit, deprecatedBit}
 use Rattle.layout.specs.Request.{validAsked, preferredAsked}
-use Rattle.definition.specs.Reference.Addresses.{lifeFlags, seconds, rewritten, setLife, asked, asSecondary, changedTo}
+use Rattle.address.specs.V4.{lifeOf}
+use Rattle.definition.specs.Reference.Addresses as Addresses
+use Rattle.definition.specs.Reference.Addresses.{lifeFlags, rewritten, setLife, asked, asSecondary, changedTo}
 use Rattle.definition.specs.Reference.Removal.{faded}
 
 -- a row with other flags
@@ -34,15 +38,29 @@ rewritten-words (u ∷ v ∷ w ∷ []) f pr po va pf cr ch e g h i n p q s t = a
 rewritten-words (u ∷ v ∷ w ∷ x ∷ []) f pr po va pf cr ch e g h i n p q s t = absurd (omega arith)
 rewritten-words (u ∷ v ∷ w ∷ x ∷ y ∷ []) f pr po va pf cr ch e g h i n p q s t = absurd (omega arith)
 
+-- ---- lives
+abbrev pub lifetimesOf : Row → Lifetimes
+lifetimesOf q = record { valid = seconds (validAsked q); preferred = seconds (preferredAsked q) }
+
+abbrev pub begun : ℕ → Life
+begun now = record { valid = seconds 0; preferred = seconds 0; created = nanoseconds now; changed = nanoseconds now }
+
+pub set-life : (l m n : Life) (now : ℕ) (t u : Lifetimes) → l ≡ lifeSet t now m → t ≡ u → m ≡ n → l ≡ lifeSet u now n
+set-life l m n now t u e f g = e ∙ rw (f, g)
+
+-- a row with that life
+abbrev pub living : Row → ℕ → ℕ → ℕ → Life → Row
+living a f proto priority l = rewritten a f proto priority (l .valid .0) (l .preferred .0) (l .created .0) (l .changed .0)
+
 -- what the code makes of a request
-pub asked-row : (q : Row) (clock : ℕ) (p f v b : ℕ) → p ≡ clearBit secondaryBit (flags q) → f ≡ lifeFlags (validAsked q) (preferredAsked q) p → v ≡ seconds (validAsked q) 0 → b ≡ seconds (preferredAsked q) 0
-    → rewritten q f (Address.proto q) (Address.priority q) v b clock clock ≡ asked q clock
+pub asked-row : (q : Row) (clock : ℕ) (p f : ℕ) (l : Life) → p ≡ clearBit secondaryBit (flags q) → f ≡ lifeFlags (validAsked q) (preferredAsked q) p → l ≡ lifeSet (lifetimesOf q) clock (begun clock)
+    → living q f (Address.proto q) (Address.priority q) l ≡ asked q clock
 unfolding asked
-asked-row q clock p f v b d e g h = rw (g, h, e, d)
+asked-row q clock p f l d e g = rw (g, e, d)
 
 -- and of a change
 change-row : (q old : Row) (clock : ℕ) → 6 ≤ length old
-    → changedTo q old clock ≡ rewritten old (lifeFlags (validAsked q) (preferredAsked q) (flags old)) (Address.proto q) (Address.priority q) (seconds (validAsked q) (Address.valid old)) (seconds (preferredAsked q) (Address.preferred old)) (Address.created old) clock
+    → changedTo q old clock ≡ rewritten old (lifeFlags (validAsked q) (preferredAsked q) (flags old)) (Address.proto q) (Address.priority q) (Addresses.seconds (validAsked q) (Address.valid old)) (Addresses.seconds (preferredAsked q) (Address.preferred old)) (Address.created old) clock
 unfolding changedTo setLife rewritten
 change-row q (u ∷ v ∷ w ∷ x ∷ y ∷ z ∷ l) clock n = rw (clock-words (Address.created (u ∷ v ∷ w ∷ x ∷ y ∷ z ∷ l)))
 change-row q [] clock n = absurd (omega arith)
@@ -52,13 +70,12 @@ change-row q (u ∷ v ∷ w ∷ []) clock n = absurd (omega arith)
 change-row q (u ∷ v ∷ w ∷ x ∷ []) clock n = absurd (omega arith)
 change-row q (u ∷ v ∷ w ∷ x ∷ y ∷ []) clock n = absurd (omega arith)
 
-pub changed-row : (q old : Row) (clock : ℕ) (f v b c : ℕ) → 6 ≤ length old → f ≡ lifeFlags (validAsked q) (preferredAsked q) (flags old) → v ≡ seconds (validAsked q) (Address.valid old) → b ≡ seconds (preferredAsked q) (Address.preferred old) → c ≡ Address.created old
-    → rewritten old f (Address.proto q) (Address.priority q) v b c clock ≡ changedTo q old clock
-changed-row q old clock f v b c n e g h k = rw (e, g, h, k) (sym (change-row q old clock n))
+pub changed-row : (q old : Row) (clock : ℕ) (f : ℕ) (l : Life) → 6 ≤ length old → f ≡ lifeFlags (validAsked q) (preferredAsked q) (flags old) → l ≡ lifeSet (lifetimesOf q) clock (lifeOf old)
+    → living old f (Address.proto q) (Address.priority q) l ≡ changedTo q old clock
+changed-row q old clock f l n e g = rw (e, g) (sym (change-row q old clock n))
 
-pub flagged-row : (a : Row) (f c d : ℕ) → c ≡ Address.created a → d ≡ Address.changed a
-    → rewritten a f (Address.proto a) (Address.priority a) (Address.valid a) (Address.preferred a) c d ≡ flagged a f
-flagged-row a f c d e g = rw (e, g)
+pub flagged-row : (a : Row) (f : ℕ) (l : Life) → l ≡ lifeOf a → living a f (Address.proto a) (Address.priority a) l ≡ flagged a f
+flagged-row a f l e = rw e
 
 pub secondary-row : (a : Row) (f : ℕ) → f ≡ setBit secondaryBit (flags a) → flagged a f ≡ asSecondary a
 unfolding asSecondary

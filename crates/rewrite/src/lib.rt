@@ -1,24 +1,17 @@
 // The address rows that requests and changes make, written from the start of a lent block on.
+use life::Life;
+use life::Lifetimes;
 use life::Nanoseconds;
+use life::Seconds;
 ghost use mathlib.Core.Path.{_≡_};
 ghost use Prim.Native.Nat.{_≤_};
 ghost use lib.ListN.{length};
 ghost use Rattle.lists.specs.Lists.{put};
 ghost use Rattle.layout.specs.Flags.{clearBit, setBit};
 ghost use Rattle.layout.specs.Address.{secondaryBit, deprecatedBit};
-ghost use Rattle.definition.specs.Reference.Addresses.{rewritten, seconds, asked, asSecondary, changedTo};
+ghost use Rattle.definition.specs.Reference.Addresses.{rewritten, asked, asSecondary, changedTo};
 ghost use Rattle.definition.specs.Reference.Removal.{faded};
-ghost use Rattle.rewrite.specs.Rows.{flagged};
-
-// A lifetime that never ends leaves the stored seconds.
-fn seconds(asked: u32, stored: u32) -> u32
-    ensures { λ r. ⌜ r ≡ seconds asked stored ⌝ }
-{
-    if asked == life::FOREVER {
-        return stored;
-    }
-    asked
-}
+ghost use Rattle.rewrite.specs.Rows.{flagged, lifetimesOf, begun};
 
 fn as_primary(flags: u32) -> u32
     ensures { λ r. ⌜ r ≡ clearBit secondaryBit flags ⌝ }
@@ -38,22 +31,14 @@ fn deprecated(flags: u32) -> u32
     flags | address::DEPRECATED
 }
 
-// A row's words up to its priority, with other flags and proto, then a priority, lifetimes and stamps.
-fn rewritten(
-    out: &mut [u32],
-    a: &[u32],
-    flags: u32,
-    proto: u32,
-    priority: u32,
-    valid: u32,
-    preferred: u32,
-    created: Nanoseconds,
-    changed: Nanoseconds,
-)
+// A row's words up to its priority, with other flags and proto, then a priority and a life.
+fn rewritten(out: &mut [u32], a: &[u32], flags: u32, proto: u32, priority: u32, life: Life)
     requires { ⌜ 20 ≤ length (now out) ⌝ }
     requires { ⌜ 14 ≤ length (now a) ⌝ }
-    ensures { λ _. ⌜ now (out .exit) ≡ put 0 (rewritten (now (a .entry)) flags proto priority valid preferred (created .0) (changed .0)) (now (out .entry)) ⌝ }
+    ensures { λ _. ⌜ now (out .exit) ≡ put 0 (rewritten (now (a .entry)) flags proto priority (life .valid .0) (life .preferred .0) (life .created .0) (life .changed .0)) (now (out .entry)) ⌝ }
 {
+    let created = life.created;
+    let changed = life.changed;
     let made_low = created.low();
     let made_high = created.high();
     let set_low = changed.low();
@@ -73,8 +58,8 @@ fn rewritten(
         a[11],
         a[12],
         priority,
-        valid,
-        preferred,
+        life.valid.0,
+        life.preferred.0,
         made_low,
         made_high,
         set_low,
@@ -83,28 +68,40 @@ fn rewritten(
     words::store(out, 0, &row);
 }
 
+// The lifetimes that a request of 18 words asks for.
+fn lifetimes(q: &[u32]) -> Lifetimes
+    requires { ⌜ length (now q) ≡ 18 ⌝ }
+    ensures { λ r. ⌜ r ≡ lifetimesOf (now (q .entry)) ⌝ }
+{
+    Lifetimes {
+        valid: Seconds(q[14]),
+        preferred: Seconds(q[15]),
+    }
+}
+
+// A life that begins at that moment, with no lifetimes yet.
+fn begun(clock: u64) -> Life
+    ensures { λ r. ⌜ r ≡ begun clock ⌝ }
+{
+    Life {
+        valid: Seconds(0),
+        preferred: Seconds(0),
+        created: Nanoseconds(clock),
+        changed: Nanoseconds(clock),
+    }
+}
+
 // The row that a request of 18 words asks for, made at that moment.
 pub fn asked(q: &[u32], clock: u64, out: &mut [u32])
     requires { ⌜ length (now q) ≡ 18 ⌝ }
     requires { ⌜ 20 ≤ length (now out) ⌝ }
     ensures { λ _. ⌜ now (out .exit) ≡ put 0 (asked (now (q .entry)) clock) (now (out .entry)) ⌝ }
 {
-    let valid = q[14];
-    let preferred = q[15];
-    let flags = address::life_flags(as_primary(q[6]), valid, preferred);
-    let kept = seconds(valid, 0);
-    let best = seconds(preferred, 0);
-    rewritten(
-        out,
-        q,
-        flags,
-        q[7],
-        q[13],
-        kept,
-        best,
-        Nanoseconds(clock),
-        Nanoseconds(clock),
-    );
+    let proto = q[7];
+    let priority = q[13];
+    let flags = address::life_flags(as_primary(q[6]), q[14], q[15]);
+    let new = begun(clock).set(lifetimes(q), Nanoseconds(clock));
+    rewritten(out, q, flags, proto, priority, new);
 }
 
 // An address with the priority, proto and lifetimes of a request.
@@ -114,23 +111,11 @@ pub fn changed_to(q: &[u32], old: &[u32], clock: u64, out: &mut [u32])
     requires { ⌜ 20 ≤ length (now out) ⌝ }
     ensures { λ _. ⌜ now (out .exit) ≡ put 0 (changedTo (now (q .entry)) (now (old .entry)) clock) (now (out .entry)) ⌝ }
 {
-    let valid = q[14];
-    let preferred = q[15];
-    let flags = address::life_flags(old[6], valid, preferred);
-    let kept = seconds(valid, old[14]);
-    let best = seconds(preferred, old[15]);
-    let created = Nanoseconds::of_words(old[16], old[17]);
-    rewritten(
-        out,
-        old,
-        flags,
-        q[7],
-        q[13],
-        kept,
-        best,
-        created,
-        Nanoseconds(clock),
-    );
+    let proto = q[7];
+    let priority = q[13];
+    let flags = address::life_flags(old[6], q[14], q[15]);
+    let new = address::life_of(old).set(lifetimes(q), Nanoseconds(clock));
+    rewritten(out, old, flags, proto, priority, new);
 }
 
 // A row with other flags.
@@ -139,9 +124,7 @@ fn flagged(a: &[u32], flags: u32, out: &mut [u32])
     requires { ⌜ 20 ≤ length (now out) ⌝ }
     ensures { λ _. ⌜ now (out .exit) ≡ put 0 (flagged (now (a .entry)) flags) (now (out .entry)) ⌝ }
 {
-    let created = Nanoseconds::of_words(a[16], a[17]);
-    let changed = Nanoseconds::of_words(a[18], a[19]);
-    rewritten(out, a, flags, a[7], a[13], a[14], a[15], created, changed);
+    rewritten(out, a, flags, a[7], a[13], address::life_of(a));
 }
 
 // The row as a secondary.

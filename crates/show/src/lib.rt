@@ -15,7 +15,7 @@ fn show_listing(s: &[u32], out: &mut [u8]) -> usize
     ensures { λ _. ⌜ now (out .exit) ≡ put 0 (shownWords (now (s .entry))) (now (out .entry)) ⌝ }
 {
     let mut listing = [0u32; 8192];
-    let n = dump::list(s, &mut listing);
+    let n = listed::list(s, &mut listing);
     let e = 32 * n;
     print::render(out, &listing[..e], n)
 }

@@ -25,7 +25,7 @@ const KIND_LOCAL: u32 = 2;
 // 127.0.0.1
 const LOOPBACK: u32 = 0x7f000001;
 
-// A primary of a scope as narrow as asked, host scope at most.
+// A primary of the asked scope or a wider one (a smaller number is wider); nowhere counts as host.
 fn eligible(a: &[u32], scope: u32) -> bool
     requires { ⌜ length (now a) ≡ 20 ⌝ }
     ensures { λ r. ⌜ r ≡ eligible scope (now (a .entry)) ⌝ }

@@ -47,7 +47,12 @@ fn main() -> ExitCode {
          many at once. The clock's own time is taken off. Buffers are not cleared between calls. \
          After a call's name: addresses, routes, tables."
     );
-    let usual = wanted(states::usual());
+    let (usual, special) = (wanted(states::usual()), wanted(states::special()));
+    let check = "check".contains(only.as_str());
+    if usual.is_empty() && special.is_empty() && !check {
+        eprintln!("no call has {only} in its name\n{USAGE}");
+        return ExitCode::FAILURE;
+    }
     if !usual.is_empty() {
         let usual = table(&usual, rounds);
         println!(
@@ -55,19 +60,20 @@ fn main() -> ExitCode {
              at most {WORDS_MEAN}; on bytes of at most {BYTES_MEAN}, and no call above \
              {BYTES_MOST}.\n"
         );
-        summary("words", &usual, |t| t.words);
-        summary("bytes", &usual, |t| t.bytes);
+        let plain: (&str, Part) = ("on lent words, plain", |t| t.plain);
+        let tuned: (&str, Part) = ("on lent words, tuned", |t| t.tuned);
+        let bytes: (&str, Part) = ("on lent bytes, plain", |t| t.plain_bytes);
+        summary("words", &usual, |t| t.words, [plain, tuned]);
+        summary("bytes", &usual, |t| t.bytes, [plain, bytes]);
     }
-    let special = wanted(states::special());
     if !special.is_empty() {
         println!("\nThe longest jobs:");
         table(&special, rounds);
     }
-    if "check".contains(only.as_str()) {
+    if check {
         println!(
-            "\nA lookup without the check of the state: n/a, none is exported.\n\n\
-             The check of a state alone (the port: `local4` on words, the cheapest call that \
-             looks at the whole state):\n"
+            "\nThe check of a state alone (the port: `interface4w_check`); a call without it takes \
+             the difference:\n"
         );
         check_alone(rounds);
     }
@@ -121,60 +127,59 @@ fn same_job_is_right() -> usize {
 /// Measures and prints one table.
 fn table(all: &[states::Measured], rounds: usize) -> Vec<(String, Times)> {
     println!(
-        "\n| call | the Rust, own lists | on lent words, plain | tuned | the port, words | bytes \
-         | words / plain | bytes / plain | words / tuned | bytes / tuned |"
+        "\n| call | the Rust, own lists | on lent words, plain | tuned | on lent bytes, plain \
+         | the port, words | bytes | words / plain | words / tuned | bytes / plain \
+         | bytes / plain on bytes |"
     );
-    println!("|---|---:|---:|---:|---:|---:|---:|---:|---:|---:|");
+    println!("|---|---:|---:|---:|---:|---:|---:|---:|---:|---:|---:|");
     let mut measured = Vec::new();
     for one in all {
         let times = measure(one, rounds);
         println!(
-            "| {} | {} | {} | {} | {} | {} | {} | {} | {} | {} |",
+            "| {} | {} | {} | {} | {} | {} | {} | {} | {} | {} | {} |",
             one.name,
-            time(Some(times.own)),
-            time(Some(times.plain)),
-            time(Some(times.tuned)),
+            time(times.own),
+            time(times.plain),
+            time(times.tuned),
+            time(times.plain_bytes),
             time(times.words),
             time(times.bytes),
             ratio(times.words, times.plain),
-            ratio(times.bytes, times.plain),
             ratio(times.words, times.tuned),
-            ratio(times.bytes, times.tuned)
+            ratio(times.bytes, times.plain),
+            ratio(times.bytes, times.plain_bytes)
         );
         measured.push((one.name.clone(), times));
     }
     measured
 }
 
-fn time(nanoseconds: Option<f64>) -> String {
-    match nanoseconds {
-        None => "n/a".to_string(),
-        Some(ns) if ns < 1_000.0 => format!("{ns:.0} ns"),
-        Some(ns) => format!("{:.2} µs", ns / 1_000.0),
+fn time(nanoseconds: f64) -> String {
+    if nanoseconds < 1_000.0 {
+        format!("{nanoseconds:.0} ns")
+    } else {
+        format!("{:.2} µs", nanoseconds / 1_000.0)
     }
 }
 
-fn ratio(port: Option<f64>, rust: f64) -> String {
-    port.map_or("n/a".to_string(), |port| format!("{:.2}", port / rust))
+fn ratio(port: f64, rust: f64) -> String {
+    format!("{:.2}", port / rust)
 }
 
-/// The geometric mean and the greatest ratio, against either Rust.
-fn summary(what: &str, all: &[(String, Times)], port: impl Fn(&Times) -> Option<f64>) {
-    for (against, rust) in [
-        ("plain", (|t| t.plain) as fn(&Times) -> f64),
-        ("tuned", |t| t.tuned),
-    ] {
+type Part = fn(&Times) -> f64;
+
+/// The geometric mean and the greatest ratio, against two of the Rust's.
+fn summary(what: &str, all: &[(String, Times)], port: Part, rusts: [(&str, Part); 2]) {
+    for (against, rust) in rusts {
         let ratios: Vec<(&str, f64)> = all
             .iter()
-            .filter_map(|(name, t)| Some((name.as_str(), port(t)? / rust(t))))
+            .map(|(name, t)| (name.as_str(), port(t) / rust(t)))
             .collect();
-        let Some(most) = ratios.iter().max_by(|a, b| a.1.total_cmp(&b.1)) else {
-            println!("- the port on {what}: n/a");
-            return;
-        };
+        let most = ratios.iter().max_by(|a, b| a.1.total_cmp(&b.1));
+        let most = most.expect("a row at least");
         let logarithms = ratios.iter().map(|(_, r)| r.ln()).sum::<f64>();
         println!(
-            "- the port on {what}, against the {against} Rust, {} rows: geometric mean {:.2}, \
+            "- the port on {what}, against the Rust {against}, {} rows: geometric mean {:.2}, \
              greatest {:.2} ({})",
             ratios.len(),
             (logarithms / ratios.len() as f64).exp(),
@@ -187,11 +192,10 @@ fn summary(what: &str, all: &[(String, Times)], port: impl Fn(&Times) -> Option<
 fn check_alone(rounds: usize) {
     println!("| state | the port | the Rust, plain | tuned | all 9,507 words or-ed |");
     println!("|---|---:|---:|---:|---:|");
-    let there = words::EXPORTED.contains(&"interface4w_local4");
-    for size in [[0, 0, 0], [64, 256, 32]] {
+    for size in [[0, 0, 0], [62, 250, 30], [64, 256, 32]] {
         let state = states::of_size(size);
         let port = || {
-            black_box(words::local4(black_box(&state), 0));
+            black_box(words::check(black_box(&state)));
         };
         let plain = || {
             black_box(same_job::well_formed::<false>(black_box(&state)));
@@ -202,22 +206,15 @@ fn check_alone(rounds: usize) {
         let scan = || {
             black_box(same_job::or_of(black_box(&state)));
         };
-        let calls = [
-            if there { enough(port) } else { 1 },
-            enough(plain),
-            enough(tuned),
-            enough(scan),
-        ];
+        let ways: [&dyn Fn(); 4] = [&port, &plain, &tuned, &scan];
+        let calls = ways.map(enough);
         let mut times: [Vec<f64>; 4] = Default::default();
         for _ in 0..rounds {
-            if there {
-                times[0].push(section(calls[0], port));
+            for (i, way) in ways.iter().enumerate() {
+                times[i].push(section(calls[i], way));
             }
-            times[1].push(section(calls[1], plain));
-            times[2].push(section(calls[2], tuned));
-            times[3].push(section(calls[3], scan));
         }
-        let [port, plain, tuned, scan] = times.map(|t| time((!t.is_empty()).then(|| median(t))));
+        let [port, plain, tuned, scan] = times.map(|t| time(median(t)));
         let [a, r, t] = size;
         println!("| {a}/{r}/{t} | {port} | {plain} | {tuned} | {scan} |");
     }

@@ -1,4 +1,4 @@
-//! One call measured five ways, in turn, many times over.
+//! One call measured six ways, in turn, many times over.
 use crate::same_job::call as job;
 use crate::states::Measured;
 use naskrefim::{bytes, words};
@@ -11,14 +11,14 @@ use reference::{Arguments, Native};
 use std::hint::black_box;
 use std::time::Instant;
 
-/// Nanoseconds for a call: medians. `None` where the linked library hasn't
-/// got it.
+/// Nanoseconds for a call: medians.
 pub struct Times {
     pub own: f64,
     pub plain: f64,
     pub tuned: f64,
-    pub words: Option<f64>,
-    pub bytes: Option<f64>,
+    pub plain_bytes: f64,
+    pub words: f64,
+    pub bytes: f64,
 }
 
 /// What a timed part of many calls shall take, in nanoseconds.
@@ -71,11 +71,19 @@ enum Way {
     Own,
     Plain,
     Tuned,
+    PlainBytes,
     Words,
     Bytes,
 }
 
-const WAYS: [Way; 5] = [Way::Own, Way::Plain, Way::Tuned, Way::Words, Way::Bytes];
+const WAYS: [Way; 6] = [
+    Way::Own,
+    Way::Plain,
+    Way::Tuned,
+    Way::PlainBytes,
+    Way::Words,
+    Way::Bytes,
+];
 
 impl<'a> Stage<'a> {
     fn new(measured: &'a Measured) -> Self {
@@ -111,7 +119,7 @@ impl<'a> Stage<'a> {
             Way::Plain | Way::Tuned | Way::Words => {
                 self.state.copy_from_slice(&self.measured.state)
             }
-            Way::Bytes => self.state_bytes.copy_from_slice(&self.first_bytes),
+            Way::PlainBytes | Way::Bytes => self.state_bytes.copy_from_slice(&self.first_bytes),
         }
     }
 
@@ -125,6 +133,10 @@ impl<'a> Stage<'a> {
             Way::Tuned => {
                 black_box(tuned(call, &mut self.state, &mut self.buffer));
             }
+            Way::PlainBytes => {
+                let (state, buffer) = (&mut self.state_bytes, &mut self.buffer_bytes);
+                black_box(plain_bytes(call, state, &self.request, buffer));
+            }
             Way::Words => {
                 black_box(on_words(call, &mut self.state, &mut self.buffer));
             }
@@ -132,15 +144,6 @@ impl<'a> Stage<'a> {
                 let (state, buffer) = (&mut self.state_bytes, &mut self.buffer_bytes);
                 black_box(on_bytes(call, state, &self.request, buffer));
             }
-        }
-    }
-
-    fn there(&self, way: Way) -> bool {
-        let name = self.measured.call.name();
-        match way {
-            Way::Own | Way::Plain | Way::Tuned => true,
-            Way::Words => words::EXPORTED.contains(&format!("interface4w_{name}").as_str()),
-            Way::Bytes => bytes::EXPORTED.contains(&format!("interface4_{name}").as_str()),
         }
     }
 
@@ -154,21 +157,15 @@ impl<'a> Stage<'a> {
         let told = self.native.call(&self.arguments).write(&mut own);
         assert_eq!(told[0], reply.number, "{name}: the Rust on its own lists");
         assert_eq!(own, buffer, "{name}: the Rust on its own lists");
-        for way in [Way::Plain, Way::Tuned, Way::Words] {
-            if self.there(way) {
-                let (mut s, mut b) = (self.measured.state.clone(), self.buffer.clone());
-                let found = match way {
-                    Way::Plain => plain(call, &mut s, &mut b),
-                    Way::Tuned => tuned(call, &mut s, &mut b),
-                    _ => on_words(call, &mut s, &mut b),
-                };
-                assert!((found, s) == (reply, state.clone()), "{name}: on words");
-                assert!(b == buffer, "{name}: on words, the buffer");
-            }
+        for way in [plain, tuned, on_words] {
+            let (mut s, mut b) = (self.measured.state.clone(), self.buffer.clone());
+            let found = way(call, &mut s, &mut b);
+            assert!((found, &s) == (reply, &state), "{name}: on words");
+            assert!(b == buffer, "{name}: on words, the buffer");
         }
-        if self.there(Way::Bytes) {
+        for way in [plain_bytes, on_bytes] {
             let (mut s, mut b) = (self.first_bytes.clone(), self.buffer_bytes.clone());
-            let found = on_bytes(call, &mut s, &self.request, &mut b);
+            let found = way(call, &mut s, &self.request, &mut b);
             assert!((found, s) == (reply, bytes_of(&state)), "{name}: on bytes");
             assert!(b == bytes_of(&buffer), "{name}: on bytes, the buffer");
         }
@@ -184,29 +181,25 @@ pub fn measure(measured: &Measured, rounds: usize) -> Times {
     let changing = measured.call.buffer() == Buffer::Events;
     let clock = clock();
     let mut calls = [1; WAYS.len()];
-    for (way, calls) in WAYS.into_iter().zip(&mut calls) {
-        if stage.there(way) && !changing {
-            stage.restore(way);
-            *calls = enough(|| stage.run(way));
-        }
+    if !changing {
+        calls = WAYS.map(|way| enough(|| stage.run(way)));
     }
     let mut times: [Vec<f64>; WAYS.len()] = Default::default();
     for round in 0..rounds {
         for k in 0..WAYS.len() {
             let i = (round + k) % WAYS.len();
             let way = WAYS[i];
-            if stage.there(way) {
-                stage.restore(way);
-                let time = section(calls[i], || stage.run(way));
-                times[i].push((time - clock / calls[i] as f64).max(0.0));
-            }
+            stage.restore(way);
+            let time = section(calls[i], || stage.run(way));
+            times[i].push((time - clock / calls[i] as f64).max(0.0));
         }
     }
-    let [own, plain, tuned, words, bytes] = times.map(|t| (!t.is_empty()).then(|| median(t)));
+    let [own, plain, tuned, plain_bytes, words, bytes] = times.map(median);
     Times {
-        own: own.unwrap_or(f64::NAN),
-        plain: plain.unwrap_or(f64::NAN),
-        tuned: tuned.unwrap_or(f64::NAN),
+        own,
+        plain,
+        tuned,
+        plain_bytes,
         words,
         bytes,
     }
@@ -218,6 +211,31 @@ fn plain(call: &Call, state: &mut [u32], buffer: &mut [u32]) -> Reply {
 
 fn tuned(call: &Call, state: &mut [u32], buffer: &mut [u32]) -> Reply {
     job::<true>(call, state, buffer)
+}
+
+/// The plain job on lent bytes: words made of them, and bytes of what the
+/// job wrote.
+fn plain_bytes(call: &Call, state: &mut [u8], _: &[u8], buffer: &mut [u8]) -> Reply {
+    let word = |bytes: &[u8; 4]| u32::from_le_bytes(*bytes);
+    let mut words: Vec<u32> = state.as_chunks().0.iter().map(word).collect();
+    let mut rows = vec![0; call.buffer().least()];
+    let reply = plain(call, &mut words, &mut rows);
+    let written = match call.buffer() {
+        Buffer::Events => 34 * reply.value as usize,
+        Buffer::Listing => 32 * reply.value as usize,
+        _ => rows.len() * usize::from(reply.number == 0),
+    };
+    if call.buffer() == Buffer::Events {
+        encode(&words, state);
+    }
+    encode(&rows[..written], buffer);
+    reply
+}
+
+fn encode(words: &[u32], bytes: &mut [u8]) {
+    for (four, word) in bytes.as_chunks_mut().0.iter_mut().zip(words) {
+        *four = word.to_le_bytes();
+    }
 }
 
 fn reply(r: naskrefim::Reply) -> Reply {

@@ -16,15 +16,8 @@ use reference::{Arguments, Native};
 /// The call on lent words.
 pub fn call<const TUNED: bool>(call: &Call, state: &mut [u32], buffer: &mut [u32]) -> Reply {
     let stateless = matches!(call, Call::Left { .. });
-    let request_words = match call {
-        Call::AddV4 { .. } => 18,
-        Call::DelV4 { .. } => 11,
-        Call::AddRoute4 { .. } => 34,
-        Call::DelRoute4 { .. } => 49,
-        _ => 0,
-    };
     if (!stateless && state.len() != STATE_WORDS)
-        || (request_words > 0 && call.lent().map_or(0, <[u32]>::len) != request_words)
+        || !call.request_whole()
         || buffer.len() < call.buffer().least()
     {
         return Reply::refused(200);

@@ -61,8 +61,12 @@ impl Element for u32 {
     }
 }
 
+fn fault() -> String {
+    std::env::var("MOCK_FAULT").unwrap_or_default()
+}
+
 fn run<E: Element>(call: Call, lent: Lent<E>) -> Reply {
-    let fault = std::env::var("MOCK_FAULT").unwrap_or_default();
+    let fault = fault();
     let changing = call.buffer() == Buffer::Events;
     let misaligned = !lent.state.as_ptr().addr().is_multiple_of(4);
     let call = match (fault.as_str(), call) {
@@ -106,13 +110,24 @@ fn run<E: Element>(call: Call, lent: Lent<E>) -> Reply {
     reply
 }
 
+/// The check alone: what `local4` refuses.
+fn checked(local4: Reply) -> Reply {
+    let lax = fault() == "a lax check" && local4.number == 201;
+    Reply {
+        number: if lax { 0 } else { local4.number },
+        present: 0,
+        value: 0,
+        second: 0,
+    }
+}
+
 macro_rules! exports {
-    ($element:ty: $(
+    ($element:ty, $prefix:literal: $(
         $name:ident($($slice:ident $length:ident),*; $($number:ident: $of:ty),*) $call:expr;
     )*) => {$(
         /// # Safety
         /// Each pointer and length are those of one slice.
-        #[unsafe(no_mangle)]
+        #[unsafe(export_name = concat!($prefix, stringify!($name)))]
         pub unsafe extern "C" fn $name(
             $($slice: *mut $element, $length: usize,)* $($number: $of),*
         ) -> Reply {
@@ -126,37 +141,43 @@ macro_rules! exports {
 
 const NONE: Vec<u32> = Vec::new();
 
+/// All functions of one kind of element.
 macro_rules! all {
-    ($element:ty: $up:ident $down:ident $add_v4:ident $del_v4:ident $expire:ident
-        $add_route4:ident $del_route4:ident $dump4:ident $lookup4:ident $lookup4_flow:ident
-        $local4:ident $source4:ident $source:ident $select4:ident $left:ident) => {
-        exports! { $element:
-            $up(state a, buffer b; now: u64) Call::Up { now };
-            $down(state a, buffer b;) Call::Down;
-            $add_v4(state a, request b, buffer c; now: u64) Call::AddV4 { request: NONE, now };
-            $del_v4(state a, request b, buffer c;) Call::DelV4 { request: NONE };
-            $expire(state a, buffer b; now: u64) Call::Expire { now };
-            $add_route4(state a, request b, buffer c;) Call::AddRoute4 { request: NONE };
-            $del_route4(state a, request b, buffer c;) Call::DelRoute4 { request: NONE };
-            $dump4(state a, buffer b;) Call::Dump4;
-            $lookup4(state a, buffer b; ip: u32) Call::Lookup4 { ip };
-            $lookup4_flow(state a, buffer b; ip: u32, tos: u32, oif: u32)
+    ($element:ty, $prefix:literal) => {
+        use super::*;
+
+        exports! { $element, $prefix:
+            up(state a, buffer b; now: u64) Call::Up { now };
+            down(state a, buffer b;) Call::Down;
+            add_v4(state a, request b, buffer c; now: u64) Call::AddV4 { request: NONE, now };
+            del_v4(state a, request b, buffer c;) Call::DelV4 { request: NONE };
+            expire(state a, buffer b; now: u64) Call::Expire { now };
+            add_route4(state a, request b, buffer c;) Call::AddRoute4 { request: NONE };
+            del_route4(state a, request b, buffer c;) Call::DelRoute4 { request: NONE };
+            dump4(state a, buffer b;) Call::Dump4;
+            lookup4(state a, buffer b; ip: u32) Call::Lookup4 { ip };
+            lookup4_flow(state a, buffer b; ip: u32, tos: u32, oif: u32)
                 Call::Lookup4Flow { ip, tos, oif };
-            $local4(state a; ip: u32) Call::Local4 { ip };
-            $source4(state a, request b; ip: u32) Call::Source4 { row: NONE, ip };
-            $source(state a; ip: u32) Call::Source { ip };
-            $select4(state a; present: u32, dst: u32, scope: u32)
+            local4(state a; ip: u32) Call::Local4 { ip };
+            source4(state a, request b; ip: u32) Call::Source4 { row: NONE, ip };
+            source(state a; ip: u32) Call::Source { ip };
+            select4(state a; present: u32, dst: u32, scope: u32)
                 Call::Select4 { present, dst, scope };
-            $left(request a; now: u64) Call::Left { row: NONE, now };
+            left(request a; now: u64) Call::Left { row: NONE, now };
+        }
+
+        /// # Safety
+        /// The pointer and length are those of one slice.
+        #[unsafe(export_name = concat!($prefix, "check"))]
+        pub unsafe extern "C" fn check(state: *mut $element, length: usize) -> Reply {
+            checked(unsafe { local4(state, length, 0) })
         }
     };
 }
 
-all! { u8: interface4_up interface4_down interface4_add_v4 interface4_del_v4 interface4_expire
-interface4_add_route4 interface4_del_route4 interface4_dump4 interface4_lookup4
-interface4_lookup4_flow interface4_local4 interface4_source4 interface4_source
-interface4_select4 interface4_left }
-all! { u32: interface4w_up interface4w_down interface4w_add_v4 interface4w_del_v4
-interface4w_expire interface4w_add_route4 interface4w_del_route4 interface4w_dump4
-interface4w_lookup4 interface4w_lookup4_flow interface4w_local4 interface4w_source4
-interface4w_source interface4w_select4 interface4w_left }
+pub mod bytes {
+    all! { u8, "interface4_" }
+}
+pub mod words {
+    all! { u32, "interface4w_" }
+}

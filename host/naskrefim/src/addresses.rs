@@ -39,8 +39,7 @@ impl Addresses {
     /// another length, [`Refused::UNFIT_STATE`] for words that are not
     /// well-formed.
     pub fn from_words(state: &[u32]) -> Result<Self, Refused> {
-        // the cheapest call that looks at the whole state
-        accepted(words::local4(state, 0))?;
+        accepted(words::check(state))?;
         let mut all = Self::new();
         all.state.copy_from_slice(state);
         Ok(all)

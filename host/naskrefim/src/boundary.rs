@@ -31,83 +31,65 @@ macro_rules! raw {
     (write $of:ty) => { *mut $of };
 }
 
-/// One safe function for each call: slices, then numbers.
+/// A safe function for each exported one: slices, then numbers.
 macro_rules! calls {
-    ($element:ty: $(
-        $symbol:literal $name:ident($($slice:ident: $how:ident),*; $($number:ident: $of:ty),*);
+    ($element:ty, $prefix:literal: $(
+        $name:ident($($slice:ident: $how:ident),*; $($number:ident: $of:ty),*);
     )*) => {
         use super::Reply;
 
-        /// Which functions the linked library has, by their exported names.
-        pub const EXPORTED: &[&str] = &[$(#[cfg(exported = $symbol)] $symbol,)*];
-
         mod library {
-            #[allow(unused_imports)] // where the library has none of them
             use super::Reply;
             unsafe extern "C" {
                 $(
-                    #[cfg(exported = $symbol)]
-                    #[link_name = $symbol]
+                    #[link_name = concat!($prefix, stringify!($name))]
                     pub fn $name($(_: raw!($how $element), _: usize,)* $(_: $of),*) -> Reply;
                 )*
             }
         }
         $(
-            #[doc = concat!("Calls `", $symbol, "`.")]
-            #[cfg(exported = $symbol)]
+            #[doc = concat!("Calls `", $prefix, stringify!($name), "`.")]
             pub fn $name($($slice: lent!($how $element),)* $($number: $of),*) -> Reply {
                 $(let $slice: raw!($how [$element]) = $slice;)*
                 // SAFETY: each pointer and length are those of one borrowed
                 // slice, borrowed as the library asks and for the whole call
                 unsafe { library::$name($($slice.cast(), $slice.len(),)* $($number),*) }
             }
-            #[doc = concat!("`", $symbol, "` is not in the linked library: panics.")]
-            #[cfg(not(exported = $symbol))]
-            pub fn $name($(_: lent!($how $element),)* $(_: $of),*) -> Reply {
-                panic!("the linked library has no {}", $symbol)
-            }
         )*
+    };
+}
+
+/// The exported functions of one kind of element: their names begin with
+/// the prefix.
+macro_rules! exported {
+    ($element:ty, $prefix:literal) => {
+        calls! { $element, $prefix:
+            up(state: write, events: write; now: u64);
+            down(state: write, events: write;);
+            add_v4(state: write, request: read, events: write; now: u64);
+            del_v4(state: write, request: read, events: write;);
+            expire(state: write, events: write; now: u64);
+            add_route4(state: write, request: read, events: write;);
+            del_route4(state: write, request: read, events: write;);
+            dump4(state: read, listing: write;);
+            lookup4(state: read, row: write; ip: u32);
+            lookup4_flow(state: read, row: write; ip: u32, tos: u32, oif: u32);
+            local4(state: read; ip: u32);
+            source4(state: read, row: read; ip: u32);
+            source(state: read; ip: u32);
+            select4(state: read; dst_present: u32, dst: u32, scope: u32);
+            left(row: read; now: u64);
+            check(state: read;);
+        }
     };
 }
 
 /// The calls on bytes: all words little-endian, slices of any alignment.
 pub mod bytes {
-    calls! { u8:
-        "interface4_up" up(state: write, events: write; now: u64);
-        "interface4_down" down(state: write, events: write;);
-        "interface4_add_v4" add_v4(state: write, request: read, events: write; now: u64);
-        "interface4_del_v4" del_v4(state: write, request: read, events: write;);
-        "interface4_expire" expire(state: write, events: write; now: u64);
-        "interface4_add_route4" add_route4(state: write, request: read, events: write;);
-        "interface4_del_route4" del_route4(state: write, request: read, events: write;);
-        "interface4_dump4" dump4(state: read, listing: write;);
-        "interface4_lookup4" lookup4(state: read, row: write; ip: u32);
-        "interface4_lookup4_flow" lookup4_flow(state: read, row: write; ip: u32, tos: u32, oif: u32);
-        "interface4_local4" local4(state: read; ip: u32);
-        "interface4_source4" source4(state: read, row: read; ip: u32);
-        "interface4_source" source(state: read; ip: u32);
-        "interface4_select4" select4(state: read; dst_present: u32, dst: u32, scope: u32);
-        "interface4_left" left(row: read; now: u64);
-    }
+    exported! { u8, "interface4_" }
 }
 
 /// The calls on words: nothing is copied.
 pub mod words {
-    calls! { u32:
-        "interface4w_up" up(state: write, events: write; now: u64);
-        "interface4w_down" down(state: write, events: write;);
-        "interface4w_add_v4" add_v4(state: write, request: read, events: write; now: u64);
-        "interface4w_del_v4" del_v4(state: write, request: read, events: write;);
-        "interface4w_expire" expire(state: write, events: write; now: u64);
-        "interface4w_add_route4" add_route4(state: write, request: read, events: write;);
-        "interface4w_del_route4" del_route4(state: write, request: read, events: write;);
-        "interface4w_dump4" dump4(state: read, listing: write;);
-        "interface4w_lookup4" lookup4(state: read, row: write; ip: u32);
-        "interface4w_lookup4_flow" lookup4_flow(state: read, row: write; ip: u32, tos: u32, oif: u32);
-        "interface4w_local4" local4(state: read; ip: u32);
-        "interface4w_source4" source4(state: read, row: read; ip: u32);
-        "interface4w_source" source(state: read; ip: u32);
-        "interface4w_select4" select4(state: read; dst_present: u32, dst: u32, scope: u32);
-        "interface4w_left" left(row: read; now: u64);
-    }
+    exported! { u32, "interface4w_" }
 }

@@ -196,6 +196,8 @@ fn words_are_kept_and_taken_up_again() {
         let mut words = *lo.words();
         words[at] = 77;
         assert_eq!(Addresses::from_words(&words), Err(Refused::UNFIT_STATE));
+        let bytes = words.map(u32::to_le_bytes);
+        assert_eq!(naskrefim::bytes::check(bytes.as_flattened()).number, 201);
     }
     assert_eq!(
         Addresses::from_words(&[0; STATE_WORDS]),

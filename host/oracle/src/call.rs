@@ -50,6 +50,20 @@ impl Buffer {
     }
 }
 
+/// The request or row of a borrowed call, borrowed alike.
+macro_rules! lent {
+    ($call:expr) => {
+        match $call {
+            Self::AddV4 { request, .. }
+            | Self::DelV4 { request }
+            | Self::AddRoute4 { request }
+            | Self::DelRoute4 { request } => Some(request),
+            Self::Source4 { row, .. } | Self::Left { row, .. } => Some(row),
+            _ => None,
+        }
+    };
+}
+
 /// How many kinds of call there are; their codes go from 1 to this.
 pub const KINDS: usize = 15;
 
@@ -100,24 +114,22 @@ impl Call {
 
     /// The lent words that it reads and never writes: a request or a row.
     pub fn lent(&self) -> Option<&[u32]> {
-        match self {
-            Self::AddV4 { request, .. }
-            | Self::DelV4 { request }
-            | Self::AddRoute4 { request }
-            | Self::DelRoute4 { request } => Some(request),
-            Self::Source4 { row, .. } | Self::Left { row, .. } => Some(row),
-            _ => None,
-        }
+        lent!(self)
     }
 
     pub fn lent_mut(&mut self) -> Option<&mut Vec<u32>> {
+        lent!(self)
+    }
+
+    /// Whether its request, if it has one, is as long as it must be. A
+    /// handed row is none.
+    pub fn request_whole(&self) -> bool {
         match self {
-            Self::AddV4 { request, .. }
-            | Self::DelV4 { request }
-            | Self::AddRoute4 { request }
-            | Self::DelRoute4 { request } => Some(request),
-            Self::Source4 { row, .. } | Self::Left { row, .. } => Some(row),
-            _ => None,
+            Self::AddV4 { request, .. } => request.len() == ADD_V4_WORDS,
+            Self::DelV4 { request } => request.len() == DEL_V4_WORDS,
+            Self::AddRoute4 { request } => request.len() == ADD_ROUTE4_WORDS,
+            Self::DelRoute4 { request } => request.len() == DEL_ROUTE4_WORDS,
+            _ => true,
         }
     }
 

@@ -31,17 +31,18 @@ pub struct Summary {
     pub no_space: usize,
     /// Calls made on all ports together, those of pairs too.
     pub calls: usize,
-    /// How often each call gave each number, on a port at least.
+    /// How often each call gave each number.
     pub answers: BTreeMap<(&'static str, u32), usize>,
 }
 
 /// The kinds of call that are compared, by their codes less one.
 pub type Kinds = [bool; KINDS];
 
-/// Ports that are compared on the same cases, each for some kinds of call.
-/// The cases and the pairs come from the seed alone.
+/// Ports that are compared on the same cases, for some kinds of call. The
+/// cases and the pairs come from the seed alone.
 pub struct Campaign<'a> {
-    ports: Vec<(&'a mut dyn Port, Kinds)>,
+    ports: Vec<&'a mut dyn Port>,
+    kinds: Kinds,
     seed: u64,
     cases: Cases,
     pairs: Rng,
@@ -50,9 +51,10 @@ pub struct Campaign<'a> {
 }
 
 impl<'a> Campaign<'a> {
-    pub fn new(seed: u64) -> Self {
+    pub fn new(seed: u64, kinds: Kinds) -> Self {
         Self {
             ports: Vec::new(),
+            kinds,
             seed,
             cases: Cases::new(seed, USUAL),
             pairs: Rng::new(seed),
@@ -61,9 +63,9 @@ impl<'a> Campaign<'a> {
         }
     }
 
-    /// Compares `port` too, for calls of these kinds.
-    pub fn with(mut self, port: &'a mut dyn Port, kinds: Kinds) -> Self {
-        self.ports.push((port, kinds));
+    /// Compares `port` too.
+    pub fn with(mut self, port: &'a mut dyn Port) -> Self {
+        self.ports.push(port);
         self
     }
 
@@ -87,16 +89,17 @@ impl<'a> Campaign<'a> {
         Ok(())
     }
 
-    /// The next `count` pairs of runs, on ports with all kinds of call.
+    /// The next `count` pairs of runs; none where only some kinds of call
+    /// are compared, since a run has all of them.
     pub fn pairs(&mut self, count: usize) -> Result<(), String> {
+        if self.kinds != [true; KINDS] {
+            return Ok(());
+        }
         for _ in 0..count {
             let pair = pairs::pair(&mut self.pairs);
             let i = self.pairs_drawn;
             self.pairs_drawn += 1;
-            for (port, kinds) in &mut self.ports {
-                if !kinds.iter().all(|&compared| compared) {
-                    continue;
-                }
+            for port in &mut self.ports {
                 match pairs::try_pair(&mut Words(&mut **port), &pair) {
                     pairs::Result::Alike { .. } => self.summary.pairs += 1,
                     pairs::Result::NoSpace => self.summary.no_space += 1,
@@ -114,18 +117,16 @@ impl<'a> Campaign<'a> {
         Ok(())
     }
 
-    /// One case on every port. Whether any port was compared on it.
+    /// One case on every port. Whether it was of a kind that is compared.
     fn one(&mut self, case: &Case) -> Result<bool, String> {
         let kind = case.call.code() as usize - 1;
-        if !self.ports.iter().any(|(_, kinds)| kinds[kind]) {
+        if !self.kinds[kind] {
             return Ok(false);
         }
         let expected = expected(case);
-        for (port, kinds) in &mut self.ports {
-            if kinds[kind] {
-                against(*port, case, &expected).map_err(|found| smallest(*port, case, found))?;
-                self.summary.calls += 1;
-            }
+        for port in &mut self.ports {
+            against(*port, case, &expected).map_err(|found| smallest(*port, case, found))?;
+            self.summary.calls += 1;
         }
         let answer = (NAMES[kind], expected.reply.number);
         *self.summary.answers.entry(answer).or_default() += 1;
@@ -150,7 +151,7 @@ pub fn by_hand() -> Vec<Case> {
 /// Compares `port` with the model. Gives the first difference with the
 /// smallest case found for it, as text.
 pub fn run(port: &mut dyn Port, amount: Amount) -> Result<Summary, String> {
-    let mut campaign = Campaign::new(amount.seed).with(port, [true; KINDS]);
+    let mut campaign = Campaign::new(amount.seed, [true; KINDS]).with(port);
     campaign.by_hand()?;
     campaign.cases(amount.cases)?;
     campaign.pairs(amount.pairs)?;

@@ -218,14 +218,9 @@ fn lookups(checks: &mut Checks) {
             tos,
             ..route("10.2.0.0/24").up()
         });
-        let flow = s.call(Call::Lookup4Flow {
-            ip: ip("10.2.0.1"),
-            tos: asked,
-            oif: 0,
-        });
         checks.same(
             &format!("+ row tos {tos}, flow tos {asked:#x}"),
-            flow.reply.number,
+            s.flow("10.2.0.1", asked).reply.number,
             number,
         );
     }

@@ -11,6 +11,7 @@ pub fn check(checks: &mut Checks) {
     changes(checks);
     strays(checks);
     no_events(checks);
+    scopes(checks);
     space(checks);
     most_events(checks);
 }
@@ -221,6 +222,45 @@ fn no_events(checks: &mut Checks) {
     );
 }
 
+/// A smaller number is a wider scope.
+fn scopes(checks: &mut Checks) {
+    let mut s = Script::default();
+    s.add(NewAddress {
+        scope: 254,
+        ..address("10.1.0.5/24")
+    });
+    let told = s.call(Call::Select4 {
+        present: 0,
+        dst: 0,
+        scope: 0,
+    });
+    checks.same(
+        "C8 select4 has no second choice",
+        told.reply,
+        Reply::default(),
+    );
+    let second = |[first, second]: [u32; 2]| {
+        let mut s = Script::default();
+        for (text, scope) in [("10.1.0.5/24", first), ("10.2.0.5/24", second)] {
+            s.add(NewAddress {
+                scope,
+                ..address(text)
+            });
+        }
+        words::address_at(&s.state, 1)[0]
+    };
+    checks.same(
+        "C9 a primary of wider scope goes behind",
+        second([253, 0]),
+        ip("10.2.0.5"),
+    );
+    checks.same(
+        "C9 one of narrower scope in front",
+        second([0, 253]),
+        ip("10.1.0.5"),
+    );
+}
+
 /// A state with `routes` rows that no address wants.
 fn filled(addresses: usize, routes: usize, tables: Vec<u32>) -> Lists {
     let mut lists = Lists {
@@ -279,31 +319,15 @@ fn space(checks: &mut Checks) {
         len: 33,
         ..route("10.2.0.0/24")
     };
-    let full: Vec<u32> = (1000..1032).collect();
-    let mut s = script(&filled(0, 0, full.clone()));
-    let told = s.add_route(bad(7));
-    checks.same(
-        "a bad request that names a 33rd table",
-        told.reply,
-        Reply::refused(203),
-    );
-    let told = s.add_route(bad(1000));
-    checks.same(
-        "a bad request that names a listed one",
-        told.reply,
-        Reply::refused(22),
-    );
-    let mut s = script(&filled(0, 0, full[..31].to_vec()));
-    checks.same(
-        "255 at 31 tables without 254",
-        s.add_route(bad(255)).reply,
-        Reply::refused(203),
-    );
-    checks.same(
-        "254 at 31 tables",
-        s.add_route(bad(254)).reply,
-        Reply::refused(22),
-    );
+    for (name, tables, table, number) in [
+        ("a bad request that names a 33rd table", 32, 7, 203),
+        ("a bad request that names a listed one", 32, 1000, 22),
+        ("255 at 31 tables without 254", 31, 255, 203),
+        ("254 at 31 tables", 31, 254, 22),
+    ] {
+        let mut s = script(&filled(0, 0, (1000..1000 + tables).collect()));
+        checks.same(name, s.add_route(bad(table)).reply, Reply::refused(number));
+    }
     let mut s = script(&filled(64, 0, usual()));
     let told = s.add(address("12.0.0.1/24"));
     checks.same(
@@ -318,30 +342,18 @@ fn space(checks: &mut Checks) {
         scope: 0,
         ..route("11.0.0.0/24").rejecting(6)
     };
-    checks.same(
-        "a duplicate at 256 routes",
-        s.add_route(again).reply,
-        Reply::refused(17),
-    );
-    let other = Route {
+    let new = |request| Route {
         dst: ip("13.0.0.0"),
-        request: 0,
+        request,
         ..again
     };
-    checks.same(
-        "no create flag at 256 routes",
-        s.add_route(other).reply,
-        Reply::refused(2),
-    );
-    let other = Route {
-        request: 0x400,
-        ..other
-    };
-    checks.same(
-        "a new row at 256 routes",
-        s.add_route(other).reply,
-        Reply::refused(203),
-    );
+    for (name, ask, number) in [
+        ("a duplicate at 256 routes", again, 17),
+        ("no create flag at 256 routes", new(0), 2),
+        ("a new row at 256 routes", new(0x400), 203),
+    ] {
+        checks.same(name, s.add_route(ask).reply, Reply::refused(number));
+    }
 }
 
 /// 63 NewAddr4, 64 DelAddr4 and 256 DelRoute4 in one `expire`.
@@ -364,18 +376,8 @@ fn most_events(checks: &mut Checks) {
         lists.routes.push(row);
     }
     let mut local: RouteRow = [0; 32];
-    local[..10].copy_from_slice(&[
-        255,
-        ip("12.0.0.64"),
-        32,
-        0,
-        0,
-        2,
-        2,
-        254,
-        1,
-        ip("12.0.0.64"),
-    ]);
+    local[..3].copy_from_slice(&[255, ip("12.0.0.64"), 32]);
+    local[5..10].copy_from_slice(&[2, 2, 254, 1, ip("12.0.0.64")]);
     local[12] = 1;
     lists.routes.push(local);
     let mut s = script(&lists);

@@ -1,7 +1,7 @@
 //! The differences between the Rust and Linux that docs/DIFFERENCES.md
 //! lists: each smallest sequence on the Rust, with what the Rust does. What
 //! Linux does was observed on a kernel and is not run here.
-use crate::call::{Call, Reply};
+use crate::call::Reply;
 use crate::checks::{Checks, lines};
 use crate::script::{FOREVER, NewAddress, Route, Script, address, ip, route};
 use crate::words;
@@ -331,12 +331,9 @@ fn clock_and_up(checks: &mut Checks) {
     );
     let mut s = started();
     s.add_route(route("127.5.0.0/16").up());
-    let told = s.call(Call::Lookup4 {
-        ip: ip("127.5.6.7"),
-    });
     checks.same(
         "L20 255 and 254 are one set: a longer main row wins",
-        told.text,
+        s.lookup("127.5.6.7").text,
         lines(&["254 127.5.0.0/16 kind 1"]),
     );
 }

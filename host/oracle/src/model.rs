@@ -1,6 +1,6 @@
 //! The model: what each call does to lent words. 200, 201, 202 and 203 in
 //! that order, then the Rust on the decoded lists, then back to words.
-use crate::call::{ADD_ROUTE4_WORDS, ADD_V4_WORDS, Call, DEL_ROUTE4_WORDS, DEL_V4_WORDS, Reply};
+use crate::call::{Call, Reply};
 use crate::words::{LIMITS, STATE_WORDS, decode, encode_into};
 use crate::{fit, well_formed};
 use reference::{Answer, Lists, Outcome};
@@ -74,15 +74,8 @@ pub fn passes(peaks: [usize; 3]) -> bool {
 
 /// 200: the lengths of the state, the request and the buffer.
 fn lengths(call: &Call, state: &[u32], buffer: usize) -> Result<(), u32> {
-    let request = match call {
-        Call::AddV4 { request, .. } => request.len() == ADD_V4_WORDS,
-        Call::DelV4 { request } => request.len() == DEL_V4_WORDS,
-        Call::AddRoute4 { request } => request.len() == ADD_ROUTE4_WORDS,
-        Call::DelRoute4 { request } => request.len() == DEL_ROUTE4_WORDS,
-        _ => true,
-    };
     let state = matches!(call, Call::Left { .. }) || state.len() == STATE_WORDS;
-    if state && request && buffer >= call.buffer().least() {
+    if state && call.request_whole() && buffer >= call.buffer().least() {
         Ok(())
     } else {
         Err(UNFIT_BUFFER)

@@ -1,12 +1,13 @@
 //! Where the Rust differs from the RFCs that document 01 names, and from
 //! those that they lean on (docs/DIFFERENCES.md).
-use crate::call::{Call, Reply};
+use crate::call::Reply;
 use crate::checks::{Checks, lines};
-use crate::script::{Route, Script, address, ip, route};
+use crate::script::{Route, Script, address, route};
 
 pub fn check(checks: &mut Checks) {
     longest_match(checks);
     type_of_service(checks);
+    weak_type_of_service(checks);
     special_addresses(checks);
     broadcast(checks);
 }
@@ -50,15 +51,33 @@ fn type_of_service(checks: &mut Checks) {
             tos,
             ..route("10.2.0.0/24").up()
         });
-        let flow = s.call(Call::Lookup4Flow {
-            ip: ip("10.2.0.1"),
-            tos,
-            oif: 0,
-        });
         checks.same(
             &format!("R3 row tos {tos}, flow tos {tos}"),
-            flow.reply.number,
+            s.flow("10.2.0.1", tos).reply.number,
             number,
+        );
+    }
+}
+
+/// Of rows as long, the first in the list answers: by table, then by tos.
+fn weak_type_of_service(checks: &mut Checks) {
+    for (table, first) in [
+        (255, "255 10.2.0.0/24 kind 1"),
+        (254, "254 10.2.0.0/24 kind 1 tos 8"),
+    ] {
+        let mut s = Script::default();
+        s.add_route(Route {
+            table,
+            ..route("10.2.0.0/24").up()
+        });
+        s.add_route(Route {
+            tos: 8,
+            ..route("10.2.0.0/24").up()
+        });
+        checks.same(
+            &format!("R5 a row of {table} without tos beside one of 254 with the flow's"),
+            s.flow("10.2.0.1", 8).text,
+            lines(&[first]),
         );
     }
 }

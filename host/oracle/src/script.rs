@@ -240,6 +240,11 @@ impl Script {
     pub fn lookup(&mut self, text: &str) -> Told {
         self.call(Call::Lookup4 { ip: ip(text) })
     }
+    /// The lookup of a flow with `tos`, through any device.
+    pub fn flow(&mut self, text: &str, tos: u32) -> Told {
+        let (ip, oif) = (ip(text), 0);
+        self.call(Call::Lookup4Flow { ip, tos, oif })
+    }
     pub fn tables(&self) -> Vec<u32> {
         words::decode(&self.state).tables
     }

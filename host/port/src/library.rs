@@ -2,22 +2,27 @@
 use crate::guarded::Guard;
 use crate::guarded::Lent::{Read, Write};
 use naskrefim::{bytes, words};
-use oracle::call::{Call, KINDS, NAMES, Reply};
-use oracle::campaign::Kinds;
+use oracle::call::{Call, Reply};
 use oracle::port::{Port, WordPort};
 
 /// What guards hold: no row has such words by chance.
 const BYTE: u8 = 0xc3;
 const WORD: u32 = 0xc3d2_e1f0;
 
-/// The calls that the linked library has, of those whose exported names
-/// begin so.
-pub fn exported(names: &[&str], prefix: &str) -> Kinds {
-    let mut kinds = [false; KINDS];
-    for (kind, name) in kinds.iter_mut().zip(NAMES) {
-        *kind = names.contains(&format!("{prefix}{name}").as_str());
+/// The reply of `local4`, if the check alone refuses just as it does; else
+/// one that no call gives.
+fn checked(local4: naskrefim::Reply, check: naskrefim::Reply) -> naskrefim::Reply {
+    let number = local4.number;
+    let none = naskrefim::Reply::default();
+    let same = check == naskrefim::Reply { number, ..none };
+    if same {
+        local4
+    } else {
+        naskrefim::Reply {
+            number: u32::MAX,
+            ..none
+        }
     }
-    kinds
 }
 
 fn reply(reply: naskrefim::Reply) -> Reply {
@@ -90,8 +95,8 @@ impl Port for OnBytes {
         reply(self.0.lend(BYTE, lent, call))
     }
     fn local4(&mut self, state: &[u8], ip: u32) -> Reply {
-        let lent = [Read(state)];
-        reply(self.0.lend(BYTE, lent, |[s]| bytes::local4(s, ip)))
+        let call = |[s]: [&mut [u8]; 1]| checked(bytes::local4(s, ip), bytes::check(s));
+        reply(self.0.lend(BYTE, [Read(state)], call))
     }
     fn source4(&mut self, state: &[u8], row: &[u8], ip: u32) -> Reply {
         let lent = [Read(state), Read(row)];
@@ -160,7 +165,9 @@ impl WordPort for OnWords {
                 let lent = [Read(state), Write(buffer)];
                 given.lend(WORD, lent, |[s, r]| words::lookup4_flow(s, r, ip, tos, oif))
             }
-            Call::Local4 { ip } => given.lend(WORD, [Read(state)], |[s]| words::local4(s, ip)),
+            Call::Local4 { ip } => given.lend(WORD, [Read(state)], |[s]| {
+                checked(words::local4(s, ip), words::check(s))
+            }),
             Call::Source4 { ip, .. } => {
                 let lent = [Read(state), Read(lent)];
                 given.lend(WORD, lent, |[s, r]| words::source4(s, r, ip))

@@ -5,7 +5,7 @@ mod library;
 mod records;
 mod typed;
 
-use library::{OnBytes, OnWords, exported};
+use library::{OnBytes, OnWords};
 use oracle::call::{KINDS, NAMES};
 use oracle::campaign::{Campaign, Kinds, Summary};
 use oracle::port::{Bytes, Port};
@@ -21,9 +21,6 @@ const USAGE: &str = "usage: port [OPTION VALUE]..
   --seed N           where they come from; a fresh seed if it isn't given
   --calls A,B,..     only these calls (then no pairs)
   --boundary WHICH   bytes, words or addresses; all if it isn't given";
-
-/// Where `local4` stands among the calls.
-const LOCAL4: usize = 10;
 
 /// What comes between two looks at the clock.
 const BATCH: usize = 500;
@@ -104,31 +101,33 @@ fn run(options: &Options) -> Result<(), String> {
     println!("interface.rs: sha256 {}", reference::INTERFACE_SHA256);
     println!("library: {}", naskrefim::LIBRARY);
     println!("seed {}", options.seed);
-    let on_bytes = exported(naskrefim::bytes::EXPORTED, "interface4_");
-    let on_words = exported(naskrefim::words::EXPORTED, "interface4w_");
-    // a state's words are taken up by way of one call
-    let typed = on_words.map(|there| there && on_words[LOCAL4]);
-    let mut ports: [(Box<dyn Port>, Kinds); 3] = [
-        (Box::new(OnBytes::default()), on_bytes),
-        (Box::new(Bytes(OnWords::default())), on_words),
-        (Box::new(Bytes(Typed::default())), typed),
+    println!("compared: {}", compared(options));
+    let mut ports: [Box<dyn Port>; 3] = [
+        Box::new(OnBytes::default()),
+        Box::new(Bytes(OnWords::default())),
+        Box::new(Bytes(Typed::default())),
     ];
-    let mut campaign = Campaign::new(options.seed);
-    let mut any = false;
-    for (name, (port, there)) in BOUNDARIES.iter().zip(&mut ports) {
+    let mut campaign = Campaign::new(options.seed, options.calls);
+    for (name, port) in BOUNDARIES.iter().zip(&mut ports) {
         if options.boundary.as_ref().is_none_or(|asked| asked == name) {
-            let kinds = both(name, options.calls, *there);
-            any |= kinds.contains(&true);
-            campaign = campaign.with(&mut **port, kinds);
+            campaign = campaign.with(&mut **port);
         }
-    }
-    if !any {
-        return Err("the linked library has none of these calls".to_string());
     }
     let begin = Instant::now();
     let found = compare(&mut campaign, options, begin);
     say(&campaign.summary, begin.elapsed(), options.seed);
     found.inspect(|()| println!("port: nothing found"))
+}
+
+/// Which calls, and on what.
+fn compared(options: &Options) -> String {
+    let on = options.boundary.clone().unwrap_or(BOUNDARIES.join(", "));
+    if options.calls == [true; KINDS] {
+        return format!("all calls, on {on}");
+    }
+    let asked = NAMES.iter().zip(options.calls).filter(|(_, asked)| *asked);
+    let names: Vec<&str> = asked.map(|(name, _)| *name).collect();
+    format!("only {}, on {on}, and no pairs of runs", names.join(", "))
 }
 
 fn compare(campaign: &mut Campaign, options: &Options, begin: Instant) -> Result<(), String> {
@@ -142,25 +141,6 @@ fn compare(campaign: &mut Campaign, options: &Options, begin: Instant) -> Result
         campaign.pairs(PAIRS_PER_BATCH)?;
     }
     Ok(())
-}
-
-/// The calls asked for that are there; says which are not.
-fn both(what: &str, asked: Kinds, there: Kinds) -> Kinds {
-    let mut kinds = asked;
-    let mut missing = Vec::new();
-    for (i, kind) in kinds.iter_mut().enumerate() {
-        if *kind && !there[i] {
-            *kind = false;
-            missing.push(NAMES[i]);
-        }
-    }
-    if !missing.is_empty() {
-        println!(
-            "on {what}: NOT COMPARED, not in the library: {}",
-            missing.join(", ")
-        );
-    }
-    kinds
 }
 
 fn say(summary: &Summary, time: Duration, seed: u64) {

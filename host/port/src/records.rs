@@ -39,54 +39,50 @@ pub fn address(w: &[u32]) -> V4 {
     new
 }
 
-pub fn ask(w: &[u32]) -> Ask4 {
-    let mut ask = Ask4::new(w[1].into(), byte(w[2]));
-    ask.table = w[0];
-    ask.tos = byte(w[3]);
-    ask.priority = w[4];
-    ask.kind = byte(w[5]);
-    ask.proto = byte(w[6]);
-    ask.scope = byte(w[7]);
-    ask.prefsrc = there(w[8], w[9]);
-    ask.gateway = there(w[10], w[11]);
-    ask.oif = w[12];
-    ask.flags = w[13];
-    ask.request = u16::try_from(w[14]).expect("16 bits were checked");
-    ask.metrics = match Refused::of(w[15]) {
-        None => Ok(w[16..33].try_into().expect("17 metrics")),
-        Some(error) => Err(error),
+/// A route or a request for one: the twelve words with which each begins,
+/// but for the kind, and what else it has.
+macro_rules! route {
+    ($of:ident of $w:ident: $($rest:tt)*) => {
+        $of {
+            table: $w[0],
+            dst: $w[1].into(),
+            len: byte($w[2]),
+            tos: byte($w[3]),
+            priority: $w[4],
+            proto: byte($w[6]),
+            scope: byte($w[7]),
+            prefsrc: there($w[8], $w[9]),
+            gateway: there($w[10], $w[11]),
+            $($rest)*
+        }
     };
-    ask
+}
+
+pub fn ask(w: &[u32]) -> Ask4 {
+    route! { Ask4 of w:
+        kind: byte(w[5]),
+        oif: w[12],
+        flags: w[13],
+        request: u16::try_from(w[14]).expect("16 bits were checked"),
+        metrics: match Refused::of(w[15]) {
+            None => Ok(w[16..33].try_into().expect("17 metrics")),
+            Some(error) => Err(error),
+        },
+    }
 }
 
 pub fn select(w: &[u32]) -> Select4 {
-    let mut select = Select4::new(w[1].into(), byte(w[2]));
-    select.table = w[0];
-    select.tos = byte(w[3]);
-    select.priority = w[4];
-    select.kind = byte(w[5]);
-    select.proto = byte(w[6]);
-    select.scope = byte(w[7]);
-    select.prefsrc = there(w[8], w[9]);
-    select.gateway = there(w[10], w[11]);
-    select.oif = w[12];
     let pairs = w[15..].chunks_exact(2).take(w[14] as usize);
-    select.metrics = flag(w[13]).then(|| pairs.map(|p| (p[0] as usize, p[1])).collect());
-    select
+    route! { Select4 of w:
+        kind: byte(w[5]),
+        oif: w[12],
+        metrics: flag(w[13]).then(|| pairs.map(|p| (p[0] as usize, p[1])).collect()),
+    }
 }
 
 pub fn route(w: &[u32]) -> Route4 {
-    Route4 {
-        table: w[0],
-        dst: w[1].into(),
-        len: byte(w[2]),
-        tos: byte(w[3]),
-        priority: w[4],
+    route! { Route4 of w:
         kind: Kind::of(byte(w[5])).expect("a kind was checked"),
-        proto: byte(w[6]),
-        scope: byte(w[7]),
-        prefsrc: there(w[8], w[9]),
-        gateway: there(w[10], w[11]),
         device: flag(w[12]),
         onlink: flag(w[13]),
         uses_gateway: flag(w[14]),

@@ -30,6 +30,8 @@ impl WordPort for Typed {
             };
         }
         let mut lo = match Addresses::from_words(state) {
+            // no call replies so: the comparison stops here
+            Ok(_) if !well_formed::state(state) => return Reply::refused(u32::MAX),
             Ok(lo) => lo,
             Err(refused) => return Reply::refused(refused.number()),
         };
@@ -42,17 +44,10 @@ impl WordPort for Typed {
 /// Whether records can say the call: its lengths are right, its fields
 /// within their widths, and a row handed in has a kind.
 fn sayable(call: &Call, state: usize, buffer: usize) -> bool {
-    let words = match call {
-        Call::AddV4 { .. } => 18,
-        Call::DelV4 { .. } => 11,
-        Call::AddRoute4 { .. } => 34,
-        Call::DelRoute4 { .. } => 49,
-        _ => 0,
-    };
     let row = match call {
         Call::Source4 { row, .. } => row[..].try_into().is_ok_and(well_formed::route),
         Call::Left { row, .. } => row[..].try_into().is_ok_and(well_formed::address),
-        _ => call.lent().map_or(0, <[u32]>::len) == words,
+        _ => call.request_whole(),
     };
     let state = state == STATE_WORDS || matches!(call, Call::Left { .. });
     row && state && buffer >= call.buffer().least() && fit::request(call).is_some()

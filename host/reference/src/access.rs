@@ -5,20 +5,13 @@ pub(crate) mod native;
 
 use super::*;
 use crate::{AddressRow, Answer, EventRow, Lists, Request, RouteRow};
+use native::{Arguments, Native};
 
 /// Runs one call on a namespace that has `lists` and nothing else.
 pub(crate) fn run(lists: &Lists, request: &Request) -> (Answer, Lists) {
-    let mut all = Addresses::isolated();
-    all.v4 = lists.addresses.iter().map(address_of).collect();
-    all.routes4 = lists.routes.iter().map(route_of).collect();
-    all.tables4.clone_from(&lists.tables);
-    let answer = answer(&mut all, request);
-    let after = Lists {
-        addresses: all.v4.iter().map(address_row).collect(),
-        routes: all.routes4.iter().map(route_row).collect(),
-        tables: all.tables4,
-    };
-    (answer, after)
+    let mut all = Native::of(&lists.addresses, &lists.routes, &lists.tables);
+    let told = all.call(&Arguments::of(request));
+    (told.answer(), all.lists())
 }
 
 pub(crate) fn mask(prefix: u8) -> u32 {
@@ -32,69 +25,7 @@ pub(crate) fn kind_error(code: u8) -> Option<Option<u32>> {
     })
 }
 
-fn answer(all: &mut Addresses, request: &Request) -> Answer {
-    match *request {
-        Request::Up { now } => events(Ok(all.up(now))),
-        Request::Down => events(Ok(all.down())),
-        Request::AddV4 { request: w, now } => {
-            let mut row = [0; 20];
-            row[..14].copy_from_slice(&w[..14]);
-            let lifetimes = Lifetimes {
-                valid: w[14],
-                preferred: w[15],
-            };
-            events(all.add_v4(address_of(&row), lifetimes, w[16] == 1, w[17] == 1, now))
-        }
-        Request::DelV4 { request: w } => {
-            let label = label_of(w[6], &w[7..11]);
-            events(all.del_v4(
-                option(w[0], w[1]),
-                option(w[2], w[3]),
-                byte(w[4]),
-                (w[5] == 1).then_some(&label[..]),
-            ))
-        }
-        Request::Expire { now } => events(Ok(all.expire(now))),
-        Request::AddRoute4 { request: w } => events(all.add_route4(&ask_of(w), w[33] == 1)),
-        Request::DelRoute4 { request: w } => events(all.del_route4(&select_of(w))),
-        Request::Dump4 => Answer::Rows(all.dump4().iter().map(route_row).collect()),
-        Request::Lookup4 { ip } => row(all.lookup4(Ipv4Addr::from(ip))),
-        Request::Lookup4Flow { ip, tos, oif } => {
-            row(all.lookup4_flow(Ipv4Addr::from(ip), tos, oif))
-        }
-        Request::Local4 { ip } => Answer::Yes(all.local4(Ipv4Addr::from(ip))),
-        Request::Source4 { row, ip } => {
-            Answer::Address(number(all.source4(&route_of(row), Ipv4Addr::from(ip))))
-        }
-        Request::Source { ip } => match all.source(IpAddr::V4(Ipv4Addr::from(ip))) {
-            IpAddr::V4(source) => Answer::Address(Some(u32::from(source))),
-            IpAddr::V6(_) => unreachable!("an IPv4 destination has an IPv4 source"),
-        },
-        Request::Select4 { dst, scope } => {
-            Answer::Address(number(all.select4(dst.map(Ipv4Addr::from), scope)))
-        }
-        Request::Left { row, now } => {
-            let (preferred, valid) = address_of(row).left(now);
-            Answer::Left { preferred, valid }
-        }
-    }
-}
-
-/// The IPv4 events as rows: the IPv6 ones are struck out.
-fn events(told: Result<Vec<Event>, Errno>) -> Answer {
-    match told {
-        Ok(told) => Answer::Events(told.iter().filter_map(event_row).collect()),
-        Err(e) => Answer::Refused(e.0),
-    }
-}
-
-fn row(found: Result<Route4, Errno>) -> Answer {
-    match found {
-        Ok(route) => Answer::Row(route_row(&route)),
-        Err(e) => Answer::Refused(e.0),
-    }
-}
-
+/// The row of an IPv4 event; the IPv6 ones are struck out.
 fn event_row(event: &Event) -> Option<EventRow> {
     let mut row = [0; 34];
     match event {
@@ -126,9 +57,6 @@ fn byte(word: u32) -> u8 {
 }
 fn option(present: u32, value: u32) -> Option<Ipv4Addr> {
     (present == 1).then(|| Ipv4Addr::from(value))
-}
-fn number(address: Option<Ipv4Addr>) -> Option<u32> {
-    address.map(u32::from)
 }
 fn label_of(length: u32, words: &[u32]) -> Vec<u8> {
     let bytes: Vec<u8> = words.iter().flat_map(|w| w.to_le_bytes()).collect();
@@ -187,22 +115,54 @@ fn metrics_of(words: &[u32]) -> Metrics {
     metrics
 }
 
+/// A route or a request for one: the twelve words with which each begins,
+/// but for the kind, and what else it has.
+macro_rules! route {
+    ($of:ident of $w:ident: $($rest:tt)*) => {
+        $of {
+            table: $w[0],
+            dst: Ipv4Addr::from($w[1]),
+            len: byte($w[2]),
+            tos: byte($w[3]),
+            priority: $w[4],
+            proto: byte($w[6]),
+            scope: byte($w[7]),
+            prefsrc: option($w[8], $w[9]),
+            gateway: option($w[10], $w[11]),
+            $($rest)*
+        }
+    };
+}
+
 fn route_of(row: &RouteRow) -> Route4 {
-    Route4 {
-        table: row[0],
-        dst: Ipv4Addr::from(row[1]),
-        len: byte(row[2]),
-        tos: byte(row[3]),
-        priority: row[4],
+    route! { Route4 of row:
         kind: Kind::of(byte(row[5])).expect("a row's kind was checked"),
-        proto: byte(row[6]),
-        scope: byte(row[7]),
-        prefsrc: option(row[8], row[9]),
-        gateway: option(row[10], row[11]),
         device: row[12] == 1,
         onlink: row[13] == 1,
         uses_gateway: row[14] == 1,
         metrics: metrics_of(&row[15..]),
+    }
+}
+
+fn ask_of(w: &[u32; 34]) -> Ask4 {
+    route! { Ask4 of w:
+        kind: byte(w[5]),
+        oif: w[12],
+        flags: w[13],
+        request: u16::try_from(w[14]).expect("16 bits were checked"),
+        metrics: match w[15] {
+            0 => Ok(metrics_of(&w[16..33])),
+            e => Err(Errno(e)),
+        },
+    }
+}
+
+fn select_of(w: &[u32; 49]) -> Select4 {
+    let pairs = w[15..].chunks_exact(2).take(w[14] as usize);
+    route! { Select4 of w:
+        kind: byte(w[5]),
+        oif: w[12],
+        metrics: (w[13] == 1).then(|| pairs.map(|p| (p[0] as usize, p[1])).collect()),
     }
 }
 
@@ -225,44 +185,4 @@ fn route_row(r: &Route4) -> RouteRow {
     row[14] = u32::from(r.uses_gateway);
     row[15..].copy_from_slice(&r.metrics);
     row
-}
-
-fn ask_of(w: &[u32; 34]) -> Ask4 {
-    Ask4 {
-        table: w[0],
-        dst: Ipv4Addr::from(w[1]),
-        len: byte(w[2]),
-        tos: byte(w[3]),
-        priority: w[4],
-        kind: byte(w[5]),
-        proto: byte(w[6]),
-        scope: byte(w[7]),
-        prefsrc: option(w[8], w[9]),
-        gateway: option(w[10], w[11]),
-        oif: w[12],
-        flags: w[13],
-        request: u16::try_from(w[14]).expect("16 bits were checked"),
-        metrics: match w[15] {
-            0 => Ok(metrics_of(&w[16..33])),
-            e => Err(Errno(e)),
-        },
-    }
-}
-
-fn select_of(w: &[u32; 49]) -> Select4 {
-    let pairs = w[15..].chunks_exact(2).take(w[14] as usize);
-    Select4 {
-        table: w[0],
-        dst: Ipv4Addr::from(w[1]),
-        len: byte(w[2]),
-        tos: byte(w[3]),
-        priority: w[4],
-        kind: byte(w[5]),
-        proto: byte(w[6]),
-        scope: byte(w[7]),
-        prefsrc: option(w[8], w[9]),
-        gateway: option(w[10], w[11]),
-        oif: w[12],
-        metrics: (w[13] == 1).then(|| pairs.map(|p| (p[0] as usize, p[1])).collect()),
-    }
 }

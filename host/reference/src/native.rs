@@ -1,10 +1,10 @@
 //! The Rust on its own lists, as a caller within its crate has it: typed
-//! arguments in, its own results out, both behind this crate's types. For
-//! measuring it, and for the same job done on lent words.
+//! arguments in, its own results out, both behind this crate's types. The
+//! oracle's answers come from it, and it is measured.
 use super::super::*;
 use super::{address_of, address_row, ask_of, byte, event_row, label_of, option};
 use super::{route_of, route_row, select_of};
-use crate::{AddressRow, EventRow, Request, RouteRow};
+use crate::{AddressRow, Answer, EventRow, Lists, Request, RouteRow};
 
 /// The lists of a namespace.
 pub struct Native(Addresses);
@@ -115,7 +115,7 @@ impl Native {
             Typed::Source4(route, ip) => Given::Address(all.source4(route, *ip)),
             Typed::Source(ip) => Given::Address(match all.source(IpAddr::V4(*ip)) {
                 IpAddr::V4(source) => Some(source),
-                IpAddr::V6(_) => None,
+                IpAddr::V6(_) => unreachable!("an IPv4 destination has an IPv4 source"),
             }),
             Typed::Select4(dst, scope) => Given::Address(all.select4(*dst, *scope)),
             Typed::Left(address, now) => {
@@ -123,6 +123,15 @@ impl Native {
                 Given::Left(preferred, valid)
             }
         })
+    }
+
+    /// The lists' rows.
+    pub(super) fn lists(&self) -> Lists {
+        Lists {
+            addresses: self.0.v4.iter().map(address_row).collect(),
+            routes: self.0.routes4.iter().map(route_row).collect(),
+            tables: self.0.tables4.clone(),
+        }
     }
 
     pub fn lengths(&self) -> [usize; 3] {
@@ -142,6 +151,22 @@ impl Native {
 }
 
 impl Told {
+    /// What was told, in rows.
+    pub(super) fn answer(&self) -> Answer {
+        match &self.0 {
+            Given::Events(Err(e)) | Given::Row(Err(e)) => Answer::Refused(e.0),
+            Given::Events(Ok(told)) => Answer::Events(told.iter().filter_map(event_row).collect()),
+            Given::Rows(routes) => Answer::Rows(routes.iter().map(route_row).collect()),
+            Given::Row(Ok(route)) => Answer::Row(route_row(route)),
+            Given::Yes(yes) => Answer::Yes(*yes),
+            Given::Address(source) => Answer::Address(source.map(u32::from)),
+            Given::Left(preferred, valid) => Answer::Left {
+                preferred: *preferred,
+                valid: *valid,
+            },
+        }
+    }
+
     /// Writes what was told into `buffer` as rows. Gives the reply: its
     /// number, then whether there is a value, and two values.
     pub fn write(&self, buffer: &mut [u32]) -> [u32; 4] {

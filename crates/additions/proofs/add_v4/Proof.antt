@@ -10,7 +10,8 @@ use Rattle.definition.specs.Kept.Numbers.{addV4-number}
 use Rattle.interface.specs.Laws.{held}
 use Rattle.changes.specs.Laws.{change-made}
 use Rattle.changes.specs.Requests.{by-fit, request-no, request-fits, encoded}
-use Rattle.additions.specs.Laws.{cameOf, comes-answers, addV4-leaves, good-passed, bring-sound}
+use Rattle.definition.specs.Laws.Refusals.{addV4-leaves}
+use Rattle.additions.specs.Laws.{cameOf, comes-answers, good-passed, bring-sound}
 use borrow.Author.Needs.{needs}
 use Rattle.additions.proofs.add_v4.Statement.{statement}
 use Rattle.additions.proofs.add_v4.Tie as tie

@@ -14,11 +14,11 @@ shared-slice-read-least-scope c = search needs
 least-scope-requires : tie.Need-least-scope-requires
 least-scope-requires c κs = search needs
 
-shared-slice-read-is-kind : tie.Need-shared-slice-read-is-kind
-shared-slice-read-is-kind c = search needs
+shared-slice-read-known-kind : tie.Need-shared-slice-read-known-kind
+shared-slice-read-known-kind c = search needs
 
-is-kind-requires : tie.Need-is-kind-requires
-is-kind-requires c κs = search needs
+known-kind-requires : tie.Need-known-kind-requires
+known-kind-requires c κs = search needs
 
 bad-prefix-requires : tie.Need-bad-prefix-requires
 bad-prefix-requires c κs = search needs
@@ -64,8 +64,8 @@ form-check-spec =
     shared-slice-read-narrow
     shared-slice-read-least-scope
     least-scope-requires
-    shared-slice-read-is-kind
-    is-kind-requires
+    shared-slice-read-known-kind
+    known-kind-requires
     bad-prefix-requires
     refuse-requires
     dead-flags-requires

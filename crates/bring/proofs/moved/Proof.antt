@@ -12,7 +12,7 @@ use Rattle.bring.proofs.moved.Reads as reads
 use Rattle.bring.proofs.moved.Lts as lts
 use Rattle.candidates.proofs.prefix_route4.Reads as prefix-route4-reads
 use Rattle.kernel.proofs.kernel_add4.Reads as kernel-add4-reads
-use Rattle.kernel.proofs.kernel_del4.Reads as kernel-del4-reads
+use Rattle.named.proofs.kernel_del4.Reads as kernel-del4-reads
 use Rattle.placing.proofs.reroutes.Reads as reroutes-reads
 
 -- src/lib.rt:89:9
@@ -140,7 +140,7 @@ kernel-del4-requires c κs =
     let fit = s .pre .1 .1 .1 .0 in
     let k = e .came .given .0 .0 in
     let one = rows-are 1 (w .kernel-add4 .result) k (e .came .given .1) (w .kernel-add4 .ensures .1 .0) in
-    (w .kernel-add4 .ensures .0, (row-wide (a .old .now) fit (getD (a .old .now) 13 0) (getD (a .old .now) 0 0) _ refl (g .prefix-route42 .ensures), rest-room k 34 (w .kernel-add4 .last .1 .0) (omega (arith, one, s .pre .1 .1 .1 .1))))
+    (w .kernel-add4 .ensures .0, (row-wide (a .old .now) fit (getD (a .old .now) 13 0) (getD (a .old .now) 0 0) _ refl (g .prefix-route42 .ensures), λ b. rest-room k 34 (w .kernel-add4 .last .1 .0) (omega (arith, one, s .pre .1 .1 .1 .1))))
 
 -- src/lib.rt:101:24
 add-t33 : tie.Need-add-t33

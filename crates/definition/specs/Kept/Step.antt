@@ -76,7 +76,7 @@ checked-sound d w s h =
     s .sound (decode w) (good-held w (checked-held d w h)) (and-right (eqb (length w) 9507) (d .buffers) (p .room)) (p .asked)
 
 -- what holds of a refusal and of what the reference comes to holds of a changing call
-change-case : (P : Result → Type 0) (d : Change) (w : List ℕ) → (checked d w ≡ 0 → P (outcome (d .does (decode w)) w))
+pub change-case : (P : Result → Type 0) (d : Change) (w : List ℕ) → (checked d w ≡ 0 → P (outcome (d .does (decode w)) w))
     → ((n : ℕ) → n ≡ checked d w → eqb n 0 ≡ false → P (record { reply = refusal n; words = w })) → P (change d w)
 unfolding changing
 change-case P d w f g =

@@ -164,7 +164,7 @@ pub data Outcome : Type 0 where
 unfoldable pub sameAddress : Row → Row → Bool
 sameAddress new old = eqb (local old) (local new) && sameSubnet old new
 
--- where a primary goes: behind the last primary of a scope as wide or wider (a smaller number is wider)
+-- where a primary goes: behind the last primary of its own scope or a narrower one (a larger number is narrower)
 abbrev pub yields : Row → Row → Bool
 yields new old = not (secondary old) && leb (scope new) (scope old)
 

@@ -1,74 +1,80 @@
-use Rattle.deletion.specs.Delete.{row-ready, row-end, stray-there, stray-not-there}
+-- `deletion::stray_turn` meets its contract: the row is told where it strays, and settles where it does not.
+-- Assumes nothing.
 use mathlib.Core.Path.{sym, _∙_}
-use Prim.Native.Nat.{_-_}
-use native.Mathlib.Omega.{arith}
+use denote.Ref.{now}
+use Rattle.definition.specs.Reference.Removal.{straysFrom}
+use Rattle.deletion.specs.Sweep.{swept-goes, swept-stays}
 use borrow.Author.Needs.{needs}
 use Rattle.deletion.proofs.stray_turn.Statement.{statement}
 use Rattle.deletion.proofs.stray_turn.Tie as tie
-use Rattle.deletion.proofs.stray_turn.Reads as reads
-use Rattle.deletion.proofs.stray_turn.Lts as lts
-use Rattle.deletion.proofs.drop_route.Reads as drop-route-reads
-use Rattle.wanted.proofs.strays_from.Reads as strays-from-reads
 
--- src/lib.rt:101:21
 mul-at : tie.Need-mul-at
-mul-at c = let s = c .before .before in record { fits = omega (arith, (row-end (s .pre .0) (s .args .i) (s .pre .1)) .1) }
+mul-at c = search needs
 
--- src/lib.rt:101:14
 add-at : tie.Need-add-at
-add-at c = let s = c .before .before in record { fits = omega (arith, (row-end (s .pre .0) (s .args .i) (s .pre .1)) .1) }
+add-at c = search needs
 
--- src/lib.rt:102:15
 add-end : tie.Need-add-end
-add-end c = let s = c .before .before in record { fits = omega (arith, (row-end (s .pre .0) (s .args .i) (s .pre .1)) .1) }
+add-end c = search needs
 
--- src/lib.rt:103:24
 mul-strays-from : tie.Need-mul-strays-from
-mul-strays-from c = let s = c .before .before in record { fits = omega (arith, (row-end (s .pre .0) (s .args .i) (s .pre .1)) .1) }
+mul-strays-from c = search needs
 
--- src/lib.rt:103:24
 sub-strays-from : tie.Need-sub-strays-from
 sub-strays-from c = search needs
 
--- src/lib.rt:103:24
 part-strays-from-start : tie.Need-part-strays-from-start
 part-strays-from-start c = search needs
 
--- src/lib.rt:103:24
 part-strays-from-end : tie.Need-part-strays-from-end
-part-strays-from-end c = let s = c .before .before .before in omega (arith, (row-end (s .pre .0) (s .args .i) (s .pre .1)) .0)
+part-strays-from-end c = search needs
 
--- src/lib.rt:103:8
 strays-from-requires : tie.Need-strays-from-requires
 strays-from-requires c κs = search needs
 
--- src/lib.rt:104:9
-drop-route-requires : tie.Need-drop-route-requires
-drop-route-requires c κs = search needs
+mul-del-route4 : tie.Need-mul-del-route4
+mul-del-route4 c = search needs
 
--- src/lib.rt:104:9
+sub-del-route4 : tie.Need-sub-del-route4
+sub-del-route4 c = search needs
+
+part-del-route4-start : tie.Need-part-del-route4-start
+part-del-route4-start c = search needs
+
+part-del-route4-end : tie.Need-part-del-route4-end
+part-del-route4-end c = search needs
+
+del-route4-requires : tie.Need-del-route4-requires
+del-route4-requires c κs = search needs
+
 same-length : tie.Need-same-length
 same-length c = search needs
 
--- src/lib.rt:104:9
 same-length-2 : tie.Need-same-length-2
 same-length-2 c = search needs
 
--- src/lib.rt:104:9
 returns : tie.Need-returns
 returns c =
-    let s = c .before .before .before .before .before .before .before .before .before .before .before .before .before in
-    (omega (arith, c .before .before .before .before .drop-route .ensures .0), λ st f. stray-there (s .args .ip) (s .args .i) (s .pre .1) f (sym (c .before .before .before .before .before .before .before .before .strays-from .ensures) ∙ c .before .before .before .before .before .before .before .if1 .taken) (c .before .before .before .before .drop-route .ensures .1 st f))
+    let start = c .before .before .before .before .before .before .before .before .before .before .before .before in
+    let at-test = c .before .before .before .before .before .before .before .strays-from in
+    let at-if1 = c .before .before .before .before .before .before .if1 in
+    let a = start .args in
+    swept-goes (straysFrom (a .ip)) (a .i) (a .j) (now (a .s)) (now (a .ev)) (sym (at-test .ensures) ∙ at-if1 .taken) (c .before .before .del-route4 .ensures)
 
--- src/lib.rt:95:1
+settle-requires : tie.Need-settle-requires
+settle-requires c κs = search needs
+
 same-length-3 : tie.Need-same-length-3
 same-length-3 c = search needs
 
--- src/lib.rt:95:1
 returns-2 : tie.Need-returns-2
 returns-2 c =
-    let s = c .before .before .before .before .before .before in
-    (omega arith, λ st f. stray-not-there (s .args .ip) (s .args .i) (s .pre .1) f (sym (c .before .strays-from .ensures) ∙ c .if1 .left))
+    let start = c .before .before .before .before .before .before .before .before .before .before in
+    let at-test = c .before .before .before .before .before .strays-from in
+    let at-if1 = c .before .before .before .before .if1 in
+    let at-settle = c .before .before .settle in
+    let a = start .args in
+    swept-stays (straysFrom (a .ip)) (a .i) (a .j) (now (a .s)) (now (a .ev)) (sym (at-test .ensures) ∙ at-if1 .left) (at-settle .ensures .0) (at-settle .ensures .1)
 
 pub stray-turn-spec : {M : Type 1} → statement M
 stray-turn-spec =
@@ -82,9 +88,14 @@ stray-turn-spec =
     part-strays-from-start
     part-strays-from-end
     strays-from-requires
-    drop-route-requires
+    mul-del-route4
+    sub-del-route4
+    part-del-route4-start
+    part-del-route4-end
+    del-route4-requires
     same-length
     same-length-2
     returns
+    settle-requires
     same-length-3
     returns-2)

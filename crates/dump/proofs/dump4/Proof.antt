@@ -9,7 +9,7 @@ use Rattle.dump.proofs.dump4.Statement.{statement}
 use Rattle.dump.proofs.dump4.Tie as tie
 use Rattle.dump.proofs.dump4.Reads as reads
 use Rattle.dump.proofs.dump4.Lts as lts
-use Rattle.dump.proofs.list.Reads as list-reads
+use Rattle.listed.proofs.list.Reads as list-reads
 use Rattle.interface.proofs.checked.Reads as checked-reads
 
 -- src/lib.rt:32:9

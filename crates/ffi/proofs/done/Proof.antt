@@ -1,6 +1,6 @@
-use Rattle.ffi.specs.Laws.{rows-small}
-use mathlib.Core.Path.{_≡_, sym, ap, _∙_}
-use Rattle.ffi.specs.Answer.{replyFrom, replyOf}
+use Rattle.ffi.specs.Told.{rows-small}
+use mathlib.Core.Path.{sym, ap, _∙_}
+use Rattle.ffi.specs.Answer.{replyFrom}
 use Rattle.changes.specs.Answer.{doneBy}
 use Rattle.changes.specs.declared.Done.{Done}
 use borrow.Author.Needs.{needs}

@@ -1,5 +1,5 @@
-use mathlib.Core.Path.{_≡_, sym, ap, _∙_}
-use Rattle.ffi.specs.Answer.{replyFrom, replyOf}
+use mathlib.Core.Path.{sym, ap, _∙_}
+use Rattle.ffi.specs.Answer.{replyFrom}
 use Rattle.interface.specs.Answer.{foundBy}
 use Rattle.interface.specs.declared.Found.{Found}
 use borrow.Author.Needs.{needs}

@@ -1,5 +1,5 @@
-use mathlib.Core.Path.{_≡_, refl, sym, ap, _∙_}
-use Rattle.ffi.specs.Changed.{state-back, events-back}
+use Prim.Native.Nat.{_*_}
+use Rattle.ffi.specs.Changed.{state-back, part-back}
 use borrow.Author.Needs.{needs}
 use Rattle.ffi.proofs.give_back.Statement.{statement}
 use Rattle.ffi.proofs.give_back.Tie as tie
@@ -46,7 +46,7 @@ returns c =
     let p = q .before .before .before .before .before in
     let t = p .before .before .before .before .before .before in
     let a = t .args in
-    (state-back (a .s .now) (a .state .now) _ (t .pre .0) (t .pre .3) (p .bytes-of .ensures), events-back (a .e .now) (a .events .now) _ (a .n) (q .bytes-of2 .ensures))
+    (state-back (a .s .now) (a .state .now) _ (t .pre .0) (t .pre .3) (p .bytes-of .ensures), part-back (a .e .now) (a .events .now) _ (34 * a .n) (q .bytes-of2 .ensures))
 
 pub give-back-spec : {M : Type 1} → statement M
 give-back-spec =

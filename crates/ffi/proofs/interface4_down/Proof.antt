@@ -1,10 +1,9 @@
-use mathlib.Core.Bool.{true}
 use native.Mathlib.Omega.{arith}
-use mathlib.Core.Path.{_≡_, refl, sym, ap, _∙_}
+use mathlib.Core.Path.{refl}
 use borrow.Author.Tests.{not-true, not-false}
 use Rattle.ffi.specs.Bytes.{whole}
-use Rattle.ffi.specs.Laws.{down-told}
-use Rattle.ffi.specs.Changed.{changed-no, changed-yes, change-room, as-words, value-few}
+use Rattle.ffi.specs.Told.{down-told}
+use Rattle.ffi.specs.Changed.{changed-no, changed-yes, room, as-words, value-few}
 use Rattle.ffi.specs.Answer.{changeFits}
 use Rattle.definition.specs.Step.{downCall}
 use Rattle.endian.specs.Endian.{wordsOf}
@@ -38,7 +37,7 @@ words-of-requires : tie.Need-words-of-requires
 words-of-requires c κs =
     let e = c .before .before in
     let a = e .before .before .before .args in
-    let r = change-room (a .state .now) (a .events .now) true (not-false _ (e .if1 .left)) in
+    let r = room 52224 (a .state .now) (a .events .now) (not-false _ (e .if1 .left)) in
     omega (arith, r .0)
 
 -- src/lib.rt:304:35
@@ -68,7 +67,7 @@ give-back-requires c κs =
     let k = d .before .before .before .before in
     let e = k .before .before .before in
     let a = e .before .before .before .args in
-    let r = change-room (a .state .now) (a .events .now) true (not-false _ (e .if1 .left)) in
+    let r = room 52224 (a .state .now) (a .events .now) (not-false _ (e .if1 .left)) in
     (search needs, search needs, value-few (d .interface4w-down .result) _ (d .interface4w-down .ensures .0) (down-told _ 13056), r .0, r .1)
 
 -- src/lib.rt:292:1
@@ -88,7 +87,7 @@ returns-2 c =
     let e = k .before .before .before in
     let a = e .before .before .before .args in
     let f = changeFits (a .state .now) (a .events .now) in
-    let r = change-room (a .state .now) (a .events .now) true (not-false _ (e .if1 .left)) in
+    let r = room 52224 (a .state .now) (a .events .now) (not-false _ (e .if1 .left)) in
     let s = whole 9507 (a .state .now) _ _ (r .0) refl (k .words-of .ensures) in
     let y = changed-yes (a .state .now) (a .events .now) f (downCall 13056 _) (d .interface4w-down .result) _ _ _ _ _ (not-false _ (e .if1 .left)) (down-told _ 13056) (d .interface4w-down .ensures .0) (d .interface4w-down .ensures .1 .0) (d .interface4w-down .ensures .1 .1) (g .give-back .ensures .0) (g .give-back .ensures .1) in
     let x = as-words (a .state .now) (a .events .now) f (downCall 13056) (d .interface4w-down .result) _ _ _ _ s y in

@@ -1,4 +1,4 @@
-use mathlib.Core.Path.{_≡_, refl, sym, ap, _∙_}
+use mathlib.Core.Path.{refl, _∙_}
 use Rattle.ffi.specs.Bytes.{whole, bytes-no, bytes-yes}
 use Rattle.definition.specs.Step.{local4Call}
 use borrow.Author.Needs.{needs}

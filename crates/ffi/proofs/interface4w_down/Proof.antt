@@ -1,8 +1,8 @@
 use Rattle.definition.specs.Step.{downCall}
-use mathlib.Core.Path.{_≡_, sym, ap, _∙_}
-use Rattle.ffi.specs.Answer.{replyFrom, replyOf}
+use mathlib.Core.Path.{ap, _∙_}
+use Rattle.ffi.specs.Answer.{replyFrom}
 use Rattle.changes.specs.Answer.{doneBy}
-use Rattle.ffi.specs.Laws.{down-numbers, small-by}
+use Rattle.ffi.specs.Told.{down-told, small}
 use lib.ListN.{length}
 use borrow.Author.Needs.{needs}
 use Rattle.ffi.proofs.interface4w_down.Statement.{statement}
@@ -21,7 +21,7 @@ done-requires : tie.Need-done-requires
 done-requires c κs =
     let k = c .before .before .before .before in
     let a = k .before .before .before .before .before .args in
-    small-by (k .down .result) (downCall (length (a .events .now)) (a .state .now) .reply) (k .down .ensures .0) (down-numbers (a .state .now) (length (a .events .now)) .1)
+    small (k .down .result) (downCall (length (a .events .now)) (a .state .now) .reply) (k .down .ensures .0) (down-told (a .state .now) (length (a .events .now)))
 
 -- src/lib.rt:167:1
 same-length : tie.Need-same-length
@@ -36,7 +36,7 @@ returns : tie.Need-returns
 returns c =
     let k = c .before .before .before .before .before in
     let a = k .before .before .before .before .before .args in
-    (c .done .ensures ∙ ap replyFrom (ap doneBy (k .down .ensures .0) ∙ down-numbers (a .state .now) (length (a .events .now)) .0), (k .down .ensures .1 .0, k .down .ensures .1 .1))
+    (c .done .ensures ∙ ap replyFrom (ap doneBy (k .down .ensures .0) ∙ down-told (a .state .now) (length (a .events .now)) .says), (k .down .ensures .1 .0, k .down .ensures .1 .1))
 
 pub interface4w-down-spec : {M : Type 1} → statement M
 interface4w-down-spec =

@@ -1,5 +1,5 @@
-use mathlib.Core.Path.{_≡_, sym, ap, _∙_}
-use Rattle.ffi.specs.Answer.{replyFrom, replyOf}
+use mathlib.Core.Path.{ap, _∙_}
+use Rattle.ffi.specs.Answer.{replyOf}
 use borrow.Author.Needs.{needs}
 use Rattle.ffi.proofs.interface4w_left.Statement.{statement}
 use Rattle.ffi.proofs.interface4w_left.Tie as tie

@@ -1,5 +1,5 @@
-use mathlib.Core.Path.{_≡_, sym, ap, _∙_}
-use Rattle.ffi.specs.Answer.{replyFrom, replyOf}
+use mathlib.Core.Path.{ap, _∙_}
+use Rattle.ffi.specs.Answer.{replyFrom}
 use Rattle.interface.specs.Answer.{foundBy}
 use Rattle.ffi.specs.Laws.{lookup4-numbers}
 use lib.ListN.{length}

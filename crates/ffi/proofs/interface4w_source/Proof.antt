@@ -1,8 +1,7 @@
-use mathlib.Core.Path.{_≡_, sym, ap, _∙_}
-use Rattle.ffi.specs.Answer.{replyFrom, replyOf}
+use mathlib.Core.Path.{ap, _∙_}
+use Rattle.ffi.specs.Answer.{replyFrom}
 use Rattle.interface.specs.Answer.{sourcedBy}
 use Rattle.ffi.specs.Laws.{source-numbers}
-use lib.ListN.{length}
 use borrow.Author.Needs.{needs}
 use Rattle.ffi.proofs.interface4w_source.Statement.{statement}
 use Rattle.ffi.proofs.interface4w_source.Tie as tie

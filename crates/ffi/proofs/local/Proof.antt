@@ -1,6 +1,6 @@
 use Rattle.ffi.specs.Laws.{as-local}
-use mathlib.Core.Path.{_≡_, sym, ap, _∙_}
-use Rattle.ffi.specs.Answer.{replyFrom, replyOf}
+use mathlib.Core.Path.{sym, ap, _∙_}
+use Rattle.ffi.specs.Answer.{replyFrom}
 use Rattle.interface.specs.Answer.{localBy}
 use Rattle.interface.specs.declared.Local.{Local}
 use borrow.Author.Needs.{needs}

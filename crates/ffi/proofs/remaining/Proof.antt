@@ -1,5 +1,5 @@
-use mathlib.Core.Path.{_≡_, sym, ap, _∙_}
-use Rattle.ffi.specs.Answer.{replyFrom, replyOf}
+use mathlib.Core.Path.{sym, ap, _∙_}
+use Rattle.ffi.specs.Answer.{replyOf}
 use Rattle.address.specs.Row.{replyOf as address·replyOf}
 use Rattle.address.specs.declared.LeftReply.{LeftReply}
 use borrow.Author.Needs.{needs}

@@ -3,20 +3,20 @@
 use mathlib.Core.Path.{_≡_, refl, sym, _∙_}
 use mathlib.Core.List.{[]}
 use mathlib.Core.Bool.{true, false, not}
-use Prim.Native.Nat.{_+_, _-_, _≤_}
+use Prim.Native.Nat.{_+_, _-_, _≤_, _<_}
 use native.Mathlib.Omega.{arith}
 use lib.ListN.{getD, drop}
 use denote.Ref.{now}
 use Rattle.lists.specs.Lists.{Row, all, chop, eqRow}
 use Rattle.lists.specs.Rows.{length-chop}
 use Rattle.form.specs.Look.{all-end}
-use Rattle.form.specs.Order.{past-run, two-before, two-same}
+use Rattle.form.specs.Order.{past-run, ordered-later, two-before, two-same}
 use borrow.Author.Needs.{needs}
 use Rattle.form.proofs.apart.Statement.{statement}
 use Rattle.form.proofs.apart.Tie as tie
 
 abbrev Inv-loop : tie.InvT-loop
-Inv-loop p n i at end j₀ j = (j ≤ n) × (all (λ (b : Row). not (eqRow (getD (chop 32 n p) i []) b)) (drop (i + 1) (chop 32 n p)) ≡ all (λ (b : Row). not (eqRow (getD (chop 32 n p) i []) b)) (drop j (chop 32 n p)))
+Inv-loop p n i at end j₀ j = (j ≤ n) × (i < j) × (all (λ (b : Row). not (eqRow (getD (chop 32 n p) i []) b)) (drop (i + 1) (chop 32 n p)) ≡ all (λ (b : Row). not (eqRow (getD (chop 32 n p) i []) b)) (drop j (chop 32 n p)))
 
 abbrev μ-loop : tie.MeasureT-loop
 μ-loop p n i at end j₀ j = n - j
@@ -31,7 +31,7 @@ add-j : tie.Need-add-j Inv-loop μ-loop
 add-j c = search needs
 
 loop-holds : tie.Need-loop-holds Inv-loop μ-loop
-loop-holds c = (omega (arith, c .before .pre), refl)
+loop-holds c = (omega (arith, c .before .pre), omega arith, refl)
 
 mul-from : tie.Need-mul-from Inv-loop μ-loop
 mul-from c = search needs
@@ -67,12 +67,12 @@ before-requires : tie.Need-before-requires Inv-loop μ-loop
 before-requires c κs = search needs
 
 returns : tie.Need-returns Inv-loop μ-loop
-returns c =
+returns c o =
     let at-loop = c .before .before .before .before .before .loop in
     let start = c .before .before .before .before .before .before .before in
     let at-loop-test = c .before .before .before .before .loop-test in
     let at-before2 = c .before .before2 in
-    sym (at-loop .inv .1 ∙ past-run (chop 32 (start .args .n) (now (start .args .p))) (getD (chop 32 (start .args .n) (now (start .args .p))) (start .args .i) []) (at-loop .j) (start .pre .2) (omega (arith, length-chop 32 (start .args .n) (now (start .args .p)), at-loop-test .taken)) (two-before (start .args .n) (now (start .args .p)) (start .args .i) (start .pre .0) (at-loop .j) (start .pre .1) (at-loop-test .taken) true (at-before2 .ensures) (c .if1 .taken)))
+    sym (at-loop .inv .2 ∙ past-run (chop 32 (start .args .n) (now (start .args .p))) (getD (chop 32 (start .args .n) (now (start .args .p))) (start .args .i) []) (at-loop .j) (ordered-later (chop 32 (start .args .n) (now (start .args .p))) (start .args .i) (at-loop .j) (omega (arith, at-loop .inv .1)) o) (omega (arith, length-chop 32 (start .args .n) (now (start .args .p)), at-loop-test .taken)) (two-before (start .args .n) (now (start .args .p)) (start .args .i) (start .pre .0) (at-loop .j) (start .pre .1) (at-loop-test .taken) true (at-before2 .ensures) (c .if1 .taken)))
 
 mul-same-words : tie.Need-mul-same-words Inv-loop μ-loop
 mul-same-words c = search needs
@@ -102,11 +102,11 @@ same-words-requires : tie.Need-same-words-requires Inv-loop μ-loop
 same-words-requires c κs = search needs
 
 returns-2 : tie.Need-returns-2 Inv-loop μ-loop
-returns-2 c =
+returns-2 c o =
     let at-loop = c .before .before .before .before .before .before .before .before .before .loop in
     let start = c .before .before .before .before .before .before .before .before .before .before .before in
     let at-loop-test = c .before .before .before .before .before .before .before .before .loop-test in
-    sym (at-loop .inv .1 ∙ two-same (start .args .n) (now (start .args .p)) (start .args .i) (start .pre .0) (at-loop .j) (start .pre .1) (at-loop-test .taken) true (c .before .same-words .ensures) (c .if2 .taken))
+    sym (at-loop .inv .2 ∙ two-same (start .args .n) (now (start .args .p)) (start .args .i) (start .pre .0) (at-loop .j) (start .pre .1) (at-loop-test .taken) true (c .before .same-words .ensures) (c .if2 .taken))
 
 add-j-2 : tie.Need-add-j-2 Inv-loop μ-loop
 add-j-2 c = search needs
@@ -119,12 +119,12 @@ loop-again c =
     let at-loop = c .before .before .before .before .before .before .before .before .before .loop in
     let start = c .before .before .before .before .before .before .before .before .before .before .before in
     let at-loop-test = c .before .before .before .before .before .before .before .before .loop-test in
-    (omega arith, at-loop .inv .1 ∙ two-same (start .args .n) (now (start .args .p)) (start .args .i) (start .pre .0) (at-loop .j) (start .pre .1) (at-loop-test .taken) false (c .before .same-words .ensures) (c .if2 .left))
+    (omega arith, omega arith, at-loop .inv .2 ∙ two-same (start .args .n) (now (start .args .p)) (start .args .i) (start .pre .0) (at-loop .j) (start .pre .1) (at-loop-test .taken) false (c .before .same-words .ensures) (c .if2 .left))
 
 returns-3 : tie.Need-returns-3 Inv-loop μ-loop
-returns-3 c =
+returns-3 c o =
     let start = c .before .before .before in
-    sym (c .before .loop .inv .1 ∙ all-end (λ (b : Row). not (eqRow (getD (chop 32 (start .args .n) (now (start .args .p))) (start .args .i) []) b)) (chop 32 (start .args .n) (now (start .args .p))) (c .before .loop .j) (omega (arith, length-chop 32 (start .args .n) (now (start .args .p)), c .loop-test .left)))
+    sym (c .before .loop .inv .2 ∙ all-end (λ (b : Row). not (eqRow (getD (chop 32 (start .args .n) (now (start .args .p))) (start .args .i) []) b)) (chop 32 (start .args .n) (now (start .args .p))) (c .before .loop .j) (omega (arith, length-chop 32 (start .args .n) (now (start .args .p)), c .loop-test .left)))
 
 pub apart-spec : {M : Type 1} → statement M
 apart-spec =

@@ -1,74 +1,79 @@
--- `form::none_twice` meets its contract: no number is twice where none of those still to be looked at is.
+-- `form::none_twice` meets its contract: of the numbers looked at, from the end on, none is twice, and each has set its bit.
 -- Assumes nothing.
-use mathlib.Core.Path.{_≡_, refl, sym, _∙_}
+use mathlib.Core.Path.{_≡_, sym, ap, _∙_}
 use mathlib.Core.Bool.{true, false}
-use Prim.Native.Nat.{_-_, _≤_}
+use Prim.Native.Nat.{ℕ, _+_, _-_, _≤_}
 use native.Mathlib.Omega.{arith}
-use lib.ListN.{length, drop}
+use lib.Bits.{and-le-r}
+use lib.ListN.{length, getD, drop}
 use denote.Ref.{now}
 use Rattle.definition.specs.Words.{noneTwice}
-use Rattle.form.specs.Order.{none-turn, none-end}
+use Rattle.form.specs.Twice.{marked, marked-end, marked-back, twice-end, twice-back, twice-later}
 use borrow.Author.Needs.{needs}
 use Rattle.form.proofs.none_twice.Statement.{statement}
 use Rattle.form.proofs.none_twice.Tie as tie
 
 abbrev Inv-loop : tie.InvT-loop
-Inv-loop l i₀ i = (i ≤ length l) × (noneTwice l ≡ noneTwice (drop i l))
+Inv-loop l seen₀ i₀ seen i = (i ≤ length l) × (noneTwice (drop i l) ≡ true) × (marked seen (drop i l) ≡ true)
 
 abbrev μ-loop : tie.MeasureT-loop
-μ-loop l i₀ i = length l - i
+μ-loop l seen₀ i₀ seen i = i
 
 loop-holds : tie.Need-loop-holds Inv-loop μ-loop
-loop-holds c = (omega arith, refl)
+loop-holds c =
+    let l = now (c .before .args .l) in
+    (omega arith, twice-end l, marked-end 0 l)
 
-add-next : tie.Need-add-next Inv-loop μ-loop
-add-next c = search needs
+sub-at : tie.Need-sub-at Inv-loop μ-loop
+sub-at c = search needs
 
-mul-among : tie.Need-mul-among Inv-loop μ-loop
-mul-among c = search needs
-
-sub-among : tie.Need-sub-among Inv-loop μ-loop
-sub-among c = search needs
-
-part-among-start : tie.Need-part-among-start Inv-loop μ-loop
-part-among-start c = search needs
-
-part-among-end : tie.Need-part-among-end Inv-loop μ-loop
-part-among-end c = search needs
-
-mul-among-2 : tie.Need-mul-among-2 Inv-loop μ-loop
-mul-among-2 c = search needs
-
-shared-slice-read-among : tie.Need-shared-slice-read-among Inv-loop μ-loop
-shared-slice-read-among c = search needs
-
-among-requires : tie.Need-among-requires Inv-loop μ-loop
-among-requires c κs = search needs
+again-requires : tie.Need-again-requires Inv-loop μ-loop
+again-requires c κs =
+    let at-loop = c .before .loop in
+    let on : at-loop .i - 1 + 1 ≡ at-loop .i = omega arith in
+    (omega arith, ap (λ (k : ℕ). marked (at-loop .seen) (drop k (now (c .before .before .before .args .l)))) on ∙ at-loop .inv .2)
 
 returns : tie.Need-returns Inv-loop μ-loop
 returns c =
-    let at-loop = c .before .before .before .before .before .loop in
-    let start = c .before .before .before .before .before .before .before in
-    let at-loop-test = c .before .before .before .before .loop-test in
-    sym (at-loop .inv .1 ∙ none-turn (now (start .args .l)) (at-loop .i) true (at-loop-test .taken) (c .before .among .ensures) (c .if1 .taken))
+    let start = c .before .before .before .before .before in
+    let at-loop = c .before .before .before .loop in
+    let at-loop-test = c .before .before .loop-test in
+    sym (twice-later (now (start .args .l)) (at-loop .i - 1) (twice-back (now (start .args .l)) (at-loop .i) (at-loop-test .taken) (at-loop .inv .0) true (c .before .again .ensures) (c .if1 .taken)))
 
-add-i : tie.Need-add-i Inv-loop μ-loop
-add-i c = search needs
+mul-seen : tie.Need-mul-seen Inv-loop μ-loop
+mul-seen c = omega arith
+
+shared-slice-read-seen : tie.Need-shared-slice-read-seen Inv-loop μ-loop
+shared-slice-read-seen c = omega arith
+
+cast-seen : tie.Need-cast-seen Inv-loop μ-loop
+cast-seen c =
+    let start = c .before .before .before .before .before .before in
+    let at-loop = c .before .before .before .before .loop in
+    omega (arith, and-le-r (getD (now (start .args .l)) (at-loop .i - 1) 0) 63)
+
+shl-seen : tie.Need-shl-seen Inv-loop μ-loop
+shl-seen c =
+    let start = c .before .before .before .before .before .before in
+    let at-loop = c .before .before .before .before .loop in
+    omega (arith, and-le-r (getD (now (start .args .l)) (at-loop .i - 1) 0) 63)
 
 loop-less : tie.Need-loop-less Inv-loop μ-loop
-loop-less c = search needs
+loop-less c = omega arith
 
 loop-again : tie.Need-loop-again Inv-loop μ-loop
 loop-again c =
-    let at-loop = c .before .before .before .before .before .loop in
-    let start = c .before .before .before .before .before .before .before in
-    let at-loop-test = c .before .before .before .before .loop-test in
-    (omega arith, at-loop .inv .1 ∙ none-turn (now (start .args .l)) (at-loop .i) false (at-loop-test .taken) (c .before .among .ensures) (c .if1 .left))
+    let start = c .before .before .before .before .before .before in
+    let at-loop = c .before .before .before .before .loop in
+    let at-loop-test = c .before .before .before .loop-test in
+    let at-again = c .before .before .again in
+    (omega arith, twice-back (now (start .args .l)) (at-loop .i) (at-loop-test .taken) (at-loop .inv .0) false (at-again .ensures) (c .before .if1 .left) ∙ at-loop .inv .1, marked-back (now (start .args .l)) (at-loop .i) (at-loop-test .taken) (at-loop .inv .0) (at-loop .seen) (at-loop .inv .2))
 
 returns-2 : tie.Need-returns-2 Inv-loop μ-loop
 returns-2 c =
     let start = c .before .before .before in
-    sym (c .before .loop .inv .1 ∙ none-end (now (start .args .l)) (c .before .loop .i) (c .loop-test .left))
+    let none : c .before .loop .i ≡ 0 = omega (arith, c .loop-test .left) in
+    sym (ap (λ (k : ℕ). noneTwice (drop k (now (start .args .l)))) (sym none) ∙ c .before .loop .inv .1)
 
 pub none-twice-spec : {M : Type 1} → statement M
 none-twice-spec =
@@ -77,16 +82,13 @@ none-twice-spec =
     Inv-loop
     μ-loop
     loop-holds
-    add-next
-    mul-among
-    sub-among
-    part-among-start
-    part-among-end
-    mul-among-2
-    shared-slice-read-among
-    among-requires
+    sub-at
+    again-requires
     returns
-    add-i
+    mul-seen
+    shared-slice-read-seen
+    cast-seen
+    shl-seen
     loop-less
     loop-again
     returns-2)

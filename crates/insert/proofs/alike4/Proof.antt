@@ -6,7 +6,7 @@ use Rattle.lists.specs.Lists.{Row}
 use Rattle.lists.specs.Laid.{Laid}
 use Rattle.lists.specs.Count.{tick-most}
 use Rattle.layout.specs.Route.{fitRoute}
-use Rattle.insert.specs.Run.{Sofar, sofar-start}
+use Rattle.insert.specs.Run.{Sofar}
 use Rattle.insert.specs.Pass.{part-wide, pass-next, pass-stop, pass-end}
 use borrow.Author.Needs.{needs}
 use Rattle.insert.proofs.alike4.Statement.{statement}
@@ -14,22 +14,27 @@ use Rattle.insert.proofs.alike4.Tie as tie
 use Rattle.insert.proofs.alike4.Reads as reads
 use Rattle.insert.proofs.alike4.Lts as lts
 use Rattle.route.proofs.before.Reads as before-reads
+use Rattle.insert.proofs.lower.Reads as lower-reads
 use Rattle.insert.proofs.one_if.Reads as one-if-reads
 use Rattle.insert.proofs.same.Reads as same-reads
 
 abbrev Inv-loop : tie.InvT-loop
-Inv-loop rows n new start₀ there₀ i₀ start there i =
+Inv-loop rows n new front start₀ there₀ i₀ start there i =
     (i ≤ n)
     × (start ≤ i)
     × ((l : List Row) → Laid 32 fitRoute rows l → Sofar new l i start there)
 
 abbrev μ-loop : tie.MeasureT-loop
-μ-loop rows n new start₀ there₀ i₀ start there i = n - i
+μ-loop rows n new front start₀ there₀ i₀ start there i = n - i
+
+-- src/lib.rt:71:17
+lower-requires : tie.Need-lower-requires Inv-loop μ-loop
+lower-requires c κs = search needs
 
 -- src/lib.rt:75:5
 loop-holds : tie.Need-loop-holds Inv-loop μ-loop
 loop-holds c =
-    (search needs, search needs, λ l h. sofar-start (c .before .before .args .new .now) l)
+    (search needs, search needs, c .lower .ensures .0)
 
 -- src/lib.rt:76:18
 mul-at : tie.Need-mul-at Inv-loop μ-loop
@@ -59,7 +64,7 @@ part-r-end c = search needs
 before-requires : tie.Need-before-requires Inv-loop μ-loop
 before-requires c κs =
     let k = c .before .before in
-    let s = k .before .before .before in
+    let s = k .before .before .before .before in
     let a = s .args in
     (s .pre .1, part-wide (a .rows .now) (a .n) (s .pre .0 .0) (k .loop .i) (c .before .loop-test .taken) (s .pre .0 .1))
 
@@ -67,7 +72,7 @@ before-requires c κs =
 returns : tie.Need-returns Inv-loop μ-loop
 returns c =
     let k = c .before .before .before .before in
-    let s = k .before .before .before in
+    let s = k .before .before .before .before in
     let a = s .args in
     (λ l h o. pass-stop (a .rows .now) (a .n) (s .pre .0 .0) (a .new .now) l h (k .loop .i) (k .loop .start) (k .loop .there) (k .loop .inv .2 l h) (c .before .before .before .loop-test .taken) (sym (c .before .before2 .ensures) ∙ c .if1 .taken) o, search needs)
 
@@ -75,7 +80,7 @@ returns c =
 before-requires-2 : tie.Need-before-requires-2 Inv-loop μ-loop
 before-requires-2 c κs =
     let k = c .before .before .before .before in
-    let s = k .before .before .before in
+    let s = k .before .before .before .before in
     let a = s .args in
     (part-wide (a .rows .now) (a .n) (s .pre .0 .0) (k .loop .i) (c .before .before .before .loop-test .taken) (s .pre .0 .1), s .pre .1)
 
@@ -92,7 +97,7 @@ add-start c =
 same-requires : tie.Need-same-requires Inv-loop μ-loop
 same-requires c κs =
     let k = c .before .before .before .before .before .before in
-    let s = k .before .before .before in
+    let s = k .before .before .before .before in
     let a = s .args in
     (s .pre .1, part-wide (a .rows .now) (a .n) (s .pre .0 .0) (k .loop .i) (c .before .before .before .before .before .loop-test .taken) (s .pre .0 .1))
 
@@ -108,7 +113,7 @@ loop-less c = search needs
 loop-again : tie.Need-loop-again Inv-loop μ-loop
 loop-again c =
     let k = c .before .before .before .before .before .before .before in
-    let s = k .before .before .before in
+    let s = k .before .before .before .before in
     let a = s .args in
     (search needs, omega (arith, c .before .one-if .ensures, tick-most (c .before .before .before3 .result)), λ l h. rw (c .before .one-if .ensures, c .before .before .before3 .ensures, c .same .ensures) (pass-next (a .rows .now) (a .n) (s .pre .0 .0) (a .new .now) l h (k .loop .i) (k .loop .start) (k .loop .there) (k .loop .inv .2 l h) (c .before .before .before .before .before .before .loop-test .taken) (sym (c .before .before .before .before .before2 .ensures) ∙ c .before .before .before .if1 .left)))
 
@@ -116,7 +121,7 @@ loop-again c =
 returns-2 : tie.Need-returns-2 Inv-loop μ-loop
 returns-2 c =
     let k = c .before in
-    let s = k .before .before .before in
+    let s = k .before .before .before .before in
     let a = s .args in
     (λ l h o. pass-end (a .rows .now) (a .n) (s .pre .0 .0) (a .new .now) l h (k .loop .i) (k .loop .start) (k .loop .there) (k .loop .inv .2 l h) (c .loop-test .left), search needs)
 
@@ -126,6 +131,7 @@ alike4-spec =
     (tie.spec
     Inv-loop
     μ-loop
+    lower-requires
     loop-holds
     mul-at
     add-r

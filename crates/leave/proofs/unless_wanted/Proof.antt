@@ -1,12 +1,13 @@
 use Rattle.leave.specs.Turns.{wanted-stays, unwanted-goes}
 use Rattle.deletion.specs.Delete.{ready-valid}
+use Rattle.named.specs.Delete.{deletes, ready-row}
 use mathlib.Core.Path.{sym, _∙_}
 use borrow.Author.Needs.{needs}
 use Rattle.leave.proofs.unless_wanted.Statement.{statement}
 use Rattle.leave.proofs.unless_wanted.Tie as tie
 use Rattle.leave.proofs.unless_wanted.Reads as reads
 use Rattle.leave.proofs.unless_wanted.Lts as lts
-use Rattle.deletion.proofs.kernel_del4.Reads as kernel-del4-reads
+use Rattle.named.proofs.kernel_del4.Reads as kernel-del4-reads
 use Rattle.leave.proofs.wanted_in.Reads as wanted-in-reads
 
 -- src/lib.rt:35:8
@@ -23,7 +24,9 @@ returns c = λ st f. wanted-stays (c .before .before .before .before .before .be
 
 -- src/lib.rt:38:5
 kernel-del4-requires : tie.Need-kernel-del4-requires
-kernel-del4-requires c κs = c .before .before .before .before .before .before .before .before .pre
+kernel-del4-requires c κs =
+    let s = c .before .before .before .before .before .before .before .before in
+    (ready-valid (s .pre .0), (s .pre .1, λ b. ready-row (s .pre .0) b))
 
 -- src/lib.rt:30:1
 same-length-2 : tie.Need-same-length-2
@@ -35,7 +38,12 @@ same-length-3 c = search needs
 
 -- src/lib.rt:30:1
 returns-2 : tie.Need-returns-2
-returns-2 c = λ st f. unwanted-goes (c .before .before .before .before .before .before .before .before .before .before .before .before .before .args .r .now) (sym (c .before .before .before .before .before .before .before .before .wanted-in .ensures st (f .holds)) ∙ c .before .before .before .before .before .before .before .if1 .left) (c .before .before .before .before .kernel-del4 .ensures st f)
+returns-2 c =
+    let i = c .before .before .before .before .before .before .before in
+    let s = i .before .before .before .before .before .before in
+    let r = s .args .r .now in
+    λ st f.
+    unwanted-goes r (sym (i .before .wanted-in .ensures st (f .holds)) ∙ i .if1 .left) (deletes r f (c .before .before .before .before .kernel-del4 .ensures .1 .1 st (f .holds)))
 
 pub unless-wanted-spec : {M : Type 1} → statement M
 unless-wanted-spec =

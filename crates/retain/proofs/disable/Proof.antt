@@ -1,7 +1,6 @@
 -- `retain::disable` meets its contract: routes go with the last address.
 -- Assumes nothing.
 use mathlib.Core.Path.{sym, _∙_}
-use Prim.Native.Nat.{_-_}
 use native.Mathlib.Omega.{arith}
 use Rattle.state.specs.Holds.{sizes-valid, count-addresses}
 use Rattle.retain.specs.Retain.{is-disable, no-disable}

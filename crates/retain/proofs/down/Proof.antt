@@ -1,6 +1,5 @@
 -- `retain::down` meets its contract: what remains is what the definition keeps.
 -- Assumes nothing.
-use Prim.Native.Nat.{_-_}
 use Rattle.retain.specs.Retain.{is-down}
 use borrow.Author.Needs.{needs}
 use Rattle.retain.proofs.down.Statement.{statement}

@@ -2,7 +2,6 @@
 -- Assumes nothing.
 use mathlib.Core.Path.{sym, ap, _∙_}
 use mathlib.Core.Bool.{Bool, _&&_}
-use Prim.Native.Nat.{_-_}
 use denote.Ref.{now}
 use lib.Dec.{eqb}
 use Rattle.layout.specs.Route.{scope}

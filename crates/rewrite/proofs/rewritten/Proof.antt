@@ -1,9 +1,9 @@
-use Prim.Native.Nat.{ℕ}
 use mathlib.Core.Path.{ap, _∙_}
+use native.Mathlib.Omega.{arith}
 use mathlib.Core.List.{List}
+use Prim.Native.Nat.{ℕ}
 use denote.Ref.{now}
 use Rattle.lists.specs.Lists.{put}
-use native.Mathlib.Omega.{arith}
 use Rattle.rewrite.specs.Rows.{rewritten-words}
 use borrow.Author.Needs.{needs}
 use Rattle.rewrite.proofs.rewritten.Statement.{statement}
@@ -14,88 +14,88 @@ use Rattle.life.proofs.Nanoseconds.high.Reads as high-reads
 use Rattle.life.proofs.Nanoseconds.low.Reads as low-reads
 use Rattle.words.proofs.store.Reads as store-reads
 
--- src/lib.rt:57:9
+-- src/lib.rt:42:9
 low-requires : tie.Need-low-requires
 low-requires c κs = search needs
 
--- src/lib.rt:58:9
+-- src/lib.rt:43:9
 high-requires : tie.Need-high-requires
 high-requires c κs = search needs
 
--- src/lib.rt:59:9
+-- src/lib.rt:44:9
 low-requires-2 : tie.Need-low-requires-2
 low-requires-2 c κs = search needs
 
--- src/lib.rt:60:9
+-- src/lib.rt:45:9
 high-requires-2 : tie.Need-high-requires-2
 high-requires-2 c κs = search needs
 
--- src/lib.rt:62:9
-shared-slice-read-t16 : tie.Need-shared-slice-read-t16
-shared-slice-read-t16 c = search needs
+-- src/lib.rt:47:9
+shared-slice-read-t15 : tie.Need-shared-slice-read-t15
+shared-slice-read-t15 c = search needs
 
--- src/lib.rt:63:9
-shared-slice-read-t18 : tie.Need-shared-slice-read-t18
-shared-slice-read-t18 c = search needs
+-- src/lib.rt:48:9
+shared-slice-read-t17 : tie.Need-shared-slice-read-t17
+shared-slice-read-t17 c = search needs
 
--- src/lib.rt:64:9
-shared-slice-read-t20 : tie.Need-shared-slice-read-t20
-shared-slice-read-t20 c = search needs
+-- src/lib.rt:49:9
+shared-slice-read-t19 : tie.Need-shared-slice-read-t19
+shared-slice-read-t19 c = search needs
 
--- src/lib.rt:65:9
-shared-slice-read-t22 : tie.Need-shared-slice-read-t22
-shared-slice-read-t22 c = search needs
+-- src/lib.rt:50:9
+shared-slice-read-t21 : tie.Need-shared-slice-read-t21
+shared-slice-read-t21 c = search needs
 
--- src/lib.rt:66:9
-shared-slice-read-t24 : tie.Need-shared-slice-read-t24
-shared-slice-read-t24 c = search needs
+-- src/lib.rt:51:9
+shared-slice-read-t23 : tie.Need-shared-slice-read-t23
+shared-slice-read-t23 c = search needs
 
--- src/lib.rt:67:9
-shared-slice-read-t26 : tie.Need-shared-slice-read-t26
-shared-slice-read-t26 c = search needs
+-- src/lib.rt:52:9
+shared-slice-read-t25 : tie.Need-shared-slice-read-t25
+shared-slice-read-t25 c = search needs
 
--- src/lib.rt:70:9
-shared-slice-read-t28 : tie.Need-shared-slice-read-t28
-shared-slice-read-t28 c = search needs
+-- src/lib.rt:55:9
+shared-slice-read-t27 : tie.Need-shared-slice-read-t27
+shared-slice-read-t27 c = search needs
 
--- src/lib.rt:71:9
-shared-slice-read-t30 : tie.Need-shared-slice-read-t30
-shared-slice-read-t30 c = search needs
+-- src/lib.rt:56:9
+shared-slice-read-t29 : tie.Need-shared-slice-read-t29
+shared-slice-read-t29 c = search needs
 
--- src/lib.rt:72:9
-shared-slice-read-t32 : tie.Need-shared-slice-read-t32
-shared-slice-read-t32 c = search needs
+-- src/lib.rt:57:9
+shared-slice-read-t31 : tie.Need-shared-slice-read-t31
+shared-slice-read-t31 c = search needs
 
--- src/lib.rt:73:9
-shared-slice-read-t34 : tie.Need-shared-slice-read-t34
-shared-slice-read-t34 c = search needs
+-- src/lib.rt:58:9
+shared-slice-read-t33 : tie.Need-shared-slice-read-t33
+shared-slice-read-t33 c = search needs
 
--- src/lib.rt:74:9
-shared-slice-read-t36 : tie.Need-shared-slice-read-t36
-shared-slice-read-t36 c = search needs
+-- src/lib.rt:59:9
+shared-slice-read-t35 : tie.Need-shared-slice-read-t35
+shared-slice-read-t35 c = search needs
 
--- src/lib.rt:83:26
+-- src/lib.rt:68:26
 slice-aggregate-store : tie.Need-slice-aggregate-store
 slice-aggregate-store c = search needs
 
--- src/lib.rt:83:5
+-- src/lib.rt:68:5
 store-requires : tie.Need-store-requires
 store-requires c κs = search needs
 
--- src/lib.rt:42:1
+-- src/lib.rt:35:1
 same-length : tie.Need-same-length
 same-length c = search needs
 
--- src/lib.rt:42:1
+-- src/lib.rt:35:1
 returns : tie.Need-returns
 returns c =
     let w = c .before .before in
     let h = w .before .before .before .before .before .before .before .before .before .before .before .before .before .before in
-    let s = h .before .before .before .before .before .before in
+    let s = h .before .before .before .before .before .before .before .before in
     let a = s .args in
     w .store .ensures
     ∙ ap (λ (v : List ℕ). put 0 v (now (a .out)))
-    (rewritten-words (a .a .now) (a .flags) (a .proto) (a .priority) (a .valid) (a .preferred) (a .created .0) (a .changed .0)
+    (rewritten-words (a .a .now) (a .flags) (a .proto) (a .priority) (a .life .valid .0) (a .life .preferred .0) (a .life .created .0) (a .life .changed .0)
     (h .before .before .before .low .result) (h .before .before .high .result) (h .before .low2 .result) (h .high2 .result) (omega (arith, s .pre .1))
     (h .before .before .before .low .ensures) (h .before .before .high .ensures) (h .before .low2 .ensures) (h .high2 .ensures))
 
@@ -107,17 +107,17 @@ rewritten-spec =
     high-requires
     low-requires-2
     high-requires-2
-    shared-slice-read-t16
-    shared-slice-read-t18
-    shared-slice-read-t20
-    shared-slice-read-t22
-    shared-slice-read-t24
-    shared-slice-read-t26
-    shared-slice-read-t28
-    shared-slice-read-t30
-    shared-slice-read-t32
-    shared-slice-read-t34
-    shared-slice-read-t36
+    shared-slice-read-t15
+    shared-slice-read-t17
+    shared-slice-read-t19
+    shared-slice-read-t21
+    shared-slice-read-t23
+    shared-slice-read-t25
+    shared-slice-read-t27
+    shared-slice-read-t29
+    shared-slice-read-t31
+    shared-slice-read-t33
+    shared-slice-read-t35
     slice-aggregate-store
     store-requires
     same-length

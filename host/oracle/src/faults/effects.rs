@@ -20,15 +20,18 @@ pub const FAULTS: &[Fault] = &[
     ),
     Fault::new("expire drops all due addresses at once", all_at_once),
     Fault::new("expire without the 20 ms", expire_late),
-    Fault::new(
-        "secondaries not removed with their primary",
-        secondaries_stay,
-    ),
-    Fault::new("equal address rows removed together", equal_rows),
-    Fault::new("main rows with the gone prefsrc stay", strays_stay),
+    Fault::new("secondaries not removed with their primary", |c, s, b| {
+        deletion(c, s, b, primaries_alone, secondaries_stay)
+    }),
+    Fault::new("equal address rows removed together", |c, s, b| {
+        deletion(c, s, b, |_| {}, equal_rows)
+    }),
+    Fault::new("main rows with the gone prefsrc stay", |c, s, b| {
+        deletion(c, s, b, |_| {}, strays_stay)
+    }),
     Fault::new(
         "a prefix route deleted that another address wants",
-        unwanted,
+        |c, s, b| deletion(c, s, b, |_| {}, unwanted),
     ),
     Fault::new("a new primary at the end of the list", primary_last),
     Fault::new("changes never reach the routes", routes_unchanged),
@@ -166,76 +169,47 @@ fn deletion(
     reply
 }
 
-fn secondaries_stay(call: &Call, state: &mut [u32], buffer: &mut [u32]) -> Reply {
-    deletion(
-        call,
-        state,
-        buffer,
-        |lists| lists.addresses.retain(|a| a[6] & 1 == 0),
-        |was, lists| {
-            let secondaries = was.addresses.iter().filter(|a| a[6] & 1 == 1);
-            lists.addresses.extend(secondaries);
-        },
-    )
+fn primaries_alone(lists: &mut Lists) {
+    lists.addresses.retain(|a| a[6] & 1 == 0);
 }
 
-fn equal_rows(call: &Call, state: &mut [u32], buffer: &mut [u32]) -> Reply {
-    deletion(
-        call,
-        state,
-        buffer,
-        |_| {},
-        |was, lists| {
-            let times =
-                |list: &[AddressRow], a: &AddressRow| list.iter().filter(|b| *b == a).count();
-            let now = lists.addresses.clone();
-            let fewer = |a: &AddressRow| times(&now, a) < times(&was.addresses, a);
-            lists.addresses.retain(|a| !fewer(a));
-        },
-    )
+fn secondaries_stay(was: &Lists, lists: &mut Lists) {
+    let secondaries = was.addresses.iter().filter(|a| a[6] & 1 == 1);
+    lists.addresses.extend(secondaries);
 }
 
-fn strays_stay(call: &Call, state: &mut [u32], buffer: &mut [u32]) -> Reply {
-    deletion(
-        call,
-        state,
-        buffer,
-        |_| {},
-        |was, lists| {
-            let gone = was.routes.iter().filter(|r| r[0] == 254);
-            let gone: Vec<_> = gone
-                .filter(|r| !lists.routes.contains(r))
-                .copied()
-                .collect();
-            lists.routes.extend(gone);
-            crate::generate::states::arrange(&mut lists.routes);
-        },
-    )
+fn equal_rows(was: &Lists, lists: &mut Lists) {
+    let times = |list: &[AddressRow], a: &AddressRow| list.iter().filter(|b| *b == a).count();
+    let now = lists.addresses.clone();
+    let fewer = |a: &AddressRow| times(&now, a) < times(&was.addresses, a);
+    lists.addresses.retain(|a| !fewer(a));
+}
+
+fn strays_stay(was: &Lists, lists: &mut Lists) {
+    let main = was.routes.iter().filter(|r| r[0] == 254);
+    let gone: Vec<_> = main
+        .filter(|r| !lists.routes.contains(r))
+        .copied()
+        .collect();
+    lists.routes.extend(gone);
+    crate::generate::states::arrange(&mut lists.routes);
 }
 
 /// Every deletion takes the routes of the addresses that stay along with a
 /// prefix that the gone one shared.
-fn unwanted(call: &Call, state: &mut [u32], buffer: &mut [u32]) -> Reply {
-    deletion(
-        call,
-        state,
-        buffer,
-        |_| {},
-        |was, lists| {
-            let gone = was
-                .addresses
-                .iter()
-                .filter(|a| !lists.addresses.contains(a));
-            let gone: Vec<_> = gone.copied().collect();
-            let of_gone = |dst: u32, len: u32| {
-                gone.iter()
-                    .any(|a| len == a[2] && a[1] & reference::mask(a[2] as u8) == dst)
-            };
-            lists
-                .routes
-                .retain(|r| r[0] != 255 || r[6] != 2 || !of_gone(r[1], r[2]));
-        },
-    )
+fn unwanted(was: &Lists, lists: &mut Lists) {
+    let gone: Vec<_> = was
+        .addresses
+        .iter()
+        .filter(|a| !lists.addresses.contains(a))
+        .collect();
+    let of_gone = |dst: u32, len: u32| {
+        gone.iter()
+            .any(|a| len == a[2] && a[1] & reference::mask(a[2] as u8) == dst)
+    };
+    lists
+        .routes
+        .retain(|r| r[0] != 255 || r[6] != 2 || !of_gone(r[1], r[2]));
 }
 
 fn primary_last(call: &Call, state: &mut [u32], buffer: &mut [u32]) -> Reply {

@@ -124,13 +124,7 @@ fn flow(rng: &mut Rng, lists: &Lists) -> Call {
 
 fn add_v4(rng: &mut Rng, lists: &Lists, host: &Host) -> Call {
     let mut w = vec![0; 18];
-    w[0] = pools::address(rng);
-    w[1] = if rng.one_in(6) {
-        pools::address(rng)
-    } else {
-        w[0]
-    };
-    w[2] = rng.pick(&pools::PREFIXES);
+    w[..3].copy_from_slice(&pools::subnet(rng));
     if let Some(old) = some_address(rng, lists).filter(|_| rng.one_in(4)) {
         // the same address or subnet again
         w[1..3].copy_from_slice(&old[1..3]);

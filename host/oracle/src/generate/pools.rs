@@ -86,6 +86,13 @@ pub fn address(rng: &mut Rng) -> u32 {
     }
 }
 
+/// A local address, its peer's or the same again, and a prefix.
+pub fn subnet(rng: &mut Rng) -> [u32; 3] {
+    let local = address(rng);
+    let peer = rng.one_in(6).then(|| address(rng));
+    [local, peer.unwrap_or(local), rng.pick(&PREFIXES)]
+}
+
 pub fn mask(len: u32) -> u32 {
     reference::mask(len as u8)
 }

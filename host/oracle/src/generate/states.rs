@@ -17,13 +17,7 @@ pub fn address(rng: &mut Rng) -> AddressRow {
     if rng.one_in(25) {
         return row;
     }
-    row[0] = pools::address(rng);
-    row[1] = if rng.one_in(6) {
-        pools::address(rng)
-    } else {
-        row[0]
-    };
-    row[2] = rng.pick(&pools::PREFIXES);
+    row[..3].copy_from_slice(&pools::subnet(rng));
     if rng.one_in(4) {
         row[3] = 1;
         let named = pools::address(rng);
