@@ -22,6 +22,22 @@ same-test true false f g = sym (f refl)
 same-test false true f g = g refl
 same-test false false f g = refl
 
+turned : (w : ℕ) → eqb 0 w ≡ eqb w 0
+turned w = same-test (eqb 0 w) (eqb w 0) (λ q. eq-eqb w 0 (sym (eqb-true 0 w q))) (λ q. eq-eqb 0 w (sym (eqb-true w 0 q)))
+
+and-true : (a : Bool) → a && true ≡ a
+and-true true = refl
+and-true false = refl
+
+-- no words, and the first one
+pub zero-none : (l : List ℕ) → length l ≡ 0 → true ≡ allZero l
+zero-none [] e = refl
+zero-none (w ∷ l) e = absurd (omega arith)
+
+pub zero-first : (l : List ℕ) → 0 < length l → eqb (getD l 0 0) 0 ≡ allZero (take 1 l)
+zero-first [] h = absurd (omega arith)
+zero-first (w ∷ l) h = sym (and-true (eqb 0 w) ∙ turned w)
+
 -- the words so far and one more
 pub or-none : (x w : ℕ) → eqb (bitOr x w) 0 ≡ eqb x 0 && eqb 0 w
 or-none x w =
@@ -48,10 +64,6 @@ module _ (x : ℕ) where
   zero-suc : (l : List ℕ) (i : ℕ) → i < length l → allZero (take (suc i) l) ≡ allZero (take i l) && eqb 0 (getD l i 0)
   zero-suc [] i h = absurd (not-suc-le-zero h)
   zero-suc (w ∷ l) zero h = and-true (eqb 0 w)
-    where
-      and-true : (a : Bool) → a && true ≡ a
-      and-true true = refl
-      and-true false = refl
   zero-suc (w ∷ l) (suc i) h =
       ap (λ (b : Bool). eqb 0 w && b) (zero-suc l i (le-of-suc-le-suc h)) ∙ and-shift (eqb 0 w) (allZero (take i l)) (eqb 0 (getD l i 0))
 
@@ -61,11 +73,8 @@ module _ (x : ℕ) where
 
   -- a part scanned by itself
   or-part : (w : ℕ) (l m : List ℕ) → eqb x 0 ≡ allZero l → eqb w 0 ≡ allZero m → eqb (bitOr x w) 0 ≡ allZero (l ++ m)
-  or-part w l m e f = or-none x w ∙ rw (e, turned, f) (parts l)
+  or-part w l m e f = or-none x w ∙ rw (e, turned w, f) (parts l)
     where
-      turned : eqb 0 w ≡ eqb w 0
-      turned = same-test (eqb 0 w) (eqb w 0) (λ q. eq-eqb w 0 (sym (eqb-true 0 w q))) (λ q. eq-eqb 0 w (sym (eqb-true w 0 q)))
-
       parts : (l : List ℕ) → allZero l && allZero m ≡ allZero (l ++ m)
       parts [] = refl
       parts (v ∷ l) = sym (and-shift (eqb 0 v) (allZero l) (allZero m)) ∙ ap (λ (b : Bool). eqb 0 v && b) (parts l)
@@ -83,10 +92,6 @@ module _ (x : ℕ) where
   same-suc [] m i h k = absurd (not-suc-le-zero h)
   same-suc (w ∷ l) [] i h k = absurd (not-suc-le-zero k)
   same-suc (w ∷ l) (v ∷ m) zero h k = and-true (eqb w v)
-    where
-      and-true : (a : Bool) → a && true ≡ a
-      and-true true = refl
-      and-true false = refl
   same-suc (w ∷ l) (v ∷ m) (suc i) h k =
       ap (λ (b : Bool). eqb w v && b) (same-suc l m i (le-of-suc-le-suc h) (le-of-suc-le-suc k))
       ∙ and-shift (eqb w v) (eqRow (take i l) (take i m)) (eqb (getD l i 0) (getD m i 0))

@@ -93,12 +93,16 @@ fn or_of(s: &[u32]) -> u32
     some
 }
 
-// No word is other than 0. Of parts whose length is a constant, so that each is scanned without a loop.
+// No word is other than 0. In parts whose length is a constant, so that each is scanned without a loop; the first word is by
+// itself, since behind it the words that a state leaves unused lie at multiples of four words.
 pub fn all_zero(s: &[u32]) -> bool
     ensures { λ r. ⌜ r ≡ allZero (now (s .entry)) ⌝ }
 {
-    let mut some = 0u32;
-    let mut i = 0usize;
+    if s.len() == 0 {
+        return true;
+    }
+    let mut some = s[0];
+    let mut i = 1usize;
     while 64 <= s.len() - i {
         let end = i + 64;
         some |= or_of(&s[i..end]);

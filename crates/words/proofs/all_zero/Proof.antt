@@ -1,13 +1,13 @@
 -- `words::all_zero` meets its contract: the or of the parts so far is 0 where each of their words is.
 -- Assumes nothing.
 use Prim.Native.Nat.{_-_, _≤_}
-use mathlib.Core.Path.{_≡_, refl}
+use mathlib.Core.Path.{_≡_}
 use native.Mathlib.Omega.{arith}
 use denote.Ref.{now}
 use lib.Dec.{eqb}
 use lib.ListN.{length, take}
 use Rattle.lists.specs.Lists.{allZero}
-use Rattle.words.specs.Scan.{zero-part, zero-rest}
+use Rattle.words.specs.Scan.{zero-none, zero-first, zero-part, zero-rest}
 use borrow.Author.Needs.{needs}
 use Rattle.words.proofs.all_zero.Statement.{statement}
 use Rattle.words.proofs.all_zero.Tie as tie
@@ -18,8 +18,16 @@ Inv-loop s some₀ i₀ some i = (i ≤ length s) × (eqb some 0 ≡ allZero (ta
 abbrev μ-loop : tie.MeasureT-loop
 μ-loop s some₀ i₀ some i = length s - i
 
+returns : tie.Need-returns Inv-loop μ-loop
+returns c = zero-none (now (c .before .before .args .s)) (c .if1 .taken)
+
+shared-slice-read-some : tie.Need-shared-slice-read-some Inv-loop μ-loop
+shared-slice-read-some c = search needs
+
 loop-holds : tie.Need-loop-holds Inv-loop μ-loop
-loop-holds c = (omega arith, refl)
+loop-holds c =
+    let start = c .before .before .before in
+    (omega arith, zero-first (now (start .args .s)) (omega arith))
 
 sub-loop : tie.Need-sub-loop Inv-loop μ-loop
 sub-loop c = search needs
@@ -47,7 +55,7 @@ loop-less c = search needs
 
 loop-again : tie.Need-loop-again Inv-loop μ-loop
 loop-again c =
-    let start = c .before .before .before .before .before in
+    let start = c .before .before .before .before .before .before .before in
     let at-loop = c .before .before .before .loop in
     (omega arith, zero-part (at-loop .some) (c .or-of .result) (now (start .args .s)) (at-loop .i) 64 (at-loop .inv .1) (c .or-of .ensures))
 
@@ -66,9 +74,9 @@ part-or-of-end-2 c = search needs
 or-of-requires-2 : tie.Need-or-of-requires-2 Inv-loop μ-loop
 or-of-requires-2 c κs = search needs
 
-returns : tie.Need-returns Inv-loop μ-loop
-returns c =
-    let start = c .before .before .before .before .before in
+returns-2 : tie.Need-returns-2 Inv-loop μ-loop
+returns-2 c =
+    let start = c .before .before .before .before .before .before .before in
     let at-loop = c .before .before .before .loop in
     zero-rest (at-loop .some) (c .or-of2 .result) (now (start .args .s)) (at-loop .i) (at-loop .inv .1) (c .or-of2 .ensures)
 
@@ -78,6 +86,8 @@ all-zero-spec =
     (tie.spec
     Inv-loop
     μ-loop
+    returns
+    shared-slice-read-some
     loop-holds
     sub-loop
     add-end
@@ -93,4 +103,4 @@ all-zero-spec =
     part-or-of-start-2
     part-or-of-end-2
     or-of-requires-2
-    returns)
+    returns-2)
