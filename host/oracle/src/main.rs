@@ -15,7 +15,7 @@ const USAGE: &str = "usage: oracle COMMAND
   generator [N] [SEED]   what N generated cases reach
   pairs [N] [SEED]       document 01's claim about two runs, on N pairs
   selftest [SEED]        planted faults, which the comparison must find
-  vectors FILE [SEED]    writes the fixed list of answers
+  vectors FOLDER [SEED]  writes the fixed list of answers, and damaged ones
   replay FILE            replays such a list against the model
   cases N SEED [--large PERCENT]
                          prints N random cases as JSON lines

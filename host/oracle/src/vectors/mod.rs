@@ -1,5 +1,10 @@
 //! The fixed list of answers: a file of little-endian words that a program
 //! without Rust at hand can replay. host/README.md describes its format.
+mod damaged;
+mod replay;
+
+pub use replay::replay;
+
 use crate::call::Call;
 use crate::compare::{Case, filled};
 use crate::generate::calls::{self, Host};
@@ -13,17 +18,24 @@ use crate::script::{self, written};
 use crate::words::{self, STATE_WORDS};
 use std::collections::BTreeMap;
 use std::fs;
+use std::path::Path;
 
-/// "NKV1" in the file's first four bytes.
-const MAGIC: u32 = u32::from_le_bytes(*b"NKV1");
+/// "NKV2" in the file's first four bytes.
+const MAGIC: u32 = u32::from_le_bytes(*b"NKV2");
+/// The list's words before its records.
+const HEAD_WORDS: usize = 5;
+/// A record's words before its sets.
+const RECORD_HEAD_WORDS: usize = 16;
+/// The longest record: a replayer has room for no more.
+const RECORD_WORDS: usize = 4096;
 pub const SEED: u64 = 1;
 /// The replayer's state has one word more than a state, so that it can lend
 /// one that is too long.
 pub const HELD_WORDS: usize = STATE_WORDS + 1;
 /// What each part of the list may take, in words.
-const SEQUENCES: usize = 56_000;
-const DIRECT: usize = 14_000;
-const LIMITS: usize = 16_000;
+const SEQUENCES: usize = 58_000;
+const DIRECT: usize = 14_500;
+const LIMITS: usize = 16_500;
 
 /// The list in the making.
 struct Writer {
@@ -33,15 +45,21 @@ struct Writer {
     counts: BTreeMap<u32, usize>,
 }
 
-/// Writes the list to `path`.
-pub fn write(path: &str, seed: u64) -> Result<(), String> {
+/// Writes the list and the damaged ones into `folder`.
+pub fn write(folder: &str, seed: u64) -> Result<(), String> {
     let (data, counts) = vectors(seed);
-    fs::write(path, bytes(&data)).map_err(|e| format!("{path}: {e}"))?;
+    let mut files = damaged::lists(&data);
+    files.push(("vectors", bytes(&data)));
+    for (name, content) in &files {
+        let path = Path::new(folder).join(name);
+        fs::write(&path, content).map_err(|e| format!("{}: {e}", path.display()))?;
+    }
     let text: Vec<String> = counts.iter().map(|(n, k)| format!("{n}: {k}")).collect();
     println!(
-        "vectors: {} records in {} bytes, seed {seed}; answers by number: {}",
+        "vectors: {} records in {} bytes, seed {seed}, and {} damaged lists; answers by number: {}",
         data[3],
         data.len() * 4,
+        files.len() - 1,
         text.join(", ")
     );
     Ok(())
@@ -62,8 +80,16 @@ pub fn vectors(seed: u64) -> (Vec<u32>, BTreeMap<u32, usize>) {
     w.unfit(&mut rng);
     w.limits(LIMITS, &mut rng);
     w.words[3] = w.records;
-    w.words[4] = w.words.len() as u32;
+    w.words[4] = check(&w.words[..4]);
     (w.words, w.counts)
+}
+
+/// What stands before a run of words so that damage to it is seen: a change
+/// of any one word changes it.
+fn check(words: &[u32]) -> u32 {
+    words.iter().fold(1, |sum: u32, w| {
+        sum.wrapping_mul(16_777_619).wrapping_add(*w)
+    })
 }
 
 impl Writer {
@@ -189,25 +215,25 @@ impl Writer {
         let reply = model(&case.call, &mut state, &mut buffer);
         let changes = changed(&case.state, &state);
         let rows = &buffer[..written(&case.call, &reply)];
-        let mut arguments = case.call.lent().unwrap_or(&[]).to_vec();
-        arguments.extend(case.call.numbers());
-        let length = 13 + 2 * sets.len() + arguments.len() + 2 * changes.len() + rows.len();
-        self.words.extend([
-            length as u32,
-            case.call.code(),
-            u32::from(fresh),
-            case.state.len() as u32,
-            case.buffer.len() as u32,
-        ]);
-        self.words
-            .extend([reply.number, reply.present, reply.value, reply.second]);
-        for count in [sets.len(), arguments.len(), changes.len(), rows.len()] {
-            self.words.push(count as u32);
-        }
-        self.words.extend(sets.iter().flatten());
-        self.words.extend(arguments);
-        self.words.extend(changes.iter().flatten());
-        self.words.extend(rows);
+        let lent = case.call.lent().unwrap_or(&[]);
+        let mut numbers = case.call.numbers();
+        numbers.resize(3, 0);
+        let sets_end = RECORD_HEAD_WORDS + 2 * sets.len();
+        let lent_end = sets_end + lent.len();
+        let changes_end = lent_end + 2 * changes.len();
+        let length = changes_end + rows.len();
+        assert!(length <= RECORD_WORDS, "a record of {length} words");
+        let mut record = vec![0, length as u32, case.call.code(), u32::from(fresh)];
+        record.extend([case.state.len(), case.buffer.len()].map(|n| n as u32));
+        record.extend([reply.number, reply.present, reply.value, reply.second]);
+        record.extend([sets_end, lent_end, changes_end].map(|n| n as u32));
+        record.extend(numbers);
+        record.extend(sets.iter().flatten());
+        record.extend(lent);
+        record.extend(changes.iter().flatten());
+        record.extend(rows);
+        record[0] = check(&record[1..]);
+        self.words.extend(record);
         self.held = wanted;
         self.held[..state.len()].copy_from_slice(&state);
         self.records += 1;
@@ -222,106 +248,4 @@ fn changed(before: &[u32], after: &[u32]) -> Vec<[u32; 2]> {
         .filter(|((b, a), _)| b != a)
         .map(|((_, a), i)| [i, *a])
         .collect()
-}
-
-/// Replays a list against the model, as another program would replay it
-/// against a port. Gives how many records there are.
-pub fn replay(data: &[u32]) -> Result<usize, String> {
-    let [MAGIC, _, _, records, length, rest @ ..] = data else {
-        return Err("not a list of answers".to_string());
-    };
-    if *length as usize != data.len() {
-        return Err("the list is cut short".to_string());
-    }
-    let mut rest = rest;
-    let mut held = vec![0; HELD_WORDS];
-    for i in 0..*records {
-        let (record, after) = rest.split_at(rest[0] as usize);
-        rest = after;
-        replay_one(record, &mut held).map_err(|what| format!("record {i}: {what}"))?;
-    }
-    if rest.is_empty() {
-        Ok(*records as usize)
-    } else {
-        Err("words after the last record".to_string())
-    }
-}
-
-/// How many of a call's arguments are numbers, by its code; the others are
-/// its request or row.
-const NUMBERS: [usize; 15] = [2, 0, 2, 0, 2, 0, 0, 0, 1, 3, 1, 1, 1, 3, 2];
-
-fn replay_one(record: &[u32], held: &mut [u32]) -> Result<(), String> {
-    let [sets, arguments, changes, rows] = [9, 10, 11, 12].map(|i| record[i] as usize);
-    let (set, rest) = record[13..].split_at(2 * sets);
-    let (arguments, rest) = rest.split_at(arguments);
-    let (change, row) = rest.split_at(2 * changes);
-    if record[2] == 1 {
-        held.fill(0);
-    }
-    apply(held, set);
-    let call = call(record[1], arguments)?;
-    let state = &mut held[..record[3] as usize];
-    let mut expected = state.to_vec();
-    apply(&mut expected, change);
-    let mut buffer = filled(record[4] as usize);
-    let mut expected_buffer = buffer.clone();
-    expected_buffer[..rows].copy_from_slice(row);
-    let reply = model(&call, state, &mut buffer);
-    if [reply.number, reply.present, reply.value, reply.second] != record[5..9] {
-        return Err(format!("{call}: {reply:?}"));
-    }
-    if *state != *expected || buffer != expected_buffer {
-        return Err(format!("{call}: other words"));
-    }
-    Ok(())
-}
-
-fn apply(words: &mut [u32], pairs: &[u32]) {
-    for pair in pairs.chunks_exact(2) {
-        words[pair[0] as usize] = pair[1];
-    }
-}
-
-fn call(code: u32, arguments: &[u32]) -> Result<Call, String> {
-    let numbers = NUMBERS
-        .get(code.wrapping_sub(1) as usize)
-        .ok_or("no such call")?;
-    let (lent, n) = arguments.split_at(arguments.len() - numbers);
-    let lent = lent.to_vec();
-    let now = || u64::from(n[0]) | u64::from(n[1]) << 32;
-    Ok(match code {
-        1 => Call::Up { now: now() },
-        2 => Call::Down,
-        3 => Call::AddV4 {
-            request: lent,
-            now: now(),
-        },
-        4 => Call::DelV4 { request: lent },
-        5 => Call::Expire { now: now() },
-        6 => Call::AddRoute4 { request: lent },
-        7 => Call::DelRoute4 { request: lent },
-        8 => Call::Dump4,
-        9 => Call::Lookup4 { ip: n[0] },
-        10 => Call::Lookup4Flow {
-            ip: n[0],
-            tos: n[1],
-            oif: n[2],
-        },
-        11 => Call::Local4 { ip: n[0] },
-        12 => Call::Source4 {
-            row: lent,
-            ip: n[0],
-        },
-        13 => Call::Source { ip: n[0] },
-        14 => Call::Select4 {
-            present: n[0],
-            dst: n[1],
-            scope: n[2],
-        },
-        _ => Call::Left {
-            row: lent,
-            now: now(),
-        },
-    })
 }
