@@ -30,7 +30,7 @@ same-length : tie.Need-same-length
 same-length c = simp length-set (c .before .before .before .clear .kept .0)
 
 returns : tie.Need-returns
-returns c = cc
+returns c = rw (c .narrow .ensures, c .before .before .before .clear .ensures)
 
 pub close-spec : {M : Type 1} → statement M
 close-spec =
