@@ -146,6 +146,11 @@ pub fn special() -> Vec<Measured> {
         ),
         of("dump4, 64/256/32", of_size([64, 256, 32]), Call::Dump4),
         of(
+            "del_v4 of one address, 64/256/32",
+            of_size([64, 256, 32]),
+            usual_call(4),
+        ),
+        of(
             "del_v4 of a primary with 63 secondaries and 190 routes from it, 64/256/2",
             one_subnet(),
             Call::DelV4 { request },
