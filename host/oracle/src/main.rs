@@ -16,7 +16,8 @@ const USAGE: &str = "usage: oracle COMMAND
   pairs [N] [SEED]       document 01's claim about two runs, on N pairs
   selftest [SEED]        planted faults, which the comparison must find
   vectors FOLDER [SEED]  writes the fixed list of answers, and damaged ones
-  replay FILE            replays such a list against the model
+  replay FILE            replays such a list against the model and against
+                         planted faults, which it must find
   cases N SEED [--large PERCENT]
                          prints N random cases as JSON lines
   all                    all of examples, linux, rfc, facts, document,
@@ -108,8 +109,18 @@ fn cases(rest: &[String]) -> Result<bool, String> {
 
 fn replayed(data: &[u32]) -> Result<bool, String> {
     let records = vectors::replay(data)?;
-    println!("replay: {records} records alike");
-    Ok(true)
+    let mut found = 0;
+    let mut missed = 0;
+    for fault in faults::on_words() {
+        if vectors::replay_on(data, fault.run).is_ok() {
+            println!("MISSED  {}", fault.name);
+            missed += 1;
+        } else {
+            found += 1;
+        }
+    }
+    println!("replay: {records} records alike; {found} planted faults found, {missed} not");
+    Ok(missed == 0)
 }
 
 type Part = dyn Fn() -> Result<bool, String>;

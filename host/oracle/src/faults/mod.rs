@@ -7,7 +7,7 @@ mod refusals;
 use crate::call::{Call, Reply};
 use crate::campaign::shrink;
 use crate::campaign::{self, Amount, Summary};
-use crate::compare::compare;
+use crate::compare::{Case, Cut, compare};
 use crate::generate::cases::{Cases, USUAL};
 use crate::model::model;
 use crate::pairs;
@@ -17,11 +17,11 @@ use crate::rng::Rng;
 /// A port that does `run` in place of the model.
 #[derive(Clone, Copy)]
 pub struct Fault {
-    name: &'static str,
-    run: Run,
+    pub name: &'static str,
+    pub run: Run,
     part_words: bool,
 }
-type Run = fn(&Call, &mut [u32], &mut [u32]) -> Reply;
+pub type Run = fn(&Call, &mut [u32], &mut [u32]) -> Reply;
 
 impl Fault {
     const fn new(name: &'static str, run: Run) -> Self {
@@ -38,6 +38,31 @@ impl Fault {
             ..Self::new(name, model)
         }
     }
+}
+
+impl Fault {
+    /// A small case on which the port and the model part.
+    pub fn case(self, seed: u64) -> Option<Case> {
+        let mut cases = Cases::new(seed, USUAL);
+        let mut port = Bytes(self);
+        (1..=CASES).find_map(|_| {
+            let (_, case) = cases.next_case();
+            if case.cut != Cut::default() {
+                return None;
+            }
+            let other = compare(&mut port, &case).err()?;
+            Some(shrink(&mut port, case, other).0)
+        })
+    }
+}
+
+/// The faults that a port over words can have.
+pub fn on_words() -> impl Iterator<Item = Fault> {
+    all().into_iter().filter(|fault| !fault.part_words)
+}
+
+fn all() -> Vec<Fault> {
+    [answers::FAULTS, effects::FAULTS, refusals::FAULTS].concat()
 }
 
 impl WordPort for Fault {
@@ -61,7 +86,7 @@ const SOUND: usize = 5_000;
 /// Runs every fault through the comparison, and those that break the claim
 /// about two runs through the pairs.
 pub fn selftest(seed: u64) -> bool {
-    let all: Vec<Fault> = [answers::FAULTS, effects::FAULTS, refusals::FAULTS].concat();
+    let all = all();
     let mut found = 0;
     for fault in &all {
         match cases_to_find(*fault, seed) {

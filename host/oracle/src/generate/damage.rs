@@ -1,4 +1,5 @@
 //! Damage: each clause of well-formedness, and each field of a request.
+use super::calls::{self, Host};
 use super::pools;
 use super::states::{self, Sizes};
 use crate::call::Call;
@@ -180,6 +181,85 @@ const ROUTE: [(usize, u32); 7] = [
     (10, 2),
 ];
 const ADD_ROUTE4: [(usize, u32); 3] = [(14, 65_536), (15, 134), (33, 2)];
+
+/// The calls that are lent a request or a row, by their codes: the fields in
+/// it that are limited, and the least number that is too great for each.
+const LIMITED: [(u32, &[(usize, u32)]); 6] = [
+    (
+        3,
+        &[
+            (2, 33),
+            (3, 2),
+            (5, 256),
+            (7, 256),
+            (8, 16),
+            (16, 2),
+            (17, 2),
+        ],
+    ),
+    (4, &[(0, 2), (2, 2), (4, 33), (5, 2), (6, 16)]),
+    (
+        6,
+        &[
+            (2, 256),
+            (3, 256),
+            (5, 256),
+            (6, 256),
+            (7, 256),
+            (8, 2),
+            (10, 2),
+            (14, 65_536),
+            (15, 134),
+            (33, 2),
+        ],
+    ),
+    (
+        7,
+        &[
+            (2, 256),
+            (3, 256),
+            (5, 256),
+            (6, 256),
+            (7, 256),
+            (8, 2),
+            (10, 2),
+            (13, 2),
+            (14, 18),
+        ],
+    ),
+    (
+        12,
+        &[
+            (2, 33),
+            (3, 256),
+            (6, 256),
+            (7, 256),
+            (8, 2),
+            (10, 2),
+            (12, 2),
+            (13, 2),
+            (14, 2),
+        ],
+    ),
+    (15, &[(2, 33), (3, 2), (5, 256), (7, 256), (8, 16)]),
+];
+
+/// Calls on both sides of each such limit.
+pub fn edges(rng: &mut Rng, lists: &Lists, host: &mut Host) -> Vec<Call> {
+    let mut made = Vec::new();
+    for (code, fields) in LIMITED {
+        for (at, least) in fields {
+            for value in [least - 1, *least] {
+                let mut call = calls::of_kind(rng, code, lists, host);
+                if let Some(lent) = call.lent_mut() {
+                    lent[*at] = value;
+                }
+                made.push(call);
+            }
+        }
+    }
+    made
+}
 
 /// Breaks one field of `call`, if it has one, so that it is met by 202. The
 /// field's number is drawn; all of them come up.

@@ -2,11 +2,14 @@
 //! without Rust at hand can replay. host/README.md describes its format.
 mod damaged;
 mod replay;
+mod traps;
 
-pub use replay::replay;
+pub use replay::{replay, replay_on};
 
 use crate::call::Call;
+use crate::campaign;
 use crate::compare::{Case, filled};
+use crate::faults;
 use crate::generate::calls::{self, Host};
 use crate::generate::cases::{Cases, Weights};
 use crate::generate::states::Sizes;
@@ -14,7 +17,7 @@ use crate::generate::{damage, limits, states};
 use crate::model::model;
 use crate::port::bytes;
 use crate::rng::Rng;
-use crate::script::{self, written};
+use crate::script::written;
 use crate::words::{self, STATE_WORDS};
 use std::collections::BTreeMap;
 use std::fs;
@@ -26,15 +29,17 @@ const MAGIC: u32 = u32::from_le_bytes(*b"NKV2");
 const HEAD_WORDS: usize = 5;
 /// A record's words before its sets.
 const RECORD_HEAD_WORDS: usize = 16;
-/// The longest record: a replayer has room for no more.
+/// The longest record, and the longest buffer: a replayer has room for no
+/// more.
 const RECORD_WORDS: usize = 4096;
+const BUFFER_WORDS: usize = 13_056;
 pub const SEED: u64 = 1;
 /// The replayer's state has one word more than a state, so that it can lend
 /// one that is too long.
 pub const HELD_WORDS: usize = STATE_WORDS + 1;
 /// What each part of the list may take, in words.
-const SEQUENCES: usize = 58_000;
-const DIRECT: usize = 14_500;
+const SEQUENCES: usize = 44_000;
+const DIRECT: usize = 12_000;
 const LIMITS: usize = 16_500;
 
 /// The list in the making.
@@ -75,12 +80,13 @@ pub fn vectors(seed: u64) -> (Vec<u32>, BTreeMap<u32, usize>) {
     };
     let mut rng = Rng::new(seed);
     w.by_hand();
+    w.written();
     w.part(SEQUENCES, &mut rng, [1, 0, 0, 0, 0, 0, 0]);
     w.part(DIRECT, &mut rng, [0, 1, 0, 0, 0, 0, 0]);
     w.unfit(&mut rng);
     w.limits(LIMITS, &mut rng);
-    w.words[3] = w.records;
-    w.words[4] = check(&w.words[..4]);
+    w.close();
+    w.faults(seed);
     (w.words, w.counts)
 }
 
@@ -94,25 +100,26 @@ fn check(words: &[u32]) -> u32 {
 
 impl Writer {
     /// Document 01's first example begins the list, then each kind that
-    /// rejects, in both sets of tables.
+    /// rejects, in both sets of tables, then what a random call seldom meets.
     fn by_hand(&mut self) {
-        let mut calls = vec![Call::Up { now: 0 }, Call::Up { now: 1 }, Call::Dump4];
-        for (kind, dst) in [(6, "10.6.0.0/16"), (7, "10.7.0.0/16"), (8, "10.8.0.0/16")] {
-            for table in [254, 253] {
-                let mut ask = script::route(dst).rejecting(kind);
-                ask.table = table;
-                ask.dst += 254 - table;
-                ask.len = 32;
-                let ip = ask.dst;
-                let request = ask.adding();
-                calls.extend([Call::AddRoute4 { request }, Call::Lookup4 { ip }]);
-            }
+        for (state, calls) in traps::all() {
+            self.sequence(state, calls);
         }
-        let throw = script::route("10.0.0.0/8").rejecting(9).adding();
-        let ip = script::ip("10.9.0.1");
-        calls.extend([Call::AddRoute4 { request: throw }, Call::Lookup4 { ip }]);
+    }
+
+    /// Each call on the state that the last one left.
+    fn sequence(&mut self, state: Vec<u32>, calls: Vec<Call>) {
+        let mut state = state;
         for call in calls {
-            let case = Case::new(call, self.held[..STATE_WORDS].to_vec());
+            self.record(&Case::new(call, state));
+            state = self.held[..STATE_WORDS].to_vec();
+        }
+    }
+
+    /// All calls of the examples and the differences, but those that change
+    /// thousands of words.
+    fn written(&mut self) {
+        for case in campaign::by_hand() {
             self.record(&case);
         }
     }
@@ -132,8 +139,8 @@ impl Writer {
         }
     }
 
-    /// Each clause and each kind of request damaged, and wrong lengths, all
-    /// on one state.
+    /// Each clause and each kind of request damaged, both sides of each limit,
+    /// and wrong lengths, all on one state.
     fn unfit(&mut self, rng: &mut Rng) {
         let sizes = Sizes {
             addresses: 3,
@@ -148,6 +155,9 @@ impl Writer {
             let call = calls::of_kind(rng, code, &lists, &mut host);
             let (_, unfit) = damage::of_lists(rng, clause, &lists);
             self.record(&Case::new(call, unfit));
+        }
+        for call in damage::edges(rng, &lists, &mut host) {
+            self.record(&Case::new(call, state.clone()));
         }
         for i in 0..90 {
             let mut call = calls::of_kind(rng, 1 + i % 15, &lists, &mut host);
@@ -170,6 +180,23 @@ impl Writer {
                 self.record(&case);
             }
         }
+    }
+
+    /// For each planted fault that goes unfound, a case that finds it.
+    fn faults(&mut self, seed: u64) {
+        for fault in faults::on_words() {
+            if replay_on(&self.words, fault.run).is_ok() {
+                let case = fault.case(seed).expect("the comparison finds it");
+                assert!(self.record(&case), "{}: a long record", fault.name);
+                self.close();
+            }
+        }
+    }
+
+    /// The head says how many records there are.
+    fn close(&mut self) {
+        self.words[3] = self.records;
+        self.words[4] = check(&self.words[..4]);
     }
 
     /// Several calls on each of a few states at the limits.
@@ -203,7 +230,11 @@ impl Writer {
         }
     }
 
-    fn record(&mut self, case: &Case) {
+    /// Writes the case and its answer, unless a replayer has no room for it.
+    fn record(&mut self, case: &Case) -> bool {
+        if case.state.len() > HELD_WORDS || case.buffer.len() > BUFFER_WORDS {
+            return false;
+        }
         let mut wanted = case.state.clone();
         wanted.resize(HELD_WORDS, 0);
         let from_here = changed(&self.held, &wanted);
@@ -222,7 +253,9 @@ impl Writer {
         let lent_end = sets_end + lent.len();
         let changes_end = lent_end + 2 * changes.len();
         let length = changes_end + rows.len();
-        assert!(length <= RECORD_WORDS, "a record of {length} words");
+        if length > RECORD_WORDS {
+            return false;
+        }
         let mut record = vec![0, length as u32, case.call.code(), u32::from(fresh)];
         record.extend([case.state.len(), case.buffer.len()].map(|n| n as u32));
         record.extend([reply.number, reply.present, reply.value, reply.second]);
@@ -238,6 +271,7 @@ impl Writer {
         self.held[..state.len()].copy_from_slice(&state);
         self.records += 1;
         *self.counts.entry(reply.number).or_default() += 1;
+        true
     }
 }
 

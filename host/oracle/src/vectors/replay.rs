@@ -2,11 +2,17 @@
 use super::{HEAD_WORDS, HELD_WORDS, MAGIC, RECORD_HEAD_WORDS, check};
 use crate::call::Call;
 use crate::compare::filled;
+use crate::faults::Run;
 use crate::model::model;
 
 /// Replays a list against the model, as another program would replay it
 /// against a port. Gives how many records there are.
 pub fn replay(data: &[u32]) -> Result<usize, String> {
+    replay_on(data, model)
+}
+
+/// Replays a list against what does `run` in place of the model.
+pub fn replay_on(data: &[u32], run: Run) -> Result<usize, String> {
     let [MAGIC, _, _, records, sum, rest @ ..] = data else {
         return Err("not a list of answers".to_string());
     };
@@ -18,7 +24,7 @@ pub fn replay(data: &[u32]) -> Result<usize, String> {
     for i in 0..*records {
         let (record, after) = whole(rest).ok_or(format!("record {i} is damaged"))?;
         rest = after;
-        replay_one(record, &mut held).map_err(|what| format!("record {i}: {what}"))?;
+        replay_one(record, &mut held, run).map_err(|what| format!("record {i}: {what}"))?;
     }
     if rest.is_empty() {
         Ok(*records as usize)
@@ -34,7 +40,7 @@ fn whole(words: &[u32]) -> Option<(&[u32], &[u32])> {
         .then_some((record, after))
 }
 
-fn replay_one(record: &[u32], held: &mut [u32]) -> Result<(), String> {
+fn replay_one(record: &[u32], held: &mut [u32], run: Run) -> Result<(), String> {
     let [sets_end, lent_end, changes_end] = [10, 11, 12].map(|i| record[i] as usize);
     if record[3] == 1 {
         held.fill(0);
@@ -48,7 +54,7 @@ fn replay_one(record: &[u32], held: &mut [u32]) -> Result<(), String> {
     let mut expected_buffer = buffer.clone();
     let rows = &record[changes_end..];
     expected_buffer[..rows.len()].copy_from_slice(rows);
-    let reply = model(&call, state, &mut buffer);
+    let reply = run(&call, state, &mut buffer);
     if [reply.number, reply.present, reply.value, reply.second] != record[6..10] {
         return Err(format!("{call}: {reply:?}"));
     }

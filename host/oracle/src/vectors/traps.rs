@@ -1,0 +1,139 @@
+//! Calls that begin the list, and what a random call seldom meets.
+use crate::call::Call;
+use crate::generate::states;
+use crate::script::{self, NewAddress, Route};
+use crate::words;
+use reference::{AddressRow, Lists, RouteRow};
+
+/// A state and the calls on it, one after the other.
+type Sequence = (Vec<u32>, Vec<Call>);
+
+pub fn all() -> Vec<Sequence> {
+    let mut sequences = vec![
+        (words::empty(), first()),
+        (words::empty(), gateways()),
+        (words::empty(), forever()),
+        before_its_primary(),
+    ];
+    for routes in 252..=256 {
+        let state = many_routes(routes);
+        sequences.push((state.clone(), vec![Call::Up { now: 0 }]));
+        let request = script::address("10.1.0.5/24").up().words();
+        sequences.push((state, vec![Call::AddV4 { request, now: 0 }]));
+    }
+    sequences
+}
+
+/// Document 01's first example, then each kind that rejects, in both sets of
+/// tables.
+fn first() -> Vec<Call> {
+    let mut calls = vec![Call::Up { now: 0 }, Call::Up { now: 1 }, Call::Dump4];
+    for (kind, dst) in [(6, "10.6.0.0/16"), (7, "10.7.0.0/16"), (8, "10.8.0.0/16")] {
+        for table in [254, 253] {
+            let mut ask = script::route(dst).rejecting(kind);
+            ask.table = table;
+            ask.dst += 254 - table;
+            ask.len = 32;
+            calls.extend([add(ask), Call::Lookup4 { ip: ask.dst }]);
+        }
+    }
+    let ip = script::ip("10.9.0.1");
+    calls.extend([
+        add(script::route("10.0.0.0/8").rejecting(9)),
+        Call::Lookup4 { ip },
+    ]);
+    calls
+}
+
+fn add(route: Route) -> Call {
+    let request = route.adding();
+    Call::AddRoute4 { request }
+}
+
+/// A gateway has to lie behind a route of greater scope than its own.
+fn gateways() -> Vec<Call> {
+    let mut calls = Vec::new();
+    for (i, near) in [0, 200, 253, 254, 255].into_iter().enumerate() {
+        let i = i as u32;
+        let mut to = script::route("10.2.0.0/16").up();
+        to.dst += i << 16;
+        to.scope = near;
+        calls.push(add(to));
+        for scope in [0, 199, 200, 252, 253] {
+            let mut by = script::route("10.100.0.0/24").up();
+            by.dst += (i << 16) + (scope << 8);
+            by.scope = scope;
+            by.gateway = Some(to.dst + 1);
+            calls.push(add(by));
+        }
+    }
+    calls
+}
+
+/// Lifetimes that never end leave the stored seconds.
+fn forever() -> Vec<Call> {
+    let some = NewAddress {
+        valid: 10,
+        preferred: 5,
+        replace: true,
+        ..script::address("10.1.0.5/24").up()
+    };
+    let request = |valid, preferred| {
+        let new = NewAddress {
+            valid,
+            preferred,
+            ..some
+        };
+        new.words()
+    };
+    let lifetimes = [
+        (10, 5),
+        (script::FOREVER, 7),
+        (9, script::FOREVER),
+        (script::FOREVER, script::FOREVER),
+        (4, 4),
+    ];
+    let at = |(now, (valid, preferred))| Call::AddV4 {
+        request: request(valid, preferred),
+        now,
+    };
+    (1..).zip(lifetimes).map(at).collect()
+}
+
+/// A secondary that stands before its primary goes with it, and the addresses
+/// behind them are met all the same.
+fn before_its_primary() -> Sequence {
+    let row = |local: &str, flags, valid| {
+        let mut row: AddressRow = [0; 20];
+        let (local, prefix) = script::net(local);
+        row[..3].copy_from_slice(&[local, local, prefix]);
+        row[6] = flags;
+        row[14..16].copy_from_slice(&[valid, valid]);
+        row
+    };
+    let lists = Lists {
+        addresses: vec![
+            row("10.1.0.6/24", 1, 1000),
+            row("10.1.0.5/24", 0, 1),
+            row("10.2.0.5/24", 0, 1),
+        ],
+        ..Lists::default()
+    };
+    let now = 5_000_000_000;
+    (states::encoded(&lists), vec![Call::Expire { now }])
+}
+
+/// As many routes of a private table.
+fn many_routes(count: u32) -> Vec<u32> {
+    let route = |i: u32| {
+        let mut row: RouteRow = [0; 32];
+        row[..3].copy_from_slice(&[100, 0x0900_0000 + (i << 8), 24]);
+        row[5] = 6;
+        row
+    };
+    states::encoded(&Lists {
+        routes: (0..count).map(route).collect(),
+        tables: vec![100],
+        ..Lists::default()
+    })
+}
