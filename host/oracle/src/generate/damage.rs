@@ -182,73 +182,27 @@ const ROUTE: [(usize, u32); 7] = [
 ];
 const ADD_ROUTE4: [(usize, u32); 3] = [(14, 65_536), (15, 134), (33, 2)];
 
+type Fields = &'static [(usize, u32)];
+
 /// The calls that are lent a request or a row, by their codes: the fields in
 /// it that are limited, and the least number that is too great for each.
-const LIMITED: [(u32, &[(usize, u32)]); 6] = [
-    (
-        3,
-        &[
-            (2, 33),
-            (3, 2),
-            (5, 256),
-            (7, 256),
-            (8, 16),
-            (16, 2),
-            (17, 2),
-        ],
-    ),
-    (4, &[(0, 2), (2, 2), (4, 33), (5, 2), (6, 16)]),
-    (
-        6,
-        &[
-            (2, 256),
-            (3, 256),
-            (5, 256),
-            (6, 256),
-            (7, 256),
-            (8, 2),
-            (10, 2),
-            (14, 65_536),
-            (15, 134),
-            (33, 2),
-        ],
-    ),
-    (
-        7,
-        &[
-            (2, 256),
-            (3, 256),
-            (5, 256),
-            (6, 256),
-            (7, 256),
-            (8, 2),
-            (10, 2),
-            (13, 2),
-            (14, 18),
-        ],
-    ),
-    (
-        12,
-        &[
-            (2, 33),
-            (3, 256),
-            (6, 256),
-            (7, 256),
-            (8, 2),
-            (10, 2),
-            (12, 2),
-            (13, 2),
-            (14, 2),
-        ],
-    ),
-    (15, &[(2, 33), (3, 2), (5, 256), (7, 256), (8, 16)]),
+const LIMITED: [(u32, [Fields; 2]); 6] = [
+    (3, [&ADD_V4, &[(8, 16)]]),
+    (4, [&DEL_V4, &[(6, 16)]]),
+    (6, [&ROUTE, &ADD_ROUTE4]),
+    (7, [&ROUTE, &[(13, 2), (14, 18)]]),
+    (12, [&[(2, 33), (12, 2), (13, 2), (14, 2)], ROW_BYTES]),
+    (15, [ADD_V4.split_at(4).0, &[(8, 16)]]),
 ];
+/// A row's bytes and presence words stand as a request's do, but its len and
+/// kind, which have limits of their own.
+const ROW_BYTES: Fields = &[ROUTE[1], ROUTE[3], ROUTE[4], ROUTE[5], ROUTE[6]];
 
 /// Calls on both sides of each such limit.
 pub fn edges(rng: &mut Rng, lists: &Lists, host: &mut Host) -> Vec<Call> {
     let mut made = Vec::new();
     for (code, fields) in LIMITED {
-        for (at, least) in fields {
+        for (at, least) in fields.into_iter().flatten() {
             for value in [least - 1, *least] {
                 let mut call = calls::of_kind(rng, code, lists, host);
                 if let Some(lent) = call.lent_mut() {
