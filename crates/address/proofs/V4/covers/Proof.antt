@@ -18,7 +18,7 @@ same-network-requires-2 : tie.Need-same-network-requires-2
 same-network-requires-2 c κs = search needs
 
 returns-2 : tie.Need-returns-2
-returns-2 c = search needs
+returns-2 c = c .same-network2 .ensures
 
 pub covers-spec : {M : Type 1} → statement M
 covers-spec = tie.close (tie.spec same-network-requires returns same-network-requires-2 returns-2)
