@@ -7,7 +7,7 @@ use native.Mathlib.Nat.{add-zero, add-assoc}
 use native.Mathlib.Numerals.{add-one}
 use native.Mathlib.Omega.{arith}
 use lib.ListN.{length, getD, set, take, drop, length-append, length-drop, take-append-drop, List·getD-append, drop-of-length-le}
-use lib.Seq.{length-take-le, take-at, drop-at, set-at, drop-cons, take-suc, set-split, drop-append-add, drop-drop, take-add, getD-take, getD-drop, getD-append-add}
+use lib.Seq.{length-take-le, take-at, drop-at, set-at, drop-cons, take-suc, set-split, drop-append-add, drop-drop, take-add, take-take, getD-take, getD-drop, getD-append-add}
 use Rattle.lists.specs.Lists.{zeros, span, put}
 use Rattle.lists.specs.Rows.{length-zeros, length-span}
 
@@ -247,3 +247,16 @@ put-part a k at vs l h g =
 pub put-whole : (vs l : List ℕ) → length vs ≡ length l → put 0 vs l ≡ vs
 unfolding put
 put-whole vs l e = rw (drop-of-length-le l {i = 0 + length vs} (omega arith)) (append-nil vs)
+
+-- a run of the first k words
+span-front : (k from n : ℕ) (l : List ℕ) → from + n ≤ k → span from n (take k l) ≡ span from n l
+unfolding span
+span-front k zero n l h = take-take n k l (omega arith)
+span-front zero (suc from) n l h = absurd (omega arith)
+span-front (suc k) (suc from) n [] h = refl
+span-front (suc k) (suc from) n (x ∷ l) h = span-front k from n l (omega arith)
+
+-- a run of a part is a run of the whole
+pub span-part : (a k from n : ℕ) (l : List ℕ) → from + n ≤ k → span from n (take k (drop a l)) ≡ span (a + from) n l
+unfolding span
+span-part a k from n l h = span-front k from n (drop a l) h ∙ ap (take n) (drop-drop from a l)

@@ -39,7 +39,7 @@ pub fn clear(s: &mut [u32], at: usize, n: usize)
 }
 
 // The n words at from, copied to a place that is not behind them: the first word goes first.
-pub fn move_down(s: &mut [u32], from: usize, to: usize, n: usize)
+fn walk_down(s: &mut [u32], from: usize, to: usize, n: usize)
     requires { ⌜ (to ≤ from) × (from + n ≤ length (now s)) ⌝ }
     ensures { λ _. ⌜ now (s .exit) ≡ put to (span from n (now (s .entry))) (now (s .entry)) ⌝ }
 {
@@ -50,8 +50,32 @@ pub fn move_down(s: &mut [u32], from: usize, to: usize, n: usize)
     }
 }
 
+// The same by a route's row of 32 words: the distance is a constant, so that the loop becomes one memmove.
+fn walk_down_32(s: &mut [u32], n: usize)
+    requires { ⌜ 32 + n ≤ length (now s) ⌝ }
+    ensures { λ _. ⌜ now (s .exit) ≡ put 0 (span 32 n (now (s .entry))) (now (s .entry)) ⌝ }
+{
+    let mut i = 0usize;
+    while i < n {
+        s[i] = s[32 + i];
+        i += 1;
+    }
+}
+
+// The n words at from, copied to a place that is not behind them.
+pub fn move_down(s: &mut [u32], from: usize, to: usize, n: usize)
+    requires { ⌜ (to ≤ from) × (from + n ≤ length (now s)) ⌝ }
+    ensures { λ _. ⌜ now (s .exit) ≡ put to (span from n (now (s .entry))) (now (s .entry)) ⌝ }
+{
+    if from - to == 32 {
+        walk_down_32(&mut s[to..], n);
+        return;
+    }
+    walk_down(s, from, to, n);
+}
+
 // The n words at from, copied to a place that is not before them: the last word goes first.
-pub fn move_up(s: &mut [u32], from: usize, to: usize, n: usize)
+fn walk_up(s: &mut [u32], from: usize, to: usize, n: usize)
     requires { ⌜ (from ≤ to) × (to + n ≤ length (now s)) ⌝ }
     ensures { λ _. ⌜ now (s .exit) ≡ put to (span from n (now (s .entry))) (now (s .entry)) ⌝ }
 {
@@ -60,6 +84,30 @@ pub fn move_up(s: &mut [u32], from: usize, to: usize, n: usize)
         i -= 1;
         s[to + i] = s[from + i];
     }
+}
+
+// The same by a route's row, as above.
+fn walk_up_32(s: &mut [u32], n: usize)
+    requires { ⌜ 32 + n ≤ length (now s) ⌝ }
+    ensures { λ _. ⌜ now (s .exit) ≡ put 32 (span 0 n (now (s .entry))) (now (s .entry)) ⌝ }
+{
+    let mut i = n;
+    while 0 < i {
+        i -= 1;
+        s[32 + i] = s[i];
+    }
+}
+
+// The n words at from, copied to a place that is not before them.
+pub fn move_up(s: &mut [u32], from: usize, to: usize, n: usize)
+    requires { ⌜ (from ≤ to) × (to + n ≤ length (now s)) ⌝ }
+    ensures { λ _. ⌜ now (s .exit) ≡ put to (span from n (now (s .entry))) (now (s .entry)) ⌝ }
+{
+    if to - from == 32 {
+        walk_up_32(&mut s[from..], n);
+        return;
+    }
+    walk_up(s, from, to, n);
 }
 
 // The words vs put in at a place behind which n words are in use: those move up.

@@ -1,88 +1,81 @@
--- `words::move_down` meets its contract: after i turns the first i words are put, and those that are read still stand.
+-- `words::move_down` meets its contract: words put in the part that is lent on are put in the whole.
 -- Assumes nothing.
-use Prim.Native.Nat.{ℕ, _+_, _-_, _≤_}
-use mathlib.Core.Path.{_≡_, refl, ap, _∙_}
-use mathlib.Core.List.{List}
+use Prim.Native.Nat.{ℕ, _+_, _-_}
+use mathlib.Core.Path.{_≡_, ap, _∙_}
+use mathlib.Core.List.{List, _++_}
 use native.Mathlib.Omega.{arith}
+use native.Mathlib.Nat.{add-zero}
 use denote.Ref.{now}
-use lib.ListN.{length, take, set, getD, length-set}
-use lib.Seq.{take-all}
+use lib.ListN.{length, take, drop, length-drop}
+use lib.Seq.{length-take-le}
 use Rattle.lists.specs.Lists.{put, span}
 use Rattle.lists.specs.Rows.{length-span}
-use Rattle.lists.specs.Put.{put-none, put-down}
+use Rattle.lists.specs.Put.{put-part, span-part}
 use borrow.Author.Needs.{needs}
 use Rattle.words.proofs.move_down.Statement.{statement}
 use Rattle.words.proofs.move_down.Tie as tie
+use Rattle.words.proofs.move_down.Reads as reads
+use Rattle.words.proofs.move_down.Lts as lts
+use Rattle.words.proofs.walk_down.Reads as walk-down-reads
+use Rattle.words.proofs.walk_down_32.Reads as walk-down-32-reads
 
-abbrev Inv-loop : tie.InvT-loop
-Inv-loop s₀ from to n i₀ s i = (i ≤ n) × (length s ≡ length s₀) × (s ≡ put to (take i (span from n s₀)) s₀)
+sub-if1 : tie.Need-sub-if1
+sub-if1 c = search needs
 
-abbrev μ-loop : tie.MeasureT-loop
-μ-loop s₀ from to n i₀ s i = n - i
+mul-walk-down-32 : tie.Need-mul-walk-down-32
+mul-walk-down-32 c = search needs
 
-loop-holds : tie.Need-loop-holds Inv-loop μ-loop
-loop-holds c = (omega arith, refl, put-none (c .args .to) (now (c .args .s)))
+sub-walk-down-32 : tie.Need-sub-walk-down-32
+sub-walk-down-32 c = search needs
 
-add-s : tie.Need-add-s Inv-loop μ-loop
-add-s c = search needs
+part-walk-down-32-start : tie.Need-part-walk-down-32-start
+part-walk-down-32-start c = search needs
 
-mul-s : tie.Need-mul-s Inv-loop μ-loop
-mul-s c = search needs
+part-walk-down-32-end : tie.Need-part-walk-down-32-end
+part-walk-down-32-end c = search needs
 
-slice-read-s : tie.Need-slice-read-s Inv-loop μ-loop
-slice-read-s c = omega arith
+walk-down-32-requires : tie.Need-walk-down-32-requires
+walk-down-32-requires c κs = search needs
 
-add-s-2 : tie.Need-add-s-2 Inv-loop μ-loop
-add-s-2 c = search needs
+same-length : tie.Need-same-length
+same-length c = search needs
 
-mul-s-2 : tie.Need-mul-s-2 Inv-loop μ-loop
-mul-s-2 c = search needs
-
-slice-write-s : tie.Need-slice-write-s Inv-loop μ-loop
-slice-write-s c = omega arith
-
-add-i : tie.Need-add-i Inv-loop μ-loop
-add-i c = search needs
-
-loop-less : tie.Need-loop-less Inv-loop μ-loop
-loop-less c = search needs
-
-loop-again : tie.Need-loop-again Inv-loop μ-loop
-loop-again c =
-    let w = c .before .before in
-    let a = w .before .args in
-    let i = w .loop .i in (
-      omega arith,
-      length-set (w .loop .s) (a .to + i) (getD (w .loop .s) (a .from + i) 0) ∙ w .loop .inv .1,
-      ap (λ (l : List ℕ). set l (a .to + i) (getD l (a .from + i) 0)) (w .loop .inv .2)
-          ∙ put-down (a .from) (a .to) (a .n) (now (a .s)) i (omega arith) (omega arith) (omega arith) (omega arith),
-    )
-
-same-length : tie.Need-same-length Inv-loop μ-loop
-same-length c = c .before .loop .inv .1
-
-returns : tie.Need-returns Inv-loop μ-loop
+returns : tie.Need-returns
 returns c =
-    let w = c .before in
-    let a = w .before .args in
-    let long = length-span (a .from) (a .n) (now (a .s)) (omega arith) in
-    w .loop .inv .2 ∙ ap (λ (x : List ℕ). put (a .to) x (now (a .s))) (take-all (w .loop .i) (span (a .from) (a .n) (now (a .s))) (omega arith))
+    let a = c .before .before .before .before .before .before .args in
+    let l = now (a .s) in
+    let h = c .before .before .before .before .before .before .pre in
+    let far : a .to + 32 ≡ a .from = omega (arith, c .before .before .before .before .if1 .taken, h) in
+    let k = length l - a .to in
+    let part = take k (drop (a .to) l) in
+    let wide : length part ≡ k = length-take-le k (drop (a .to) l) (rw length-drop (omega arith)) in
+    let long : length (span 32 (a .n) part) ≡ a .n = length-span 32 (a .n) part (omega (arith, h)) in
+    ap (λ (x : List ℕ). take (a .to) l ++ (x ++ drop k (drop (a .to) l))) (c .before .before .walk-down-32 .ensures)
+    ∙ put-part (a .to) k 0 (span 32 (a .n) part) l (omega arith) (omega (arith, h))
+    ∙ ap (λ (at : ℕ). put at (span 32 (a .n) part) l) (add-zero (a .to))
+    ∙ ap (λ (x : List ℕ). put (a .to) x l) (span-part (a .to) k 32 (a .n) l (omega (arith, h)) ∙ ap (λ (from : ℕ). span from (a .n) l) far)
+
+walk-down-requires : tie.Need-walk-down-requires
+walk-down-requires c κs = search needs
+
+same-length-2 : tie.Need-same-length-2
+same-length-2 c = search needs
+
+returns-2 : tie.Need-returns-2
+returns-2 c = search needs
 
 pub move-down-spec : {M : Type 1} → statement M
 move-down-spec =
     tie.close
     (tie.spec
-    Inv-loop
-    μ-loop
-    loop-holds
-    add-s
-    mul-s
-    slice-read-s
-    add-s-2
-    mul-s-2
-    slice-write-s
-    add-i
-    loop-less
-    loop-again
+    sub-if1
+    mul-walk-down-32
+    sub-walk-down-32
+    part-walk-down-32-start
+    part-walk-down-32-end
+    walk-down-32-requires
     same-length
-    returns)
+    returns
+    walk-down-requires
+    same-length-2
+    returns-2)

@@ -1,95 +1,81 @@
--- `words::move_up` meets its contract: with i words to go the others are put, and those that are read still stand.
+-- `words::move_up` meets its contract: words put in the part that is lent on are put in the whole.
 -- Assumes nothing.
-use Prim.Native.Nat.{ℕ, _+_, _-_, _≤_}
-use mathlib.Core.Path.{_≡_, refl, ap, _∙_}
-use mathlib.Core.List.{List}
+use Prim.Native.Nat.{ℕ, _+_, _-_}
+use mathlib.Core.Path.{_≡_, ap, _∙_}
+use mathlib.Core.List.{List, _++_}
 use native.Mathlib.Omega.{arith}
-use denote.Ref.{now}
-use lib.ListN.{length, drop, set, getD, length-set, drop-of-length-le}
 use native.Mathlib.Nat.{add-zero}
+use denote.Ref.{now}
+use lib.ListN.{length, take, drop, length-drop}
+use lib.Seq.{length-take-le}
 use Rattle.lists.specs.Lists.{put, span}
 use Rattle.lists.specs.Rows.{length-span}
-use Rattle.lists.specs.Put.{put-none, put-up}
+use Rattle.lists.specs.Put.{put-part, span-part}
 use borrow.Author.Needs.{needs}
 use Rattle.words.proofs.move_up.Statement.{statement}
 use Rattle.words.proofs.move_up.Tie as tie
+use Rattle.words.proofs.move_up.Reads as reads
+use Rattle.words.proofs.move_up.Lts as lts
+use Rattle.words.proofs.walk_up.Reads as walk-up-reads
+use Rattle.words.proofs.walk_up_32.Reads as walk-up-32-reads
 
-abbrev Inv-loop : tie.InvT-loop
-Inv-loop s₀ from to n i₀ s i = (i ≤ n) × (length s ≡ length s₀) × (s ≡ put (to + i) (drop i (span from n s₀)) s₀)
+sub-if1 : tie.Need-sub-if1
+sub-if1 c = search needs
 
-abbrev μ-loop : tie.MeasureT-loop
-μ-loop s₀ from to n i₀ s i = i
+mul-walk-up-32 : tie.Need-mul-walk-up-32
+mul-walk-up-32 c = search needs
 
-loop-holds : tie.Need-loop-holds Inv-loop μ-loop
-loop-holds c =
-    let a = c .args in
-    let long = length-span (a .from) (a .n) (now (a .s)) (omega arith) in (
-      omega arith,
-      refl,
-      rw (drop-of-length-le (span (a .from) (a .n) (now (a .s))) {i = a .n} (omega arith)) (put-none (a .to + a .n) (now (a .s))),
-    )
+sub-walk-up-32 : tie.Need-sub-walk-up-32
+sub-walk-up-32 c = search needs
 
-sub-i : tie.Need-sub-i Inv-loop μ-loop
-sub-i c = search needs
+part-walk-up-32-start : tie.Need-part-walk-up-32-start
+part-walk-up-32-start c = search needs
 
-add-s : tie.Need-add-s Inv-loop μ-loop
-add-s c = search needs
+part-walk-up-32-end : tie.Need-part-walk-up-32-end
+part-walk-up-32-end c = search needs
 
-mul-s : tie.Need-mul-s Inv-loop μ-loop
-mul-s c = search needs
+walk-up-32-requires : tie.Need-walk-up-32-requires
+walk-up-32-requires c κs = search needs
 
-slice-read-s : tie.Need-slice-read-s Inv-loop μ-loop
-slice-read-s c = omega arith
+same-length : tie.Need-same-length
+same-length c = search needs
 
-add-s-2 : tie.Need-add-s-2 Inv-loop μ-loop
-add-s-2 c = search needs
-
-mul-s-2 : tie.Need-mul-s-2 Inv-loop μ-loop
-mul-s-2 c = search needs
-
-slice-write-s : tie.Need-slice-write-s Inv-loop μ-loop
-slice-write-s c = omega arith
-
-loop-less : tie.Need-loop-less Inv-loop μ-loop
-loop-less c = search needs
-
-loop-again : tie.Need-loop-again Inv-loop μ-loop
-loop-again c =
-    let w = c .before .before in
-    let a = w .before .args in
-    let i = w .loop .i - 1 in
-    let back : i + 1 ≡ w .loop .i = omega arith in (
-      omega arith,
-      length-set (w .loop .s) (a .to + i) (getD (w .loop .s) (a .from + i) 0) ∙ w .loop .inv .1,
-      ap (λ (l : List ℕ). set l (a .to + i) (getD l (a .from + i) 0)) (rw (← back) at (w .loop .inv .2))
-          ∙ put-up (a .from) (a .to) (a .n) (now (a .s)) i (omega arith) (omega arith) (omega arith) (omega arith),
-    )
-
-same-length : tie.Need-same-length Inv-loop μ-loop
-same-length c = c .before .loop .inv .1
-
-returns : tie.Need-returns Inv-loop μ-loop
+returns : tie.Need-returns
 returns c =
-    let w = c .before in
-    let none : w .loop .i ≡ 0 = omega arith in
-    let a = w .before .args in
-    w .loop .inv .2 ∙ rw (none, add-zero)
+    let a = c .before .before .before .before .before .before .args in
+    let l = now (a .s) in
+    let h = c .before .before .before .before .before .before .pre in
+    let far : a .from + 32 ≡ a .to = omega (arith, c .before .before .before .before .if1 .taken, h) in
+    let k = length l - a .from in
+    let part = take k (drop (a .from) l) in
+    let wide : length part ≡ k = length-take-le k (drop (a .from) l) (rw length-drop (omega arith)) in
+    let long : length (span 0 (a .n) part) ≡ a .n = length-span 0 (a .n) part (omega (arith, h)) in
+    ap (λ (x : List ℕ). take (a .from) l ++ (x ++ drop k (drop (a .from) l))) (c .before .before .walk-up-32 .ensures)
+    ∙ put-part (a .from) k 32 (span 0 (a .n) part) l (omega arith) (omega (arith, h))
+    ∙ ap (λ (at : ℕ). put at (span 0 (a .n) part) l) far
+    ∙ ap (λ (x : List ℕ). put (a .to) x l) (span-part (a .from) k 0 (a .n) l (omega (arith, h)) ∙ ap (λ (from : ℕ). span from (a .n) l) (add-zero (a .from)))
+
+walk-up-requires : tie.Need-walk-up-requires
+walk-up-requires c κs = search needs
+
+same-length-2 : tie.Need-same-length-2
+same-length-2 c = search needs
+
+returns-2 : tie.Need-returns-2
+returns-2 c = search needs
 
 pub move-up-spec : {M : Type 1} → statement M
 move-up-spec =
     tie.close
     (tie.spec
-    Inv-loop
-    μ-loop
-    loop-holds
-    sub-i
-    add-s
-    mul-s
-    slice-read-s
-    add-s-2
-    mul-s-2
-    slice-write-s
-    loop-less
-    loop-again
+    sub-if1
+    mul-walk-up-32
+    sub-walk-up-32
+    part-walk-up-32-start
+    part-walk-up-32-end
+    walk-up-32-requires
     same-length
-    returns)
+    returns
+    walk-up-requires
+    same-length-2
+    returns-2)
