@@ -10,6 +10,7 @@ use lib.ListN.{length, getD, take, drop}
 use Rattle.lists.specs.Lists.{Row, any, keep}
 use Rattle.lists.specs.All.{cond-true, cond-false, cond-case}
 use Rattle.lists.specs.Count.{count-most}
+use Rattle.lists.specs.Keep.{keep-nothing}
 use Rattle.lists.specs.Laid.{Laid, Lays, laid-part}
 use Rattle.lists.specs.Pass.{part, laid-rows}
 use Rattle.layout.specs.Address.{fitAddress}
@@ -117,6 +118,19 @@ module _ {st : State} {s ev : List ℕ} (ip : ℕ) (f : Fits weight st s ev) whe
       no-more : (t : Bool) → t && false ≡ false
       no-more true = refl
       no-more false = refl
+
+  -- where no row has the source, whatever else is so
+  pub fall-strayless : (lost b : Bool) → b ≡ any (straysFrom ip) (st .routes) → b ≡ false → Step weight st (fallFrom ip lost st) s ev ev 0
+  unfolding fallFrom through
+  fall-strayless lost b q e =
+      step-eq (ap (λ (l : List Row). cond (lost && not (local4 st ip)) (through kernelDel4 (cond (listed mainTable st) l []) st) (stays st)) (keep-nothing (straysFrom ip) (st .routes) (sym q ∙ e))
+      ∙ nothing (lost && not (local4 st ip)) (listed mainTable st))
+      (step-none weight f)
+    where
+      nothing : (t m : Bool) → cond t (through kernelDel4 (cond m [] []) st) (stays st) ≡ stays st
+      nothing true true = refl
+      nothing true false = refl
+      nothing false m = refl
 
   goes : (lost b : Bool) → lost ≡ true → b ≡ local4 st ip → b ≡ false → lost && not (local4 st ip) ≡ true
   goes lost b k q e = rw (k, sym q ∙ e)

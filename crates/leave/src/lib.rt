@@ -8,7 +8,7 @@ ghost use Rattle.lists.specs.Lists.{Row, any};
 ghost use Rattle.lists.specs.Laid.{Laid, Lays};
 ghost use Rattle.layout.specs.Address.{fitAddress};
 ghost use Rattle.definition.specs.State.{State, through};
-ghost use Rattle.definition.specs.Reference.Removal.{wanted};
+ghost use Rattle.definition.specs.Reference.Removal.{wanted, straysFrom};
 ghost use Rattle.definition.specs.Kept.Shrinking.{weight};
 ghost use Rattle.state.specs.Holds.{Holds, Valid};
 ghost use Rattle.events.specs.Step.{Fits, Ready, Step};
@@ -86,12 +86,24 @@ fn loses(s: &[u32], rows: &[u32], m: usize) -> bool
     false
 }
 
-// The main rows with the preferred source ip fall if a local route of it is lost and it is local no more.
+// Whether a main row has the preferred source ip.
+fn some_stray(s: &[u32], ip: u32) -> bool
+    requires { ⌜ Valid (now s) ⌝ }
+    ensures { λ b. ⌜ ((st : State) → Holds (now (s .entry)) st → b ≡ any (straysFrom ip) (st .routes)) ⌝ }
+{
+    wanted::strays(view::routes(s), state::route_count(s), ip)
+}
+
+// The main rows with the preferred source ip fall if a local route of it is lost and it is local no more. Most
+// sources have no such row, so that is asked before all else.
 fn fall(s: &mut [u32], ev: &mut [u32], ip: u32, lost: bool) -> usize
     requires { ⌜ Ready weight (now s) (now ev) ⌝ }
     ensures { λ n. ⌜ ((st : State) → Fits weight st (now (s .entry)) (now (ev .entry)) → Step weight st (fallFrom ip lost st) (now (s .exit)) (now (ev .entry)) (now (ev .exit)) n) ⌝ }
 {
     if !lost {
+        return 0;
+    }
+    if !some_stray(s, ip) {
         return 0;
     }
     if view::local4(s, ip) {

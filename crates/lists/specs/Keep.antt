@@ -59,6 +59,11 @@ module _ {A : Type 0} where
       (λ e. test-case (q x) (λ f. rw (f, e, f, keep-keep p q l)) (λ f. rw (f, e, f, keep-keep p q l)))
       (λ e. test-case (q x) (λ f. rw (f, e, keep-keep p q l)) (λ f. rw (f, e, keep-keep p q l)))
 
+  -- where none passes
+  pub keep-nothing : (p : A → Bool) (l : List A) → any p l ≡ false → keep p l ≡ []
+  keep-nothing p [] e = refl
+  keep-nothing p (x ∷ l) e = test-case (p x) (λ f. absurd (true≢false (rw f at e))) (λ f. rw f (keep-nothing p l (rw f at e)))
+
   -- where none that passes p passes q
   pub keep-none : (p q : A → Bool) → ((x : A) → p x ≡ true → q x ≡ false) → (l : List A) → keep p (keep q l) ≡ []
   keep-none p q i [] = refl

@@ -16,7 +16,7 @@ use Rattle.definition.specs.Reference.Lookup.{localKind, broadcastKind}
 use Rattle.definition.specs.Reference.Addresses.{kernelRoute, localRoute, prefixRoute, upRoutes, candidates, primaryOf, only, namesBroadcast}
 use Rattle.definition.specs.Reference.Removal.{sameRoute, wanted}
 use Rattle.subnet.specs.Brings.{bringsPrefix, bringsBroadcast}
-use Rattle.wanted.specs.Wants.{wantsRow}
+use Rattle.wanted.specs.Wants.{wantsLocal, wantsRow}
 
 and-true : (b : Bool) → b && true ≡ b
 and-true true = refl
@@ -64,6 +64,14 @@ wants-candidate l r a =
     sym (some-of (sameRoute r) (localRoute (primaryOf l a) a) (kernelRoute (Address.broadcast a) 32 0 broadcastKind (primaryOf l a)) (prefixRoute (primaryOf l a) a) (kernelRoute (broadcast (address a) (prefix a)) 32 0 broadcastKind (primaryOf l a)) (namesBroadcast a) (bringsPrefix a) (bringsBroadcast a)
     ∙ by-kind (eqb (kind r) localKind) (eqb (kind r) broadcastKind) (eqb (dst r) (local a)) (eqb (dst r) (Address.broadcast a)) (eqb (dst r) (network (address a) (prefix a))) (eqb (dst r) (broadcast (address a) (prefix a))) (eqb (len r) 32) (eqb (len r) (prefix a)) (namesBroadcast a) (bringsPrefix a) (bringsBroadcast a)
     (λ e f. omega (arith, eqb-true (kind r) localKind e, eqb-true (kind r) broadcastKind f)))
+
+-- what the code asks: another length leaves the own address alone
+pub other-length : (a : Row) (dst len : ℕ) → eqb dst (local a) && eqb len 32 ≡ false → eqb len (prefix a) ≡ false → false ≡ wantsLocal a dst len
+other-length a dst len e f = rw (e, f, and-false (eqb dst (network (address a) (prefix a))), and-false (bringsPrefix a))
+
+pub same-length : (a : Row) (dst len : ℕ) → eqb dst (local a) && eqb len 32 ≡ false → eqb len (prefix a) ≡ true
+    → bringsPrefix a && eqb dst (network (address a) (prefix a)) ≡ wantsLocal a dst len
+same-length a dst len e f = rw (e, f, and-true (eqb dst (network (address a) (prefix a))))
 
 -- ---- all of them
 pub wanted-rows : (l : List Row) (r : Row) → any (wantsRow r) l ≡ wanted l r

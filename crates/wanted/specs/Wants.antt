@@ -10,7 +10,6 @@ use Rattle.layout.specs.Address.{local, address, prefix}
 use Rattle.layout.specs.Route.{dst, len, kind}
 use Rattle.definition.specs.Reference.Lookup.{localKind, broadcastKind}
 use Rattle.definition.specs.Reference.Addresses.{namesBroadcast}
-use Rattle.definition.specs.Reference.Removal.{ofKind}
 use Rattle.subnet.specs.Brings.{bringsPrefix, bringsBroadcast}
 
 abbrev pub wantsLocal : Row → ℕ → ℕ → Bool
@@ -30,7 +29,3 @@ wants a dst len kind =
 -- it wants the route r
 abbrev pub wantsRow : Row → Row → Bool
 wantsRow r a = wants a (dst r) (len r) (kind r)
-
--- a /32 of a local route
-abbrev pub localHost : Row → Bool
-localHost r = ofKind localKind r && eqb (len r) 32

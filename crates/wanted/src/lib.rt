@@ -11,7 +11,7 @@ ghost use Rattle.layout.specs.Address.{prefix, fitAddress};
 ghost use Rattle.layout.specs.Route.{dst, len, kind, fitRoute};
 ghost use Rattle.definition.specs.Reference.Addresses.{candidates};
 ghost use Rattle.definition.specs.Reference.Removal.{sameRoute, wanted, straysFrom};
-ghost use Rattle.wanted.specs.Wants.{wantsLocal, wantsBroadcast, wants, localHost};
+ghost use Rattle.wanted.specs.Wants.{wantsLocal, wantsBroadcast, wants};
 
 const KIND_LOCAL: u32 = 2;
 
@@ -19,14 +19,20 @@ const KIND_BROADCAST: u32 = 3;
 
 const TABLE_MAIN: u32 = 254;
 
-// Whether a wants a local route: to its own address or to its network.
+// Whether a wants a local route: to its own address or to its network. Most addresses have another length, so that is asked first.
 fn wants_local(a: &[u32], dst: u32, len: u32) -> bool
     requires { ⌜ (length (now a) ≡ 20) × (prefix (now a) ≤ 32) ⌝ }
     ensures { λ r. ⌜ r ≡ wantsLocal (now (a .entry)) dst len ⌝ }
 {
+    if (dst == a[0]) & (len == 32) {
+        return true;
+    }
+    if len != a[2] {
+        return false;
+    }
     let network = prefix::network4(a[1], a[2]);
     let brings = subnet::brings_prefix(a);
-    ((dst == a[0]) & (len == 32)) | (brings & ((dst == network) & (len == a[2])))
+    brings & (dst == network)
 }
 
 // Whether a wants a broadcast route: to the address that it names or to its subnet's last.
@@ -78,35 +84,27 @@ pub fn wanted(addresses: &[u32], n: usize, r: &[u32]) -> bool
     false
 }
 
-// Whether the row is a /32 of a local route.
-fn local_host(r: &[u32]) -> bool
-    requires { ⌜ length (now r) ≡ 32 ⌝ }
-    ensures { λ b. ⌜ b ≡ localHost (now (r .entry)) ⌝ }
-{
-    (r[5] == KIND_LOCAL) & (r[2] == 32)
-}
-
-// Whether such a row is among those that went.
-pub fn local_went(rows: &[u32], k: usize) -> bool
-    requires { ⌜ (length (now rows) ≡ 32 * k) × Lays 32 fitRoute (now rows) ⌝ }
-    ensures { λ b. ⌜ ((l : List Row) → Laid 32 fitRoute (now (rows .entry)) l → b ≡ any localHost l) ⌝ }
-{
-    let mut i = 0usize;
-    while i < k {
-        let at = 32 * i;
-        let r = &rows[at..at + 32];
-        if local_host(r) {
-            return true;
-        }
-        i += 1;
-    }
-    false
-}
-
 // Whether a row of table 254 has ip as its preferred source.
 pub fn strays_from(r: &[u32], ip: u32) -> bool
     requires { ⌜ length (now r) ≡ 32 ⌝ }
     ensures { λ b. ⌜ b ≡ straysFrom ip (now (r .entry)) ⌝ }
 {
     (r[0] == TABLE_MAIN) & (r[8] == 1) & (r[9] == ip)
+}
+
+// Whether such a row is there.
+pub fn strays(rows: &[u32], n: usize, ip: u32) -> bool
+    requires { ⌜ (length (now rows) ≡ 32 * n) × Lays 32 fitRoute (now rows) ⌝ }
+    ensures { λ b. ⌜ ((l : List Row) → Laid 32 fitRoute (now (rows .entry)) l → b ≡ any (straysFrom ip) l) ⌝ }
+{
+    let mut i = 0usize;
+    while i < n {
+        let at = 32 * i;
+        let r = &rows[at..at + 32];
+        if strays_from(r, ip) {
+            return true;
+        }
+        i += 1;
+    }
+    false
 }

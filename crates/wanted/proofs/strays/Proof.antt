@@ -9,20 +9,20 @@ use Rattle.lists.specs.Laid.{Laid}
 use Rattle.lists.specs.Pass.{some-here, some-past, some-end}
 use Rattle.lists.specs.Pass.{part-width}
 use Rattle.layout.specs.Route.{fitRoute}
-use Rattle.wanted.specs.Wants.{localHost}
+use Rattle.definition.specs.Reference.Removal.{straysFrom}
 use borrow.Author.Needs.{needs}
-use Rattle.wanted.proofs.local_went.Statement.{statement}
-use Rattle.wanted.proofs.local_went.Tie as tie
-use Rattle.wanted.proofs.local_went.Reads as reads
-use Rattle.wanted.proofs.local_went.Lts as lts
-use Rattle.wanted.proofs.local_host.Reads as local-host-reads
+use Rattle.wanted.proofs.strays.Statement.{statement}
+use Rattle.wanted.proofs.strays.Tie as tie
+use Rattle.wanted.proofs.strays.Reads as reads
+use Rattle.wanted.proofs.strays.Lts as lts
+use Rattle.wanted.proofs.strays_from.Reads as strays-from-reads
 
 abbrev Inv-loop : tie.InvT-loop
-Inv-loop rows k i₀ i =
-    (i ≤ k) × ((l : List Row) → Laid 32 fitRoute rows l → any (localHost) l ≡ any (localHost) (drop i l))
+Inv-loop rows n ip i₀ i =
+    (i ≤ n) × ((l : List Row) → Laid 32 fitRoute rows l → any (straysFrom ip) l ≡ any (straysFrom ip) (drop i l))
 
 abbrev μ-loop : tie.MeasureT-loop
-μ-loop rows k i₀ i = k - i
+μ-loop rows n ip i₀ i = n - i
 
 -- src/lib.rt:95:5
 loop-holds : tie.Need-loop-holds Inv-loop μ-loop
@@ -53,11 +53,11 @@ part-r-end : tie.Need-part-r-end Inv-loop μ-loop
 part-r-end c = search needs
 
 -- src/lib.rt:98:12
-local-host-requires : tie.Need-local-host-requires Inv-loop μ-loop
-local-host-requires c κs =
+strays-from-requires : tie.Need-strays-from-requires Inv-loop μ-loop
+strays-from-requires c κs =
     let k = c .before .before in
     let s = k .before .before in
-    part-width (s .args .rows .now) (s .args .k) (lit< tt) (s .pre .0) (s .pre .1) (k .loop .i) (c .before .loop-test .taken)
+    part-width (s .args .rows .now) (s .args .n) (lit< tt) (s .pre .0) (s .pre .1) (k .loop .i) (c .before .loop-test .taken)
 
 -- src/lib.rt:99:13
 returns : tie.Need-returns Inv-loop μ-loop
@@ -65,7 +65,7 @@ returns c =
     let k = c .before .before .before .before in
     let s = k .before .before in
     let a = s .args in
-    λ l h. some-here (a .rows .now) (a .k) (lit< tt) (s .pre .0) (localHost) l h (k .loop .i) (k .loop .inv .1 l h) (c .before .before .before .loop-test .taken) (sym (c .before .local-host .ensures) ∙ c .if1 .taken)
+    λ l h. some-here (a .rows .now) (a .n) (lit< tt) (s .pre .0) (straysFrom (a .ip)) l h (k .loop .i) (k .loop .inv .1 l h) (c .before .before .before .loop-test .taken) (sym (c .before .strays-from .ensures) ∙ c .if1 .taken)
 
 -- src/lib.rt:101:9
 add-i : tie.Need-add-i Inv-loop μ-loop
@@ -82,7 +82,7 @@ loop-again c =
     let s = k .before .before in
     let a = s .args in (
       omega arith,
-      λ l h. some-past (a .rows .now) (a .k) (lit< tt) (s .pre .0) (localHost) l h (k .loop .i) (k .loop .inv .1 l h) (c .before .before .before .loop-test .taken) (sym (c .before .local-host .ensures) ∙ c .if1 .left),
+      λ l h. some-past (a .rows .now) (a .n) (lit< tt) (s .pre .0) (straysFrom (a .ip)) l h (k .loop .i) (k .loop .inv .1 l h) (c .before .before .before .loop-test .taken) (sym (c .before .strays-from .ensures) ∙ c .if1 .left),
     )
 
 -- src/lib.rt:90:1
@@ -91,10 +91,10 @@ returns-2 c =
     let k = c .before in
     let s = k .before .before in
     let a = s .args in
-    λ l h. some-end (a .rows .now) (a .k) (lit< tt) (s .pre .0) (localHost) l h (k .loop .i) (k .loop .inv .1 l h) (c .loop-test .left)
+    λ l h. some-end (a .rows .now) (a .n) (lit< tt) (s .pre .0) (straysFrom (a .ip)) l h (k .loop .i) (k .loop .inv .1 l h) (c .loop-test .left)
 
-pub local-went-spec : {M : Type 1} → statement M
-local-went-spec =
+pub strays-spec : {M : Type 1} → statement M
+strays-spec =
     tie.close
     (tie.spec
     Inv-loop
@@ -106,7 +106,7 @@ local-went-spec =
     sub-r
     part-r-start
     part-r-end
-    local-host-requires
+    strays-from-requires
     returns
     add-i
     loop-less
