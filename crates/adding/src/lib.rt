@@ -23,8 +23,6 @@ pub enum Done {
     Full,
 }
 
-const EXISTS: u32 = 17;
-
 fn call_of(told: Told) -> Done
     ensures { λ r. ⌜ r ≡ doneOf told ⌝ }
 {
@@ -57,7 +55,7 @@ pub fn add_v4(s: &mut [u32], ev: &mut [u32], q: &[u32], clock: u64) -> Done
     let place = placing::same_at(view::addresses(s), n, q);
     if place < n {
         if q[16] != 1 {
-            return Done::Refused(EXISTS);
+            return Done::Refused(layout::EXISTS);
         }
         let changed = bring::change_v4(s, ev, place, q, clock);
         return call_of(changed);

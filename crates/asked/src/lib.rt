@@ -10,13 +10,6 @@ ghost use Rattle.kind.specs.Kind.{isKind};
 ghost use Rattle.layout.specs.Route.{scope};
 ghost use Rattle.definition.specs.Reference.Routes.{tableNamed, badPrefix, deadFlags, onlinkFlag, unsupported, then, refuse, mark, formCheck, askedRoute};
 
-const MAIN: u32 = 254;
-
-// The errors of a bad request and of one that isn't supported.
-const INVALID: u32 = 22;
-
-const NOT_SUPPORTED: u32 = 95;
-
 // The first number that isn't 0.
 pub fn first_of(a: u32, b: u32) -> u32
     ensures { λ r. ⌜ r ≡ then a b ⌝ }
@@ -52,7 +45,7 @@ pub fn table_named(q: &[u32]) -> u32
     ensures { λ r. ⌜ r ≡ tableNamed (now (q .entry)) ⌝ }
 {
     if q[0] == 0 {
-        return MAIN;
+        return layout::TABLE_MAIN;
     }
     q[0]
 }
@@ -89,9 +82,9 @@ fn unknown_kind(code: u32) -> u32
     ensures { λ r. ⌜ r ≡ cond (unsupported code) 95 22 ⌝ }
 {
     if (code == 4) | (code == 5) | (code == 10) | (code == 11) {
-        return NOT_SUPPORTED;
+        return layout::NOT_SUPPORTED;
     }
-    INVALID
+    layout::INVALID
 }
 
 fn known_kind(code: u32) -> bool
@@ -112,9 +105,9 @@ pub fn form_check(q: &[u32]) -> u32
     let narrow = q[7] < kind::least_scope(q[5]);
     let known = known_kind(q[5]);
     first_of(
-        refuse(bad_prefix(q), INVALID),
+        refuse(bad_prefix(q), layout::INVALID),
         first_of(
-            refuse(narrow | dead_flags(q), INVALID),
+            refuse(narrow | dead_flags(q), layout::INVALID),
             first_of(q[15], refuse(!known, unknown_kind(q[5]))),
         ),
     )

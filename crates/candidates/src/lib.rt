@@ -13,25 +13,13 @@ ghost use Rattle.definition.specs.Reference.Addresses.{kernelRoute, upRoutes, c
 ghost use Rattle.definition.specs.Reference.Removal.{leaving};
 ghost use Rattle.candidates.specs.Rows.{namedRoutes, prefixRoutes, subnetRoutes, subnetRoute, scopeOf, Appended};
 
-const TABLE_LOCAL: u32 = 255;
-
-const KIND_LOCAL: u32 = 2;
-
-const KIND_BROADCAST: u32 = 3;
-
-const SCOPE_LINK: u32 = 253;
-
-const SCOPE_HOST: u32 = 254;
-
-const PROTO_KERNEL: u32 = 2;
-
 fn scope_of(kind: u32) -> u32
     ensures { λ r. ⌜ r ≡ scopeOf kind ⌝ }
 {
-    if kind == KIND_BROADCAST {
-        return SCOPE_LINK;
+    if kind == layout::KIND_BROADCAST {
+        return layout::SCOPE_LINK;
     }
-    SCOPE_HOST
+    layout::SCOPE_HOST
 }
 
 // One of the kernel's routes, from the place at on.
@@ -49,13 +37,13 @@ pub fn kernel_route(
 {
     let scope = scope_of(kind);
     let row = [
-        TABLE_LOCAL,
+        layout::TABLE_LOCAL,
         dst,
         len,
         0,
         priority,
         kind,
-        PROTO_KERNEL,
+        layout::PROTO_KERNEL,
         scope,
         1,
         source,
@@ -93,7 +81,7 @@ pub fn prefix_route4(out: &mut [u32], at: usize, a: &[u32], priority: u32, sourc
 {
     let len = a[2];
     let network = prefix::network4(a[1], len);
-    kernel_route(out, at, network, len, priority, KIND_LOCAL, source);
+    kernel_route(out, at, network, len, priority, layout::KIND_LOCAL, source);
 }
 
 // Behind the k rows that are there: the route of the broadcast address that it names.
@@ -106,7 +94,7 @@ fn append_named(out: &mut [u32], k: usize, a: &[u32], source: u32) -> usize
     if !subnet::names_broadcast(a) {
         return k;
     }
-    kernel_route(out, 32 * k, a[4], 32, 0, KIND_BROADCAST, source);
+    kernel_route(out, 32 * k, a[4], 32, 0, layout::KIND_BROADCAST, source);
     k + 1
 }
 
@@ -135,7 +123,7 @@ fn append_subnet(out: &mut [u32], k: usize, a: &[u32], source: u32) -> usize
         return k;
     }
     let last = prefix::broadcast4(a[1], a[2]);
-    kernel_route(out, 32 * k, last, 32, 0, KIND_BROADCAST, source);
+    kernel_route(out, 32 * k, last, 32, 0, layout::KIND_BROADCAST, source);
     k + 1
 }
 
@@ -160,7 +148,7 @@ pub fn candidates(addresses: &[u32], n: usize, a: &[u32], up: bool, out: &mut [u
     ensures { λ r. ⌜ ((l : List Row) → Laid 20 fitAddress (now (addresses .entry)) l → (r ≡ length (candidates l up (now (a .entry)))) × (now (out .exit) ≡ put 0 (flat (candidates l up (now (a .entry)))) (now (out .entry)))) ⌝ }
 {
     let source = subnet::primary_of(addresses, n, a);
-    kernel_route(out, 0, a[0], 32, 0, KIND_LOCAL, source);
+    kernel_route(out, 0, a[0], 32, 0, layout::KIND_LOCAL, source);
     if !up {
         return 1;
     }
@@ -179,6 +167,6 @@ pub fn leaving(addresses: &[u32], n: usize, a: &[u32], out: &mut [u32]) -> usize
     let routed = append_prefix(out, 0, a, 0, source);
     let named = append_named(out, routed, a, source);
     let last = append_subnet(out, named, a, source);
-    kernel_route(out, 32 * last, a[0], 32, 0, KIND_LOCAL, source);
+    kernel_route(out, 32 * last, a[0], 32, 0, layout::KIND_LOCAL, source);
     last + 1
 }

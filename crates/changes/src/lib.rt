@@ -107,8 +107,6 @@ pub fn del_route4(state: &mut [u32], q: &[u32], events: &mut [u32]) -> Done
     public_of(request::del_route4(state, events, q))
 }
 
-const NO_SUCH_ADDRESS: u32 = 99;
-
 pub fn del_v4(state: &mut [u32], q: &[u32], events: &mut [u32]) -> Done
     ensures { λ r. ⌜ r ≡ doneOf (delV4Call (now (q .entry)) (length (now (events .entry))) (now (state .entry)) .reply) ⌝ }
     ensures { λ _. ⌜ now (state .exit) ≡ delV4Call (now (q .entry)) (length (now (events .entry))) (now (state .entry)) .words ⌝ }
@@ -122,6 +120,6 @@ pub fn del_v4(state: &mut [u32], q: &[u32], events: &mut [u32]) -> Done
     let deleted = delv4::del_v4(state, events, q);
     match deleted {
         delv4::Deleted::Rows(k) => Done::Rows(k),
-        delv4::Deleted::Nothing => Done::Refused(NO_SUCH_ADDRESS),
+        delv4::Deleted::Nothing => Done::Refused(layout::NO_SUCH_ADDRESS),
     }
 }

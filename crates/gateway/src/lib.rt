@@ -1,7 +1,6 @@
 // How a route that a request asks for is reached: its device and its gateway.
 use lookup::Flow;
 use lookup::Looked;
-use lookup::Tables;
 ghost use mathlib.Core.Path.{_≡_};
 ghost use mathlib.Core.Bool.{true};
 ghost use Prim.Native.Nat.{ℕ, _+_, _*_, _<_, max};
@@ -15,26 +14,6 @@ ghost use Rattle.definition.specs.Reference.Routes.{toGateway, usable, reachedB
 ghost use Rattle.lookup.specs.Flow.{flowOf};
 ghost use Rattle.lookup.specs.Answer.{foundBy, placed};
 ghost use Rattle.gateway.specs.Rows.{reachedOf, settled, onlinkNumber, onlinkRows, gatewayRows, rowReached, gateway4Rows, reachRows};
-
-const TABLE_DEFAULT: u32 = 253;
-
-const TABLE_MAIN: u32 = 254;
-
-const TABLE_LOCAL: u32 = 255;
-
-const SCOPE_LINK: u32 = 253;
-
-const SCOPE_HOST: u32 = 254;
-
-const KIND_UNICAST: u32 = 1;
-
-const KIND_LOCAL: u32 = 2;
-
-const INVALID: u32 = 22;
-
-const NO_DEVICE: u32 = 19;
-
-const NET_DOWN: u32 = 100;
 
 // Whether a route of link scope reaches the gateway, or a refusal's number.
 pub enum Reached {
@@ -57,12 +36,12 @@ fn onlink_number(q: &[u32], kind: u32) -> u32
     ensures { λ r. ⌜ r ≡ onlinkNumber (now (q .entry)) kind ⌝ }
 {
     asked::first_of(
-        asked::refuse(SCOPE_LINK <= q[7], INVALID),
+        asked::refuse(layout::SCOPE_LINK <= q[7], layout::INVALID),
         asked::first_of(
-            asked::refuse(q[12] != 1, NO_DEVICE),
+            asked::refuse(q[12] != 1, layout::NO_DEVICE),
             asked::first_of(
-                asked::refuse(q[33] == 0, NET_DOWN),
-                asked::refuse(kind != KIND_UNICAST, INVALID),
+                asked::refuse(q[33] == 0, layout::NET_DOWN),
+                asked::refuse(kind != layout::KIND_UNICAST, layout::INVALID),
             ),
         ),
     )
@@ -74,7 +53,7 @@ fn onlink_check(rows: &[u32], n: usize, q: &[u32], local_listed: bool) -> Reache
     requires { ⌜ length (now q) ≡ 34 ⌝ }
     ensures { λ r. ⌜ ((l : List Row) → Laid 32 fitRoute (now (rows .entry)) l → reachedOf r ≡ onlinkRows (now (q .entry)) «local_listed» l) ⌝ }
 {
-    let kind = prefsrc::addr_type(rows, n, local_listed, TABLE_LOCAL, q[11]);
+    let kind = prefsrc::addr_type(rows, n, local_listed, layout::TABLE_LOCAL, q[11]);
     settle(onlink_number(q, kind), true)
 }
 
@@ -82,8 +61,8 @@ fn narrower(scope: u32) -> u32
     requires { ⌜ scope < 256 ⌝ }
     ensures { λ r. ⌜ r ≡ max (scope + 1) 253 ⌝ }
 {
-    if scope < SCOPE_LINK {
-        return SCOPE_LINK;
+    if scope < layout::SCOPE_LINK {
+        return layout::SCOPE_LINK;
     }
     scope + 1
 }
@@ -107,27 +86,11 @@ fn own_route(rows: &[u32], n: usize, t: u32, f: Flow) -> usize
     requires { ⌜ (length (now rows) ≡ 32 * n) × Lays 32 fitRoute (now rows) ⌝ }
     ensures { λ r. ⌜ ((l : List Row) → Laid 32 fitRoute (now (rows .entry)) l → answer (together t) (flowOf f) l ≡ getElem? l r) ⌝ }
 {
-    if (t == TABLE_LOCAL) | (t == TABLE_MAIN) {
-        return lookup::table_lookup4(
-            rows,
-            n,
-            Tables {
-                one: TABLE_LOCAL,
-                other: TABLE_MAIN,
-            },
-            f,
-        );
+    if (t == layout::TABLE_LOCAL) | (t == layout::TABLE_MAIN) {
+        return lookup::table_lookup4(rows, n, lookup::UPPER, f);
     }
-    if t == TABLE_DEFAULT {
-        return lookup::table_lookup4(
-            rows,
-            n,
-            Tables {
-                one: TABLE_DEFAULT,
-                other: TABLE_DEFAULT,
-            },
-            f,
-        );
+    if t == layout::TABLE_DEFAULT {
+        return lookup::table_lookup4(rows, n, lookup::LOWER, f);
     }
     n
 }
@@ -162,13 +125,13 @@ fn gateway_route(rows: &[u32], n: usize, q: &[u32], default_listed: bool) -> Loo
 fn row_reached(kind: u32, scope: u32, up: u32) -> Reached
     ensures { λ r. ⌜ reachedOf r ≡ rowReached kind scope up ⌝ }
 {
-    if (kind == KIND_UNICAST) | (kind == KIND_LOCAL) {
+    if (kind == layout::KIND_UNICAST) | (kind == layout::KIND_LOCAL) {
         if up == 0 {
-            return Reached::Refused(NET_DOWN);
+            return Reached::Refused(layout::NET_DOWN);
         }
-        return Reached::By(scope == SCOPE_LINK);
+        return Reached::By(scope == layout::SCOPE_LINK);
     }
-    Reached::Refused(INVALID)
+    Reached::Refused(layout::INVALID)
 }
 
 fn reached_at(rows: &[u32], n: usize, q: &[u32], i: usize) -> Reached
@@ -221,15 +184,18 @@ pub fn reach_check(
     let gatewayed = q[10] == 1;
     let device = q[12];
     if kind::error_of(q[5]) != 0 {
-        return settle(asked::refuse(gatewayed | (device != 0), INVALID), false);
-    }
-    let missing = asked::refuse(device != 1, NO_DEVICE);
-    if SCOPE_HOST < q[7] {
-        return Reached::Refused(INVALID);
-    }
-    if q[7] == SCOPE_HOST {
         return settle(
-            asked::first_of(asked::refuse(gatewayed, INVALID), missing),
+            asked::refuse(gatewayed | (device != 0), layout::INVALID),
+            false,
+        );
+    }
+    let missing = asked::refuse(device != 1, layout::NO_DEVICE);
+    if layout::SCOPE_HOST < q[7] {
+        return Reached::Refused(layout::INVALID);
+    }
+    if q[7] == layout::SCOPE_HOST {
+        return settle(
+            asked::first_of(asked::refuse(gatewayed, layout::INVALID), missing),
             false,
         );
     }
@@ -239,8 +205,8 @@ pub fn reach_check(
     let onlink = asked::onlink_flag(q);
     settle(
         asked::first_of(
-            asked::refuse(onlink, INVALID),
-            asked::first_of(missing, asked::refuse(q[33] == 0, NET_DOWN)),
+            asked::refuse(onlink, layout::INVALID),
+            asked::first_of(missing, asked::refuse(q[33] == 0, layout::NET_DOWN)),
         ),
         false,
     )

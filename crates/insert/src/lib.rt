@@ -121,10 +121,6 @@ const CREATE: u32 = 0x400;
 
 const APPEND: u32 = 0x800;
 
-const EXISTS: u32 = 17;
-
-const NO_ENTRY: u32 = 2;
-
 fn has(flags: u32, bit: u32) -> bool
     ensures { λ r. ⌜ r ≡ not (eqb (bitAnd flags bit) 0) ⌝ }
 {
@@ -137,7 +133,7 @@ fn created(flags: u32, place: usize, told: u32) -> Plan
     if has(flags, CREATE) {
         return Plan::Add(place, told);
     }
-    Plan::Refuse(NO_ENTRY)
+    Plan::Refuse(layout::NO_ENTRY)
 }
 
 fn replacing(start: usize, there: bool, first: bool) -> Plan
@@ -147,7 +143,7 @@ fn replacing(start: usize, there: bool, first: bool) -> Plan
         return Plan::Keep;
     }
     if there {
-        return Plan::Refuse(EXISTS);
+        return Plan::Refuse(layout::EXISTS);
     }
     Plan::Replace(start)
 }
@@ -157,13 +153,13 @@ fn among(flags: u32, start: usize, end: usize, there: bool, first: bool) -> Plan
     ensures { λ r. ⌜ r ≡ among flags start end there first ⌝ }
 {
     if has(flags, EXCL) {
-        return Plan::Refuse(EXISTS);
+        return Plan::Refuse(layout::EXISTS);
     }
     if has(flags, REPLACE) {
         return replacing(start, there, first);
     }
     if there {
-        return Plan::Refuse(EXISTS);
+        return Plan::Refuse(layout::EXISTS);
     }
     if has(flags, APPEND) {
         return created(flags, end, CREATE | APPEND);

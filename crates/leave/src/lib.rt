@@ -15,8 +15,6 @@ ghost use Rattle.events.specs.Step.{Fits, Ready, Step};
 ghost use Rattle.leave.specs.One.{unlessWanted, loses, fallFrom};
 ghost use Rattle.leave.specs.Turns.{anyRow, routesGo};
 
-const KIND_LOCAL: u32 = 2;
-
 // Whether some address wants the route r.
 fn wanted_in(s: &[u32], r: &[u32]) -> bool
     requires { ⌜ Valid (now s) ⌝ }
@@ -61,7 +59,7 @@ fn lost(s: &[u32], r: &[u32]) -> bool
     requires { ⌜ length (now r) ≡ 32 ⌝ }
     ensures { λ b. ⌜ ((st : State) → Holds (now (s .entry)) st → b ≡ loses (st .addresses) (now (r .entry))) ⌝ }
 {
-    let host = (r[5] == KIND_LOCAL) & (r[2] == 32);
+    let host = (r[5] == layout::KIND_LOCAL) & (r[2] == 32);
     if !host {
         return false;
     }
@@ -109,7 +107,7 @@ fn fall(s: &mut [u32], ev: &mut [u32], ip: u32, lost: bool) -> usize
     if view::local4(s, ip) {
         return 0;
     }
-    if !tables::listed(s, tables::MAIN) {
+    if !tables::listed(s, layout::TABLE_MAIN) {
         return 0;
     }
     deletion::drop_strays(s, ev, ip)

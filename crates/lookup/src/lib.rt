@@ -27,6 +27,18 @@ pub struct Tables {
     pub other: u32,
 }
 
+// 255 and 254, which are read first.
+pub const UPPER: Tables = Tables {
+    one: layout::TABLE_LOCAL,
+    other: layout::TABLE_MAIN,
+};
+
+// 253, which is read behind them.
+pub const LOWER: Tables = Tables {
+    one: layout::TABLE_DEFAULT,
+    other: layout::TABLE_DEFAULT,
+};
+
 // Whether a row fits the flow. Most rows are to other destinations, so that is asked first.
 pub fn fits(r: &[u32], f: Flow) -> bool
     requires { ⌜ (length (now r) ≡ 32) × (getD (now r) 2 0 ≤ 32) ⌝ }
@@ -84,16 +96,6 @@ pub enum Looked {
     Refused(u32),
 }
 
-const AGAIN: u32 = 11;
-
-const NET_UNREACHABLE: u32 = 101;
-
-const TABLE_DEFAULT: u32 = 253;
-
-const TABLE_MAIN: u32 = 254;
-
-const TABLE_LOCAL: u32 = 255;
-
 fn judge(rows: &[u32], n: usize, place: usize) -> Ruling
     requires { ⌜ (length (now rows) ≡ 32 * n) ⌝ }
     ensures { λ r. ⌜ ((l : List Row) → Laid 32 fitRoute (now (rows .entry)) l → r ≡ rulingOf (getElem? l place)) ⌝ }
@@ -105,7 +107,7 @@ fn judge(rows: &[u32], n: usize, place: usize) -> Ruling
     if error == 0 {
         return Ruling::Route;
     }
-    if error == AGAIN {
+    if error == layout::AGAIN {
         return Ruling::Again;
     }
     Ruling::Refuse(error)
@@ -116,15 +118,7 @@ pub fn lookup4_in(rows: &[u32], n: usize, default_listed: bool, f: Flow) -> Look
     requires { ⌜ (length (now rows) ≡ 32 * n) × Lays 32 fitRoute (now rows) ⌝ }
     ensures { λ r. ⌜ (placed n r) × ((l : List Row) → Laid 32 fitRoute (now (rows .entry)) l → foundBy l r ≡ lookupRows «default_listed» l (flowOf f)) ⌝ }
 {
-    let upper = table_lookup4(
-        rows,
-        n,
-        Tables {
-            one: TABLE_LOCAL,
-            other: TABLE_MAIN,
-        },
-        f,
-    );
+    let upper = table_lookup4(rows, n, UPPER, f);
     let first = judge(rows, n, upper);
     match first {
         Ruling::Route => return Looked::At(upper),
@@ -132,30 +126,16 @@ pub fn lookup4_in(rows: &[u32], n: usize, default_listed: bool, f: Flow) -> Look
         Ruling::Again => {}
     }
     if !default_listed {
-        return Looked::Refused(NET_UNREACHABLE);
+        return Looked::Refused(layout::NET_UNREACHABLE);
     }
-    let lower = table_lookup4(
-        rows,
-        n,
-        Tables {
-            one: TABLE_DEFAULT,
-            other: TABLE_DEFAULT,
-        },
-        f,
-    );
+    let lower = table_lookup4(rows, n, LOWER, f);
     let second = judge(rows, n, lower);
     match second {
         Ruling::Route => Looked::At(lower),
         Ruling::Refuse(error) => Looked::Refused(error),
-        Ruling::Again => Looked::Refused(NET_UNREACHABLE),
+        Ruling::Again => Looked::Refused(layout::NET_UNREACHABLE),
     }
 }
-
-const KIND_UNICAST: u32 = 1;
-
-const KIND_LOCAL: u32 = 2;
-
-const KIND_BROADCAST: u32 = 3;
 
 // The kind of the row that the set answers with; unicast where none does or it rejects, broadcast while the table isn't listed.
 pub fn addr_type4(rows: &[u32], n: usize, listed: bool, set: Tables, ip: u32) -> u32
@@ -163,7 +143,7 @@ pub fn addr_type4(rows: &[u32], n: usize, listed: bool, set: Tables, ip: u32) ->
     ensures { λ r. ⌜ ((l : List Row) → Laid 32 fitRoute (now (rows .entry)) l → r ≡ typeRows listed (setOf set) l ip) ⌝ }
 {
     if !listed {
-        return KIND_BROADCAST;
+        return layout::KIND_BROADCAST;
     }
     let place = table_lookup4(
         rows,
@@ -177,11 +157,11 @@ pub fn addr_type4(rows: &[u32], n: usize, listed: bool, set: Tables, ip: u32) ->
         },
     );
     if n <= place {
-        return KIND_UNICAST;
+        return layout::KIND_UNICAST;
     }
     let kind = rows[32 * place + 5];
     if kind::error_of(kind) != 0 {
-        return KIND_UNICAST;
+        return layout::KIND_UNICAST;
     }
     kind
 }
@@ -191,15 +171,6 @@ pub fn local4(rows: &[u32], n: usize, local_listed: bool, ip: u32) -> bool
     requires { ⌜ (length (now rows) ≡ 32 * n) × Lays 32 fitRoute (now rows) ⌝ }
     ensures { λ r. ⌜ ((l : List Row) → Laid 32 fitRoute (now (rows .entry)) l → r ≡ localRows «local_listed» l ip) ⌝ }
 {
-    let kind = addr_type4(
-        rows,
-        n,
-        local_listed,
-        Tables {
-            one: TABLE_LOCAL,
-            other: TABLE_MAIN,
-        },
-        ip,
-    );
-    local_listed & (kind == KIND_LOCAL)
+    let kind = addr_type4(rows, n, local_listed, UPPER, ip);
+    local_listed & (kind == layout::KIND_LOCAL)
 }

@@ -12,21 +12,12 @@ ghost use Rattle.lookup.specs.Flow.{setOf};
 ghost use Rattle.lookup.specs.AddrType.{typeRows};
 ghost use Rattle.prefsrc.specs.Rows.{prefsrcTable, prefsrcRows};
 
-const TABLE_MAIN: u32 = 254;
-
-const TABLE_LOCAL: u32 = 255;
-
-const KIND_LOCAL: u32 = 2;
-
 // The tables that are read with a named one: 255 and 254 together, any other alone.
 pub fn type_set(t: u32) -> Tables
     ensures { λ r. ⌜ ((u : ℕ) → setOf r u ≡ typeSet t u) ⌝ }
 {
-    if (t == TABLE_LOCAL) | (t == TABLE_MAIN) {
-        return Tables {
-            one: TABLE_LOCAL,
-            other: TABLE_MAIN,
-        };
+    if (t == layout::TABLE_LOCAL) | (t == layout::TABLE_MAIN) {
+        return lookup::UPPER;
     }
     Tables { one: t, other: t }
 }
@@ -44,8 +35,8 @@ pub fn addr_type(rows: &[u32], n: usize, listed: bool, t: u32, ip: u32) -> u32
 pub fn prefsrc_table(t: u32) -> u32
     ensures { λ r. ⌜ r ≡ prefsrcTable t ⌝ }
 {
-    if t == TABLE_MAIN {
-        return TABLE_LOCAL;
+    if t == layout::TABLE_MAIN {
+        return layout::TABLE_LOCAL;
     }
     t
 }
@@ -64,8 +55,8 @@ pub fn valid_prefsrc4(
 {
     let own = prefsrc_table(asked::table_named(q));
     let own_kind = addr_type(rows, n, own_listed, own, q[9]);
-    let local_kind = addr_type(rows, n, local_listed, TABLE_LOCAL, q[9]);
-    ((q[5] == KIND_LOCAL) & (q[1] != 0) & (q[9] == q[1]))
-        | (own_kind == KIND_LOCAL)
-        | (local_kind == KIND_LOCAL)
+    let local_kind = addr_type(rows, n, local_listed, layout::TABLE_LOCAL, q[9]);
+    ((q[5] == layout::KIND_LOCAL) & (q[1] != 0) & (q[9] == q[1]))
+        | (own_kind == layout::KIND_LOCAL)
+        | (local_kind == layout::KIND_LOCAL)
 }

@@ -29,8 +29,6 @@ struct Best {
     local: u32,
 }
 
-const SCOPE_HOST: u32 = 254;
-
 fn better(best: Best, rank: u32, local: u32) -> Best
     ensures { λ r. ⌜ r ≡ better best rank local ⌝ }
 {
@@ -46,10 +44,10 @@ fn better(best: Best, rank: u32, local: u32) -> Best
 fn host_at_most(scope: u32) -> u32
     ensures { λ r. ⌜ r ≡ min scope hostScope ⌝ }
 {
-    if scope < SCOPE_HOST {
+    if scope < layout::SCOPE_HOST {
         return scope;
     }
-    SCOPE_HOST
+    layout::SCOPE_HOST
 }
 
 // One address more: it counts 2 if it is eligible and in the destination's subnet, 1 if it is eligible.

@@ -28,10 +28,6 @@ pub enum Done {
     Full,
 }
 
-const NO_SUCH: u32 = 3;
-
-const INVALID: u32 = 22;
-
 // The first row that the request names goes. No table is listed.
 pub fn del_route4(s: &mut [u32], ev: &mut [u32], q: &[u32]) -> Done
     requires { ⌜ Valid (now s) ⌝ }
@@ -41,23 +37,21 @@ pub fn del_route4(s: &mut [u32], ev: &mut [u32], q: &[u32]) -> Done
 {
     let t = asked::table_named(q);
     if !tables::listed(s, t) {
-        return Done::Refused(NO_SUCH);
+        return Done::Refused(layout::NO_SUCH);
     }
     if asked::bad_prefix(q) {
-        return Done::Refused(INVALID);
+        return Done::Refused(layout::INVALID);
     }
     let n = state::route_count(s);
     let place = select::select_route(view::routes(s), n, q);
     if n <= place {
-        return Done::Refused(NO_SUCH);
+        return Done::Refused(layout::NO_SUCH);
     }
     let at = 1283 + 32 * place;
     events::del_route4(ev, &s[at..at + 32]);
     state::remove_route(s, place);
     Done::Rows(1)
 }
-
-const TABLE_DEFAULT: u32 = 253;
 
 // The preferred source, once the table is listed.
 fn prefsrc_check(s: &[u32], q: &[u32], t: u32, local: bool, linked: bool) -> Reached
@@ -74,7 +68,7 @@ fn prefsrc_check(s: &[u32], q: &[u32], t: u32, local: bool, linked: bool) -> Rea
     if prefsrc::valid_prefsrc4(view::routes(s), n, q, own_listed, local) {
         return Reached::By(linked);
     }
-    Reached::Refused(INVALID)
+    Reached::Refused(layout::INVALID)
 }
 
 // Every check before the insertion, as it comes out once the table is listed: nothing is written yet.
@@ -88,8 +82,8 @@ fn check(s: &[u32], q: &[u32]) -> Reached
         return Reached::Refused(number);
     }
     let t = asked::table_named(q);
-    let local = tables::listed(s, tables::LOCAL) | (tables::LOCAL == t);
-    let default = tables::listed(s, TABLE_DEFAULT) | (TABLE_DEFAULT == t);
+    let local = tables::listed(s, layout::TABLE_LOCAL) | (layout::TABLE_LOCAL == t);
+    let default = tables::listed(s, layout::TABLE_DEFAULT) | (layout::TABLE_DEFAULT == t);
     let n = state::route_count(s);
     let reached = gateway::reach_check(view::routes(s), n, q, local, default);
     match reached {

@@ -16,12 +16,6 @@ pub enum Selected {
     Nothing,
 }
 
-const SECONDARY: u32 = 0x01;
-
-const SCOPE_HOST: u32 = 254;
-
-const KIND_LOCAL: u32 = 2;
-
 // 127.0.0.1
 const LOOPBACK: u32 = 0x7f000001;
 
@@ -30,7 +24,7 @@ fn eligible(a: &[u32], scope: u32) -> bool
     requires { ⌜ length (now a) ≡ 20 ⌝ }
     ensures { λ r. ⌜ r ≡ eligible scope (now (a .entry)) ⌝ }
 {
-    (a[6] & SECONDARY == 0) & ((a[5] <= scope) | (SCOPE_HOST <= scope))
+    (a[6] & address::SECONDARY == 0) & ((a[5] <= scope) | (layout::SCOPE_HOST <= scope))
 }
 
 // In the destination's subnet, if there is one.
@@ -77,7 +71,7 @@ pub fn source4(addresses: &[u32], n: usize, row: &[u32], ip: u32) -> Selected
     if row[8] == 1 {
         return Selected::Local(row[9]);
     }
-    if row[5] == KIND_LOCAL {
+    if row[5] == layout::KIND_LOCAL {
         return Selected::Local(ip);
     }
     select4(addresses, n, row[10] == 1, row[11], row[7])

@@ -9,10 +9,6 @@ ghost use Rattle.definition.specs.Reference.Insert.{addTable, listTable, create
 ghost use Rattle.state.specs.Holds.{Holds, Valid, Sized};
 ghost use Rattle.tables.specs.Listed.{tablesOf};
 
-pub const MAIN: u32 = 254;
-
-pub const LOCAL: u32 = 255;
-
 pub fn listed(s: &[u32], t: u32) -> bool
     requires { ⌜ Valid (now s) ⌝ }
     ensures { λ r. ⌜ r ≡ among t (tablesOf (now (s .entry))) ⌝ }
@@ -53,10 +49,10 @@ pub fn tables_after(s: &[u32], t: u32) -> usize
     requires { ⌜ Valid (now s) ⌝ }
     ensures { λ r. ⌜ r ≡ length (listTable t (tablesOf (now (s .entry)))) ⌝ }
 {
-    if t != LOCAL {
+    if t != layout::TABLE_LOCAL {
         return with_table(s, t);
     }
-    if listed(s, MAIN) {
+    if listed(s, layout::TABLE_MAIN) {
         return with_table(s, t);
     }
     with_table(s, t) + 1
@@ -68,10 +64,10 @@ pub fn list_table(s: &mut [u32], t: u32)
     requires { ⌜ length (listTable t (tablesOf (now s))) ≤ 32 ⌝ }
     ensures { λ _. ⌜ ((st : State) → Holds (now (s .entry)) st → Holds (now (s .exit)) (create4 t st)) ⌝ }
 {
-    if t != LOCAL {
+    if t != layout::TABLE_LOCAL {
         add_table(s, t);
         return;
     }
-    add_table(s, MAIN);
+    add_table(s, layout::TABLE_MAIN);
     add_table(s, t);
 }

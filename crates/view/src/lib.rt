@@ -15,8 +15,6 @@ ghost use Rattle.definition.specs.Reference.Source.{select4, source4, source};
 ghost use Rattle.state.specs.Holds.{Holds, Valid};
 ghost use Rattle.view.specs.Parts.{addressPart, routePart};
 
-const TABLE_DEFAULT: u32 = 253;
-
 // The words of the routes in use.
 pub fn routes(s: &[u32]) -> &[u32]
     requires { ⌜ Valid (now s) ⌝ }
@@ -42,7 +40,7 @@ pub fn lookup4_in(s: &[u32], f: Flow) -> Looked
     requires { ⌜ Valid (now s) ⌝ }
     ensures { λ r. ⌜ placed (routeCount (now (s .entry))) r × ((st : State) → Holds (now (s .entry)) st → foundBy (st .routes) r ≡ lookupIn st (flowOf f)) ⌝ }
 {
-    let listed = tables::listed(s, TABLE_DEFAULT);
+    let listed = tables::listed(s, layout::TABLE_DEFAULT);
     lookup::lookup4_in(routes(s), state::route_count(s), listed, f)
 }
 
@@ -51,7 +49,7 @@ pub fn local4(s: &[u32], ip: u32) -> bool
     requires { ⌜ Valid (now s) ⌝ }
     ensures { λ r. ⌜ ((st : State) → Holds (now (s .entry)) st → r ≡ local4 st ip) ⌝ }
 {
-    let listed = tables::listed(s, tables::LOCAL);
+    let listed = tables::listed(s, layout::TABLE_LOCAL);
     lookup::local4(routes(s), state::route_count(s), listed, ip)
 }
 
@@ -82,7 +80,7 @@ pub fn source(s: &[u32], ip: u32) -> u32
     requires { ⌜ Valid (now s) ⌝ }
     ensures { λ r. ⌜ ((st : State) → Holds (now (s .entry)) st → r ≡ source st ip) ⌝ }
 {
-    let listed = tables::listed(s, TABLE_DEFAULT);
+    let listed = tables::listed(s, layout::TABLE_DEFAULT);
     source::source(
         addresses(s),
         state::address_count(s),

@@ -13,12 +13,6 @@ ghost use Rattle.definition.specs.Reference.Addresses.{candidates};
 ghost use Rattle.definition.specs.Reference.Removal.{sameRoute, wanted, straysFrom};
 ghost use Rattle.wanted.specs.Wants.{wantsLocal, wantsBroadcast, wants};
 
-const KIND_LOCAL: u32 = 2;
-
-const KIND_BROADCAST: u32 = 3;
-
-const TABLE_MAIN: u32 = 254;
-
 // Whether a wants a local route: to its own address or to its network. Most addresses have another length, so that is asked first.
 fn wants_local(a: &[u32], dst: u32, len: u32) -> bool
     requires { ⌜ (length (now a) ≡ 20) × (prefix (now a) ≤ 32) ⌝ }
@@ -54,10 +48,10 @@ pub fn wants(a: &[u32], dst: u32, len: u32, kind: u32) -> bool
     requires { ⌜ (length (now a) ≡ 20) × (prefix (now a) ≤ 32) ⌝ }
     ensures { λ r. ⌜ r ≡ wants (now (a .entry)) dst len kind ⌝ }
 {
-    if kind == KIND_LOCAL {
+    if kind == layout::KIND_LOCAL {
         return wants_local(a, dst, len);
     }
-    if kind == KIND_BROADCAST {
+    if kind == layout::KIND_BROADCAST {
         return wants_broadcast(a, dst, len);
     }
     false
@@ -89,7 +83,7 @@ pub fn strays_from(r: &[u32], ip: u32) -> bool
     requires { ⌜ length (now r) ≡ 32 ⌝ }
     ensures { λ b. ⌜ b ≡ straysFrom ip (now (r .entry)) ⌝ }
 {
-    (r[0] == TABLE_MAIN) & (r[8] == 1) & (r[9] == ip)
+    (r[0] == layout::TABLE_MAIN) & (r[8] == 1) & (r[9] == ip)
 }
 
 // Whether such a row is there.
