@@ -1,5 +1,6 @@
 // add_v4 and up over words that hold a state, with their events. Where a list lacks room the words are left anyhow.
 use life::Lifetimes;
+use life::Nanoseconds;
 use steps::Told;
 ghost use mathlib.Core.Path.{_≡_};
 ghost use mathlib.Core.Bool.{true};
@@ -44,12 +45,12 @@ fn step_of(came: Done) -> Told
 }
 
 // A requested address put in, or the one that is there changed, where the request says so.
-pub fn add_v4(s: &mut [u32], ev: &mut [u32], q: &[u32], clock: u64) -> Done
+pub fn add_v4(s: &mut [u32], ev: &mut [u32], q: &[u32], clock: Nanoseconds) -> Done
     requires { ⌜ Sound (now s) ⌝ }
     requires { ⌜ (length (now q) ≡ 18) × (fitAddV4 (now q) ≡ true) ⌝ }
     requires { ⌜ 170 ≤ length (now ev) ⌝ }
     ensures { λ r. ⌜ doneRows r ≤ 5 ⌝ }
-    ensures { λ r. ⌜ ((st : State) → Holds (now (s .entry)) st → fitState st ≡ true → Comes (addV4 (now (q .entry)) clock st) (now (s .entry)) (now (s .exit)) (now (ev .entry)) (now (ev .exit)) r) ⌝ }
+    ensures { λ r. ⌜ ((st : State) → Holds (now (s .entry)) st → fitState st ≡ true → Comes (addV4 (now (q .entry)) (clock .0) st) (now (s .entry)) (now (s .exit)) (now (ev .entry)) (now (ev .exit)) r) ⌝ }
 {
     let n = state::address_count(s);
     let place = placing::same_at(view::addresses(s), n, q);
@@ -111,11 +112,11 @@ fn bring_all(s: &mut [u32], ev: &mut [u32]) -> Told
 }
 
 // 127.0.0.1 if it isn't there, with its routes; then the routes that every address has.
-pub fn up(s: &mut [u32], ev: &mut [u32], clock: u64) -> Told
+pub fn up(s: &mut [u32], ev: &mut [u32], clock: Nanoseconds) -> Told
     requires { ⌜ Sound (now s) ⌝ }
     requires { ⌜ 13056 ≤ length (now ev) ⌝ }
     ensures { λ r. ⌜ rowsOf r ≤ 325 ⌝ }
-    ensures { λ r. ⌜ AddsFrom (up clock) (now (s .entry)) (now (s .exit)) (now (ev .entry)) (now (ev .exit)) r ⌝ }
+    ensures { λ r. ⌜ AddsFrom (up (clock .0)) (now (s .entry)) (now (s .exit)) (now (ev .entry)) (now (ev .exit)) r ⌝ }
 {
     let forever = Lifetimes::FOREVER;
     let loopback = [

@@ -1,6 +1,7 @@
 // The calls of the host that add addresses, on lent words. Each refuses unfit input, and a list that would pass its limit, with a
 // number and then changes nothing.
 use changes::Done;
+use life::Nanoseconds;
 ghost use mathlib.Core.Path.{_≡_};
 ghost use mathlib.Core.Bool.{_&&_};
 ghost use lib.ListN.{length};
@@ -28,7 +29,7 @@ pub fn add_v4(state: &mut [u32], q: &[u32], events: &mut [u32], clock: u64) -> D
     if n != 0 {
         return Done::Refused(n);
     }
-    let came = whole::add_v4(state, events, q, clock);
+    let came = whole::add_v4(state, events, q, Nanoseconds(clock));
     match came {
         adding::Done::Rows(k) => Done::Rows(k),
         adding::Done::Refused(m) => Done::Refused(m),
@@ -45,7 +46,7 @@ pub fn up(state: &mut [u32], events: &mut [u32], clock: u64) -> Done
     if n != 0 {
         return Done::Refused(n);
     }
-    let told = whole::up(state, events, clock);
+    let told = whole::up(state, events, Nanoseconds(clock));
     match told {
         steps::Told::Rows(k) => Done::Rows(k),
         steps::Told::Full => Done::Refused(203),

@@ -1,4 +1,5 @@
 // Routes and addresses put in, with their events: a block of routes, a new address with what it brings, an address changed.
+use life::Nanoseconds;
 use steps::Told;
 ghost use mathlib.Core.Path.{_≡_};
 ghost use mathlib.Core.Bool.{true};
@@ -107,13 +108,13 @@ fn moved(s: &mut [u32], ev: &mut [u32], q: &[u32], old: &[u32]) -> Told
 }
 
 // Address i, which is the requested one, with the request's priority, proto and lifetimes.
-pub fn change_v4(s: &mut [u32], ev: &mut [u32], i: usize, q: &[u32], clock: u64) -> Told
+pub fn change_v4(s: &mut [u32], ev: &mut [u32], i: usize, q: &[u32], clock: Nanoseconds) -> Told
     requires { ⌜ Sound (now s) ⌝ }
     requires { ⌜ i < addressCount (now s) ⌝ }
     requires { ⌜ (length (now q) ≡ 18) × (fitAddV4 (now q) ≡ true) ⌝ }
     requires { ⌜ 102 ≤ length (now ev) ⌝ }
     ensures { λ r. ⌜ rowsOf r ≤ 3 ⌝ }
-    ensures { λ r. ⌜ ((st : State) → Holds (now (s .entry)) st → fitState st ≡ true → i ≡ placeOf (sameAddress (now (q .entry))) (st .addresses) → Adds (changeV4 (now (q .entry)) (getD (st .addresses) i []) clock st) (now (s .exit)) (now (ev .entry)) (now (ev .exit)) r) ⌝ }
+    ensures { λ r. ⌜ ((st : State) → Holds (now (s .entry)) st → fitState st ≡ true → i ≡ placeOf (sameAddress (now (q .entry))) (st .addresses) → Adds (changeV4 (now (q .entry)) (getD (st .addresses) i []) (clock .0) st) (now (s .exit)) (now (ev .entry)) (now (ev .exit)) r) ⌝ }
 {
     let at = 3 + 20 * i;
     let mut old = [0u32; 20];

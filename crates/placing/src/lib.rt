@@ -1,4 +1,5 @@
 // Where a requested address stands or goes among those that are there, and the row that it becomes.
+use life::Nanoseconds;
 ghost use mathlib.Core.Path.{_≡_};
 ghost use mathlib.Core.Bool.{true, cond};
 ghost use mathlib.Core.List.{List};
@@ -98,12 +99,12 @@ fn in_subnet(addresses: &[u32], n: usize, q: &[u32]) -> bool
 }
 
 // The row that a request becomes: a secondary where an address of its subnet is there.
-pub fn fresh(addresses: &[u32], n: usize, q: &[u32], clock: u64, out: &mut [u32])
+pub fn fresh(addresses: &[u32], n: usize, q: &[u32], clock: Nanoseconds, out: &mut [u32])
     requires { ⌜ (length (now addresses) ≡ 20 * n) × Lays 20 fitAddress (now addresses) ⌝ }
     requires { ⌜ (length (now q) ≡ 18) × (fitAddV4 (now q) ≡ true) ⌝ }
     requires { ⌜ length (now out) ≡ 20 ⌝ }
     ensures { λ _. ⌜ fitAddress (now (out .exit)) ≡ true ⌝ }
-    ensures { λ _. ⌜ ((l : List Row) → Laid 20 fitAddress (now (addresses .entry)) l → now (out .exit) ≡ freshRow l (now (q .entry)) clock) ⌝ }
+    ensures { λ _. ⌜ ((l : List Row) → Laid 20 fitAddress (now (addresses .entry)) l → now (out .exit) ≡ freshRow l (now (q .entry)) (clock .0)) ⌝ }
 {
     let second = in_subnet(addresses, n, q);
     if !second {

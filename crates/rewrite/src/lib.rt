@@ -80,41 +80,41 @@ fn lifetimes(q: &[u32]) -> Lifetimes
 }
 
 // A life that begins at that moment, with no lifetimes yet.
-fn begun(clock: u64) -> Life
-    ensures { λ r. ⌜ r ≡ begun clock ⌝ }
+fn begun(clock: Nanoseconds) -> Life
+    ensures { λ r. ⌜ r ≡ begun (clock .0) ⌝ }
 {
     Life {
         valid: Seconds(0),
         preferred: Seconds(0),
-        created: Nanoseconds(clock),
-        changed: Nanoseconds(clock),
+        created: clock,
+        changed: clock,
     }
 }
 
 // The row that a request of 18 words asks for, made at that moment.
-pub fn asked(q: &[u32], clock: u64, out: &mut [u32])
+pub fn asked(q: &[u32], clock: Nanoseconds, out: &mut [u32])
     requires { ⌜ length (now q) ≡ 18 ⌝ }
     requires { ⌜ 20 ≤ length (now out) ⌝ }
-    ensures { λ _. ⌜ now (out .exit) ≡ put 0 (asked (now (q .entry)) clock) (now (out .entry)) ⌝ }
+    ensures { λ _. ⌜ now (out .exit) ≡ put 0 (asked (now (q .entry)) (clock .0)) (now (out .entry)) ⌝ }
 {
     let proto = q[7];
     let priority = q[13];
     let flags = address::life_flags(as_primary(q[6]), q[14], q[15]);
-    let new = begun(clock).set(lifetimes(q), Nanoseconds(clock));
+    let new = begun(clock).set(lifetimes(q), clock);
     rewritten(out, q, flags, proto, priority, new);
 }
 
 // An address with the priority, proto and lifetimes of a request.
-pub fn changed_to(q: &[u32], old: &[u32], clock: u64, out: &mut [u32])
+pub fn changed_to(q: &[u32], old: &[u32], clock: Nanoseconds, out: &mut [u32])
     requires { ⌜ length (now q) ≡ 18 ⌝ }
     requires { ⌜ length (now old) ≡ 20 ⌝ }
     requires { ⌜ 20 ≤ length (now out) ⌝ }
-    ensures { λ _. ⌜ now (out .exit) ≡ put 0 (changedTo (now (q .entry)) (now (old .entry)) clock) (now (out .entry)) ⌝ }
+    ensures { λ _. ⌜ now (out .exit) ≡ put 0 (changedTo (now (q .entry)) (now (old .entry)) (clock .0)) (now (out .entry)) ⌝ }
 {
     let proto = q[7];
     let priority = q[13];
     let flags = address::life_flags(old[6], q[14], q[15]);
-    let new = address::life_of(old).set(lifetimes(q), Nanoseconds(clock));
+    let new = address::life_of(old).set(lifetimes(q), clock);
     rewritten(out, old, flags, proto, priority, new);
 }
 

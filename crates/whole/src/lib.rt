@@ -1,5 +1,6 @@
 // add_v4 and up whole: where a list lacks room, the state and the event rows are left as they were.
 use adding::Done;
+use life::Nanoseconds;
 use steps::Told;
 ghost use mathlib.Core.Path.{_≡_};
 ghost use mathlib.Core.Bool.{true};
@@ -30,13 +31,13 @@ fn has_room(s: &[u32], rows: usize) -> bool
 }
 
 // Tried on a copy, which is copied back where it had room.
-fn try_add_v4(s: &mut [u32], ev: &mut [u32], q: &[u32], clock: u64) -> Done
+fn try_add_v4(s: &mut [u32], ev: &mut [u32], q: &[u32], clock: Nanoseconds) -> Done
     requires { ⌜ Sound (now s) ⌝ }
     requires { ⌜ (length (now q) ≡ 18) × (fitAddV4 (now q) ≡ true) ⌝ }
     requires { ⌜ 170 ≤ length (now ev) ⌝ }
     ensures { λ r. ⌜ doneRows r ≤ 5 ⌝ }
     ensures { λ r. ⌜ (r ≡ Call.Full → (now (s .exit) ≡ now (s .entry)) × (now (ev .exit) ≡ now (ev .entry))) ⌝ }
-    ensures { λ r. ⌜ ((st : State) → Holds (now (s .entry)) st → fitState st ≡ true → Comes (addV4 (now (q .entry)) clock st) (now (s .entry)) (now (s .exit)) (now (ev .entry)) (now (ev .exit)) r) ⌝ }
+    ensures { λ r. ⌜ ((st : State) → Holds (now (s .entry)) st → fitState st ≡ true → Comes (addV4 (now (q .entry)) (clock .0) st) (now (s .entry)) (now (s .exit)) (now (ev .entry)) (now (ev .exit)) r) ⌝ }
 {
     let mut copy = [0u32; 9507];
     words::store(&mut copy, 0, s);
@@ -55,13 +56,13 @@ fn try_add_v4(s: &mut [u32], ev: &mut [u32], q: &[u32], clock: u64) -> Done
 }
 
 // A requested address put in, or the one that is there changed, where the request says so.
-pub fn add_v4(s: &mut [u32], ev: &mut [u32], q: &[u32], clock: u64) -> Done
+pub fn add_v4(s: &mut [u32], ev: &mut [u32], q: &[u32], clock: Nanoseconds) -> Done
     requires { ⌜ Sound (now s) ⌝ }
     requires { ⌜ (length (now q) ≡ 18) × (fitAddV4 (now q) ≡ true) ⌝ }
     requires { ⌜ 170 ≤ length (now ev) ⌝ }
     ensures { λ r. ⌜ doneRows r ≤ 5 ⌝ }
     ensures { λ r. ⌜ (r ≡ Call.Full → (now (s .exit) ≡ now (s .entry)) × (now (ev .exit) ≡ now (ev .entry))) ⌝ }
-    ensures { λ r. ⌜ ((st : State) → Holds (now (s .entry)) st → fitState st ≡ true → Comes (addV4 (now (q .entry)) clock st) (now (s .entry)) (now (s .exit)) (now (ev .entry)) (now (ev .exit)) r) ⌝ }
+    ensures { λ r. ⌜ ((st : State) → Holds (now (s .entry)) st → fitState st ≡ true → Comes (addV4 (now (q .entry)) (clock .0) st) (now (s .entry)) (now (s .exit)) (now (ev .entry)) (now (ev .exit)) r) ⌝ }
 {
     if has_room(s, 4) {
         return adding::add_v4(s, ev, q, clock);
@@ -69,12 +70,12 @@ pub fn add_v4(s: &mut [u32], ev: &mut [u32], q: &[u32], clock: u64) -> Done
     try_add_v4(s, ev, q, clock)
 }
 
-fn try_up(s: &mut [u32], ev: &mut [u32], clock: u64) -> Told
+fn try_up(s: &mut [u32], ev: &mut [u32], clock: Nanoseconds) -> Told
     requires { ⌜ Sound (now s) ⌝ }
     requires { ⌜ 13056 ≤ length (now ev) ⌝ }
     ensures { λ r. ⌜ rowsOf r ≤ 325 ⌝ }
     ensures { λ r. ⌜ (r ≡ Tell.Full → (now (s .exit) ≡ now (s .entry)) × (now (ev .exit) ≡ now (ev .entry))) ⌝ }
-    ensures { λ r. ⌜ AddsFrom (up clock) (now (s .entry)) (now (s .exit)) (now (ev .entry)) (now (ev .exit)) r ⌝ }
+    ensures { λ r. ⌜ AddsFrom (up (clock .0)) (now (s .entry)) (now (s .exit)) (now (ev .entry)) (now (ev .exit)) r ⌝ }
 {
     let mut copy = [0u32; 9507];
     words::store(&mut copy, 0, s);
@@ -92,12 +93,12 @@ fn try_up(s: &mut [u32], ev: &mut [u32], clock: u64) -> Told
 }
 
 // 127.0.0.1 if it isn't there, with its routes; then the routes that every address has.
-pub fn up(s: &mut [u32], ev: &mut [u32], clock: u64) -> Told
+pub fn up(s: &mut [u32], ev: &mut [u32], clock: Nanoseconds) -> Told
     requires { ⌜ Sound (now s) ⌝ }
     requires { ⌜ 13056 ≤ length (now ev) ⌝ }
     ensures { λ r. ⌜ rowsOf r ≤ 325 ⌝ }
     ensures { λ r. ⌜ (r ≡ Tell.Full → (now (s .exit) ≡ now (s .entry)) × (now (ev .exit) ≡ now (ev .entry))) ⌝ }
-    ensures { λ r. ⌜ AddsFrom (up clock) (now (s .entry)) (now (s .exit)) (now (ev .entry)) (now (ev .exit)) r ⌝ }
+    ensures { λ r. ⌜ AddsFrom (up (clock .0)) (now (s .entry)) (now (s .exit)) (now (ev .entry)) (now (ev .exit)) r ⌝ }
 {
     let most = 4 * (state::address_count(s) + 2);
     if has_room(s, most) {

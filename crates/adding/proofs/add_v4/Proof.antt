@@ -53,7 +53,7 @@ returns c =
       omega arith,
       λ st h g.
           let found = p .same-at .ensures .1 (st .addresses) (of-addresses _ h (p .before .addresses .ensures)) in
-          added-refused q (a .clock) st (p .same-at .result) found (omega (arith, count-addresses h, n .address-count .ensures, c .before .before .if1 .taken)) (c .if2 .taken),
+          added-refused q (a .clock .0) st (p .same-at .result) found (omega (arith, count-addresses h, n .address-count .ensures, c .before .before .if1 .taken)) (c .if2 .taken),
     )
 
 -- src/lib.rt:61:13
@@ -90,7 +90,7 @@ returns-2 c =
       done-few 5 (d .change-v4 .result) (c .call-of .result) (c .call-of .ensures) (omega (arith, d .change-v4 .ensures .0)),
       λ st h g.
           let found = p .same-at .ensures .1 (st .addresses) (of-addresses _ h (p .before .addresses .ensures)) in
-          added-change q (a .clock) st (p .same-at .result) found (omega (arith, count-addresses h, n .address-count .ensures, c .before .before .before .before .before .before .before .before .before .before .if1 .taken)) (c .before .before .before .before .before .before .before .before .if2 .left) (c .call-of .result) (c .call-of .ensures) (d .change-v4 .ensures .1 st h g found),
+          added-change q (a .clock .0) st (p .same-at .result) found (omega (arith, count-addresses h, n .address-count .ensures, c .before .before .before .before .before .before .before .before .before .before .if1 .taken)) (c .before .before .before .before .before .before .before .before .if2 .left) (c .call-of .result) (c .call-of .ensures) (d .change-v4 .ensures .1 st h g found),
     )
 
 -- src/lib.rt:65:20
@@ -148,7 +148,7 @@ returns-3 c =
       done-few 5 (d .new-address .result) (c .call-of2 .result) (c .call-of2 .ensures) (d .new-address .ensures .0),
       λ st h g.
           let found = p .same-at .ensures .1 (st .addresses) (of-addresses _ h (p .before .addresses .ensures)) in
-          added-new q (a .clock) st (p .same-at .result) found (omega (arith, count-addresses h, n .address-count .ensures, c .before .before .before .before .before .before .before .before .before .before .before .before .before .before .before .if1 .left)) _ (f .fresh .ensures .1 (st .addresses) (of-addresses _ h (c .before .before .before .before .before .before .before .before .before .before .before .before .before .addresses2 .ensures))) _ refl (c .call-of2 .result) (c .call-of2 .ensures) (d .new-address .ensures .1 st h g),
+          added-new q (a .clock .0) st (p .same-at .result) found (omega (arith, count-addresses h, n .address-count .ensures, c .before .before .before .before .before .before .before .before .before .before .before .before .before .before .before .if1 .left)) _ (f .fresh .ensures .1 (st .addresses) (of-addresses _ h (c .before .before .before .before .before .before .before .before .before .before .before .before .before .addresses2 .ensures))) _ refl (c .call-of2 .result) (c .call-of2 .ensures) (d .new-address .ensures .1 st h g),
     )
 
 pub add-v4-spec : {M : Type 1} → statement M

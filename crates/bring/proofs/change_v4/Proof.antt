@@ -118,9 +118,9 @@ replace-address-requires c κs =
     let e = c .before .before .before in
     let k = e .came .given .0 .0 in
     let two = rows-are 2 (m .moved .result) k (e .came .given .1) (m .moved .ensures .0) in
-    let v = change-sound q (a .clock) old (f .1) fit _ refl (h .changed-to .ensures) (m .moved .ensures .1) k (e .came .given .1) (s .pre .0) in
-    let n = change-count q (a .clock) old (f .1) fit _ refl (h .changed-to .ensures) (m .moved .ensures .1) k (e .came .given .1) (s .pre .0 .state) (s .pre .0 .holds) (s .pre .0 .fits) in
-    (sound-valid v, (omega (arith, n, s .pre .1 .0), changed-fit q (a .clock) old (f .1) fit _ refl (h .changed-to .ensures)))
+    let v = change-sound q (a .clock .0) old (f .1) fit _ refl (h .changed-to .ensures) (m .moved .ensures .1) k (e .came .given .1) (s .pre .0) in
+    let n = change-count q (a .clock .0) old (f .1) fit _ refl (h .changed-to .ensures) (m .moved .ensures .1) k (e .came .given .1) (s .pre .0 .state) (s .pre .0 .holds) (s .pre .0 .fits) in
+    (sound-valid v, (omega (arith, n, s .pre .1 .0), changed-fit q (a .clock .0) old (f .1) fit _ refl (h .changed-to .ensures)))
 
 -- src/lib.rt:125:24
 mul-from : tie.Need-mul-from
@@ -213,7 +213,7 @@ new-addr4-requires c κs =
     let e = c .before .before .before .before .before .before .before .before in
     let k = e .came .given .0 .0 in
     let two = rows-are 2 (m .moved .result) k (e .came .given .1) (m .moved .ensures .0) in
-    (rest-room k 34 (m .moved .last .1 .0) (omega (arith, two, s .pre .1 .1 .1)), length-address (h .changed-to .last .1 .1 .1 .0) (changed-fit q (a .clock) old (f .1) fit _ refl (h .changed-to .ensures)))
+    (rest-room k 34 (m .moved .last .1 .0) (omega (arith, two, s .pre .1 .1 .1)), length-address (h .changed-to .last .1 .1 .1 .0) (changed-fit q (a .clock .0) old (f .1) fit _ refl (h .changed-to .ensures)))
 
 -- src/lib.rt:127:24
 add-t37 : tie.Need-add-t37
@@ -261,7 +261,7 @@ returns c =
     let two = rows-are 2 (m .moved .result) k (e .came .given .1) (m .moved .ensures .0) in
     let room = rest-room k 34 (m .moved .last .1 .0) (omega (arith, two, s .pre .1 .1 .1)) in (
       omega (arith, two),
-      λ st hs g at. change-done q (a .clock) old (f .1) fit _ refl (h .changed-to .ensures) (m .moved .ensures .1) k (e .came .given .1) (a .i)
+      λ st hs g at. change-done q (a .clock .0) old (f .1) fit _ refl (h .changed-to .ensures) (m .moved .ensures .1) k (e .came .given .1) (a .i)
           (c .before .before .before .before .before .before .before .replace-address .ensures) room (c .before .before .new-addr4 .ensures) st hs g at (getD (st .addresses) (a .i) []) (old-row (a .i) (s .pre .1 .0) _ refl (t .store .ensures) st hs),
     )
 
@@ -285,7 +285,7 @@ returns-2 c =
     let f = s .pre .1 .1 .0 in
     let old = t .store .last .0 in
     let fit = old-fit (a .i) (s .pre .1 .0) _ refl (t .store .ensures) (s .pre .0) in
-    (omega arith, λ st hs g at. change-full q (a .clock) old (f .1) fit _ refl (h .changed-to .ensures) (m .moved .ensures .1) (c .enum-told .given .1) st hs g (getD (st .addresses) (a .i) []) (old-row (a .i) (s .pre .1 .0) _ refl (t .store .ensures) st hs))
+    (omega arith, λ st hs g at. change-full q (a .clock .0) old (f .1) fit _ refl (h .changed-to .ensures) (m .moved .ensures .1) (c .enum-told .given .1) st hs g (getD (st .addresses) (a .i) []) (old-row (a .i) (s .pre .1 .0) _ refl (t .store .ensures) st hs))
 
 pub change-v4-spec : {M : Type 1} → statement M
 change-v4-spec =

@@ -32,8 +32,8 @@ returns c =
     let s = i .before .before .before .before in
     let a = s .args in
     let f = s .pre .1 .0 in (
-      fit-row-asked (a .q .now) (a .clock) (f .0) (f .1) (now (a .out)) (s .pre .1 .1) (w .asked .ensures),
-      λ l h. row-fresh (a .q .now) (a .clock) (f .0) (f .1) (now (a .out)) (s .pre .1 .1) (w .asked .ensures) l (i .in-subnet .result) (i .in-subnet .ensures l h) (not-true (i .in-subnet .result) (t .if1 .taken)),
+      fit-row-asked (a .q .now) (a .clock .0) (f .0) (f .1) (now (a .out)) (s .pre .1 .1) (w .asked .ensures),
+      λ l h. row-fresh (a .q .now) (a .clock .0) (f .0) (f .1) (now (a .out)) (s .pre .1 .1) (w .asked .ensures) l (i .in-subnet .result) (i .in-subnet .ensures l h) (not-true (i .in-subnet .result) (t .if1 .taken)),
     )
 
 -- src/lib.rt:114:30
@@ -66,8 +66,8 @@ returns-2 c =
     let s = i .before .before .before .before in
     let a = s .args in
     let f = s .pre .1 .0 in (
-      fit-row-second (a .q .now) (a .clock) (f .0) (f .1) _ refl (m .asked2 .ensures) (now (a .out)) (s .pre .1 .1) (w .as-secondary .ensures),
-      λ l h. row-second (a .q .now) (a .clock) (f .0) (f .1) _ refl (m .asked2 .ensures) (now (a .out)) (s .pre .1 .1) (w .as-secondary .ensures) l (i .in-subnet .result) (i .in-subnet .ensures l h) (not-false (i .in-subnet .result) (t .if1 .left)),
+      fit-row-second (a .q .now) (a .clock .0) (f .0) (f .1) _ refl (m .asked2 .ensures) (now (a .out)) (s .pre .1 .1) (w .as-secondary .ensures),
+      λ l h. row-second (a .q .now) (a .clock .0) (f .0) (f .1) _ refl (m .asked2 .ensures) (now (a .out)) (s .pre .1 .1) (w .as-secondary .ensures) l (i .in-subnet .result) (i .in-subnet .ensures l h) (not-false (i .in-subnet .result) (t .if1 .left)),
     )
 
 pub fresh-spec : {M : Type 1} → statement M

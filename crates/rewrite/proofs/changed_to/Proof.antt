@@ -73,8 +73,8 @@ returns c =
     let a = s .args in
     w .rewritten .ensures
     ∙ ap (λ (v : List ℕ). put 0 v (now (a .out)))
-    (changed-row (a .q .now) (a .old .now) (a .clock) (f .life-flags .result) (t .set .result) (omega (arith, s .pre .1 .0)) (f .life-flags .ensures)
-    (set-life (t .set .result) _ _ (a .clock) _ _ (t .set .ensures) (t .before .lifetimes .ensures) (g .life-of .ensures)))
+    (changed-row (a .q .now) (a .old .now) (a .clock .0) (f .life-flags .result) (t .set .result) (omega (arith, s .pre .1 .0)) (f .life-flags .ensures)
+    (set-life (t .set .result) _ _ (a .clock .0) _ _ (t .set .ensures) (t .before .lifetimes .ensures) (g .life-of .ensures)))
 
 pub changed-to-spec : {M : Type 1} → statement M
 changed-to-spec =

@@ -43,7 +43,7 @@ returns c =
     let r = t .before .has-room in (
       d .add-v4 .ensures .0,
       (
-        λ e. absurd (comes-roomy (addV4 (a .q .now) (a .clock) (v .state)) (d .add-v4 .result) (add-certain 4 (r .result) (r .ensures) (t .if1 .taken) (v .state) (v .holds) refl (a .q .now) (a .clock)) (d .add-v4 .ensures .1 (v .state) (v .holds) (v .fits)) e),
+        λ e. absurd (comes-roomy (addV4 (a .q .now) (a .clock .0) (v .state)) (d .add-v4 .result) (add-certain 4 (r .result) (r .ensures) (t .if1 .taken) (v .state) (v .holds) refl (a .q .now) (a .clock .0)) (d .add-v4 .ensures .1 (v .state) (v .holds) (v .fits)) e),
         d .add-v4 .ensures .1,
       ),
     )

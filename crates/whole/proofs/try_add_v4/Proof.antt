@@ -56,7 +56,7 @@ store-requires-2 c κs =
     let e = c .before .before .before in
     let k = e .came .given .0 .0 in
     let five = call-few 5 (d .add-v4 .result) k (e .came .given .1) (d .add-v4 .ensures .0) in
-    let x = tried-comes (addV4 q (a .clock) (v .state)) (d .add-v4 .result) k (e .came .given .1) (d .add-v4 .ensures .1 (v .state) (copy-holds _ (a .s .now) (sym (sound-long v)) (w .store .ensures) (v .state) (v .holds)) (v .fits)) in
+    let x = tried-comes (addV4 q (a .clock .0) (v .state)) (d .add-v4 .result) k (e .came .given .1) (d .add-v4 .ensures .1 (v .state) (copy-holds _ (a .s .now) (sym (sound-long v)) (w .store .ensures) (v .state) (v .holds)) (v .fits)) in
     omega (arith, x .long, sound-long v)
 
 -- src/lib.rt:35:23
@@ -71,7 +71,7 @@ mul-end c =
     let e = c .before .before .before .before .before .before in
     let k = e .came .given .0 .0 in
     let five = call-few 5 (d .add-v4 .result) k (e .came .given .1) (d .add-v4 .ensures .0) in
-    let x = tried-comes (addV4 q (a .clock) (v .state)) (d .add-v4 .result) k (e .came .given .1) (d .add-v4 .ensures .1 (v .state) (copy-holds _ (a .s .now) (sym (sound-long v)) (w .store .ensures) (v .state) (v .holds)) (v .fits)) in
+    let x = tried-comes (addV4 q (a .clock .0) (v .state)) (d .add-v4 .result) k (e .came .given .1) (d .add-v4 .ensures .1 (v .state) (copy-holds _ (a .s .now) (sym (sound-long v)) (w .store .ensures) (v .state) (v .holds)) (v .fits)) in
     omega (arith, five)
 
 -- src/lib.rt:36:33
@@ -94,7 +94,7 @@ part-store-end c =
     let e = c .before .before .before .before .before .before .before .before in
     let k = e .came .given .0 .0 in
     let five = call-few 5 (d .add-v4 .result) k (e .came .given .1) (d .add-v4 .ensures .0) in
-    let x = tried-comes (addV4 q (a .clock) (v .state)) (d .add-v4 .result) k (e .came .given .1) (d .add-v4 .ensures .1 (v .state) (copy-holds _ (a .s .now) (sym (sound-long v)) (w .store .ensures) (v .state) (v .holds)) (v .fits)) in
+    let x = tried-comes (addV4 q (a .clock .0) (v .state)) (d .add-v4 .result) k (e .came .given .1) (d .add-v4 .ensures .1 (v .state) (copy-holds _ (a .s .now) (sym (sound-long v)) (w .store .ensures) (v .state) (v .holds)) (v .fits)) in
     omega (arith, x .room, x .wide)
 
 -- src/lib.rt:36:13
@@ -109,7 +109,7 @@ store-requires-3 c κs =
     let e = c .before .before .before .before .before .before .before .before .before in
     let k = e .came .given .0 .0 in
     let five = call-few 5 (d .add-v4 .result) k (e .came .given .1) (d .add-v4 .ensures .0) in
-    let x = tried-comes (addV4 q (a .clock) (v .state)) (d .add-v4 .result) k (e .came .given .1) (d .add-v4 .ensures .1 (v .state) (copy-holds _ (a .s .now) (sym (sound-long v)) (w .store .ensures) (v .state) (v .holds)) (v .fits)) in
+    let x = tried-comes (addV4 q (a .clock .0) (v .state)) (d .add-v4 .result) k (e .came .given .1) (d .add-v4 .ensures .1 (v .state) (copy-holds _ (a .s .now) (sym (sound-long v)) (w .store .ensures) (v .state) (v .holds)) (v .fits)) in
     omega (arith, take-room (34 * k) (d .add-v4 .last .1 .0), five, s .pre .1 .1)
 
 -- src/lib.rt:39:23
@@ -140,12 +140,12 @@ returns c =
     let e = c .before .before .before .before .before .before .before .before .before .before .before .before in
     let k = e .came .given .0 .0 in
     let five = call-few 5 (d .add-v4 .result) k (e .came .given .1) (d .add-v4 .ensures .0) in
-    let x = tried-comes (addV4 q (a .clock) (v .state)) (d .add-v4 .result) k (e .came .given .1) (d .add-v4 .ensures .1 (v .state) (copy-holds _ (a .s .now) (sym (sound-long v)) (w .store .ensures) (v .state) (v .holds)) (v .fits)) in (
+    let x = tried-comes (addV4 q (a .clock .0) (v .state)) (d .add-v4 .result) k (e .came .given .1) (d .add-v4 .ensures .1 (v .state) (copy-holds _ (a .s .now) (sym (sound-long v)) (w .store .ensures) (v .state) (v .holds)) (v .fits)) in (
       five,
       (
         λ r. absurd (rows-full k r),
         λ st h g. comes-back (d .add-v4 .last .0) _ (d .add-v4 .last .1 .0) (a .s .now) (a .ev .now) k (x .long ∙ sym (sound-long v)) (omega (arith, five, s .pre .1 .1)) (c .before .before .before .before .before .before .before .before .store2 .ensures) (c .before .before .store3 .ensures)
-            (addV4 q (a .clock) st) _ (d .add-v4 .result) (e .came .given .1) (d .add-v4 .ensures .1 st (copy-holds _ (a .s .now) (sym (sound-long v)) (w .store .ensures) st h) g),
+            (addV4 q (a .clock .0) st) _ (d .add-v4 .result) (e .came .given .1) (d .add-v4 .ensures .1 st (copy-holds _ (a .s .now) (sym (sound-long v)) (w .store .ensures) st h) g),
       ),
     )
 
@@ -167,7 +167,7 @@ returns-2 c =
       omega arith,
       (
         λ r. absurd (refused-full n r),
-        λ st h g. refused-left (addV4 q (a .clock) st) (d .add-v4 .result) n (e .came2 .given .1) (d .add-v4 .ensures .1 st (copy-holds _ (a .s .now) (sym (sound-long v)) (w .store .ensures) st h) g),
+        λ st h g. refused-left (addV4 q (a .clock .0) st) (d .add-v4 .result) n (e .came2 .given .1) (d .add-v4 .ensures .1 st (copy-holds _ (a .s .now) (sym (sound-long v)) (w .store .ensures) st h) g),
       ),
     )
 
@@ -187,7 +187,7 @@ returns-3 c =
       omega arith,
       (
         λ r. (refl, refl),
-        λ st h g. full-left (addV4 q (a .clock) st) (d .add-v4 .result) (c .enum-told .given .1) (d .add-v4 .ensures .1 st (copy-holds _ (a .s .now) (sym (sound-long v)) (w .store .ensures) st h) g),
+        λ st h g. full-left (addV4 q (a .clock .0) st) (d .add-v4 .result) (c .enum-told .given .1) (d .add-v4 .ensures .1 st (copy-holds _ (a .s .now) (sym (sound-long v)) (w .store .ensures) st h) g),
       ),
     )
 

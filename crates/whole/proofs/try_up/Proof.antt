@@ -55,7 +55,7 @@ store-requires-2 c κs =
     let e = c .before .before .before in
     let k = e .came .given .0 .0 in
     let few = rows-are 325 (d .up .result) k (e .came .given .1) (d .up .ensures .0) in
-    let x = tried-adds (up (a .clock) (v .state)) (d .up .result) k (e .came .given .1) (d .up .ensures .1 (v .state) (copy-holds _ (a .s .now) (sym (sound-long v)) (w .store .ensures) (v .state) (v .holds)) (v .fits)) in
+    let x = tried-adds (up (a .clock .0) (v .state)) (d .up .result) k (e .came .given .1) (d .up .ensures .1 (v .state) (copy-holds _ (a .s .now) (sym (sound-long v)) (w .store .ensures) (v .state) (v .holds)) (v .fits)) in
     omega (arith, x .long, sound-long v)
 
 -- src/lib.rt:86:23
@@ -69,7 +69,7 @@ mul-end c =
     let e = c .before .before .before .before .before .before in
     let k = e .came .given .0 .0 in
     let few = rows-are 325 (d .up .result) k (e .came .given .1) (d .up .ensures .0) in
-    let x = tried-adds (up (a .clock) (v .state)) (d .up .result) k (e .came .given .1) (d .up .ensures .1 (v .state) (copy-holds _ (a .s .now) (sym (sound-long v)) (w .store .ensures) (v .state) (v .holds)) (v .fits)) in
+    let x = tried-adds (up (a .clock .0) (v .state)) (d .up .result) k (e .came .given .1) (d .up .ensures .1 (v .state) (copy-holds _ (a .s .now) (sym (sound-long v)) (w .store .ensures) (v .state) (v .holds)) (v .fits)) in
     omega (arith, few)
 
 -- src/lib.rt:87:33
@@ -91,7 +91,7 @@ part-store-end c =
     let e = c .before .before .before .before .before .before .before .before in
     let k = e .came .given .0 .0 in
     let few = rows-are 325 (d .up .result) k (e .came .given .1) (d .up .ensures .0) in
-    let x = tried-adds (up (a .clock) (v .state)) (d .up .result) k (e .came .given .1) (d .up .ensures .1 (v .state) (copy-holds _ (a .s .now) (sym (sound-long v)) (w .store .ensures) (v .state) (v .holds)) (v .fits)) in
+    let x = tried-adds (up (a .clock .0) (v .state)) (d .up .result) k (e .came .given .1) (d .up .ensures .1 (v .state) (copy-holds _ (a .s .now) (sym (sound-long v)) (w .store .ensures) (v .state) (v .holds)) (v .fits)) in
     omega (arith, x .room, x .wide)
 
 -- src/lib.rt:87:13
@@ -105,7 +105,7 @@ store-requires-3 c κs =
     let e = c .before .before .before .before .before .before .before .before .before in
     let k = e .came .given .0 .0 in
     let few = rows-are 325 (d .up .result) k (e .came .given .1) (d .up .ensures .0) in
-    let x = tried-adds (up (a .clock) (v .state)) (d .up .result) k (e .came .given .1) (d .up .ensures .1 (v .state) (copy-holds _ (a .s .now) (sym (sound-long v)) (w .store .ensures) (v .state) (v .holds)) (v .fits)) in
+    let x = tried-adds (up (a .clock .0) (v .state)) (d .up .result) k (e .came .given .1) (d .up .ensures .1 (v .state) (copy-holds _ (a .s .now) (sym (sound-long v)) (w .store .ensures) (v .state) (v .holds)) (v .fits)) in
     omega (arith, take-room (34 * k) (d .up .last .1 .0), few, s .pre .1)
 
 -- src/lib.rt:90:23
@@ -131,12 +131,12 @@ returns c =
     let e = c .before .before .before .before .before .before .before .before .before .before .before .before in
     let k = e .came .given .0 .0 in
     let few = rows-are 325 (d .up .result) k (e .came .given .1) (d .up .ensures .0) in
-    let x = tried-adds (up (a .clock) (v .state)) (d .up .result) k (e .came .given .1) (d .up .ensures .1 (v .state) (copy-holds _ (a .s .now) (sym (sound-long v)) (w .store .ensures) (v .state) (v .holds)) (v .fits)) in (
+    let x = tried-adds (up (a .clock .0) (v .state)) (d .up .result) k (e .came .given .1) (d .up .ensures .1 (v .state) (copy-holds _ (a .s .now) (sym (sound-long v)) (w .store .ensures) (v .state) (v .holds)) (v .fits)) in (
       few,
       (
         λ r. absurd (told-full k r),
         λ st h g. adds-back (d .up .last .0) _ (d .up .last .1 .0) (a .s .now) (a .ev .now) k (x .long ∙ sym (sound-long v)) (omega (arith, few, s .pre .1)) (c .before .before .before .before .before .before .before .before .store2 .ensures) (c .before .before .store3 .ensures)
-            (up (a .clock) st) (d .up .result) (e .came .given .1) (d .up .ensures .1 st (copy-holds _ (a .s .now) (sym (sound-long v)) (w .store .ensures) st h) g),
+            (up (a .clock .0) st) (d .up .result) (e .came .given .1) (d .up .ensures .1 st (copy-holds _ (a .s .now) (sym (sound-long v)) (w .store .ensures) st h) g),
       ),
     )
 
@@ -155,7 +155,7 @@ returns-2 c =
       omega arith,
       (
         λ r. (refl, refl),
-        λ st h g. adds-left (up (a .clock) st) (d .up .result) (c .enum-told .given .1) (d .up .ensures .1 st (copy-holds _ (a .s .now) (sym (sound-long v)) (w .store .ensures) st h) g),
+        λ st h g. adds-left (up (a .clock .0) st) (d .up .result) (c .enum-told .given .1) (d .up .ensures .1 st (copy-holds _ (a .s .now) (sym (sound-long v)) (w .store .ensures) st h) g),
       ),
     )
 

@@ -61,7 +61,7 @@ returns c =
     let r = t .before .has-room in (
       d .up .ensures .0,
       (
-        λ e. absurd (adds-roomy (up (a .clock) (v .state)) (d .up .result) (up-certain (4 * (n .address-count .result + 2)) (r .result) (r .ensures) (t .if1 .taken) (v .state) (v .holds) (ap (λ (m : ℕ). 4 * (m + 2)) (n .address-count .ensures)) (a .clock)) (d .up .ensures .1 (v .state) (v .holds) (v .fits)) e),
+        λ e. absurd (adds-roomy (up (a .clock .0) (v .state)) (d .up .result) (up-certain (4 * (n .address-count .result + 2)) (r .result) (r .ensures) (t .if1 .taken) (v .state) (v .holds) (ap (λ (m : ℕ). 4 * (m + 2)) (n .address-count .ensures)) (a .clock .0)) (d .up .ensures .1 (v .state) (v .holds) (v .fits)) e),
         d .up .ensures .1,
       ),
     )
