@@ -13,7 +13,8 @@ use Rattle.definition.specs.Call as Call
 use Rattle.definition.specs.Step.{Result}
 use Rattle.endian.specs.Endian.{wordsOf}
 use Rattle.endian.specs.Laws.{length-wordsOf}
-use Rattle.ffi.specs.Answer.{replyOf, onBytes, stateFits, rowWords}
+use Rattle.reply.specs.Answer.{replyOf}
+use Rattle.ffi.specs.Answer.{onBytes, stateFits, rowWords}
 
 -- words as many as there is room for are all of it
 pub whole : (n : ℕ) (b l m : List ℕ) → length b ≡ 4 * n → length l ≡ n → m ≡ put 0 (wordsOf b) l → m ≡ wordsOf b

@@ -1,139 +1,21 @@
 // The calls as a host links them: `interface4w_*` on words, without a copy, and `interface4_*` on bytes, each word as four, the
 // lowest first. Each gives the definition's number and values.
-use address::LeftReply;
-use changes::Done;
-use dump::Listed;
-use interface::Chosen;
-use interface::Found;
-use interface::Local;
-use interface::Sourced;
+use reply::Reply;
 ghost use mathlib.Core.Path.{_≡_};
-ghost use Prim.Native.Nat.{_<_, _≤_, _*_};
+ghost use Prim.Native.Nat.{_≤_, _*_};
 ghost use lib.ListN.{length, take};
 ghost use Rattle.lists.specs.Lists.{flat, put};
 ghost use Rattle.definition.specs.Step.{upCall, downCall, addV4Call, delV4Call, expireCall, addRoute4Call, delRoute4Call, dump4Call, lookup4Call, lookup4FlowCall, local4Call, source4Call, sourceCall, select4Call, leftCall};
-ghost use Rattle.interface.specs.Answer.{foundBy, localBy, chosenBy, sourcedBy};
-ghost use Rattle.changes.specs.Answer.{doneBy};
-ghost use Rattle.dump.specs.Answer.{listedBy};
-ghost use Rattle.address.specs.Row.{replyOf as address·replyOf};
 ghost use Rattle.endian.specs.Endian.{wordsOf, bytesOf};
-ghost use Rattle.ffi.specs.Answer.{replyFrom, replyOf, checkCall, onBytes, stateFits, roomFits, rowWords, changeFits, requestFits, stateOn};
-
-// The number is 0, or the refusal's number and then the rest is 0.
-#[repr(C)]
-pub struct Reply {
-    pub number: u32,
-    pub present: u32,
-    pub value: u32,
-    pub second: u32,
-}
-
-fn refused(n: u32) -> Reply
-    ensures { λ r. ⌜ r ≡ record { number = n; present = 0; value = 0; second = 0 } ⌝ }
-{
-    Reply {
-        number: n,
-        present: 0,
-        value: 0,
-        second: 0,
-    }
-}
-
-fn valued(v: u32) -> Reply
-    ensures { λ r. ⌜ r ≡ record { number = 0; present = 0; value = v; second = 0 } ⌝ }
-{
-    Reply {
-        number: 0,
-        present: 0,
-        value: v,
-        second: 0,
-    }
-}
-
-fn found(f: Found) -> Reply
-    ensures { λ r. ⌜ r ≡ replyFrom (foundBy f) ⌝ }
-{
-    match f {
-        Found::Refused(n) => refused(n),
-        Found::Row => valued(0),
-    }
-}
-
-fn local(l: Local) -> Reply
-    ensures { λ r. ⌜ r ≡ replyFrom (localBy l) ⌝ }
-{
-    match l {
-        Local::Refused(n) => refused(n),
-        Local::Is(b) => valued(b as u32),
-    }
-}
-
-fn chosen(a: Chosen) -> Reply
-    ensures { λ r. ⌜ r ≡ replyFrom (chosenBy a) ⌝ }
-{
-    match a {
-        Chosen::Refused(n) => refused(n),
-        Chosen::Nothing => valued(0),
-        Chosen::Address(v) => Reply {
-            number: 0,
-            present: 1,
-            value: v,
-            second: 0,
-        },
-    }
-}
-
-fn sourced(a: Sourced) -> Reply
-    ensures { λ r. ⌜ r ≡ replyFrom (sourcedBy a) ⌝ }
-{
-    match a {
-        Sourced::Refused(n) => refused(n),
-        Sourced::Address(v) => valued(v),
-    }
-}
-
-fn remaining(l: LeftReply) -> Reply
-    ensures { λ r. ⌜ r ≡ replyOf (address·replyOf l) ⌝ }
-{
-    match l {
-        LeftReply::Refused(n) => refused(n),
-        LeftReply::Left { preferred, valid } => Reply {
-            number: 0,
-            present: 0,
-            value: preferred,
-            second: valid,
-        },
-    }
-}
-
-// A changing call tells of at most 384 events.
-fn done(d: Done) -> Reply
-    requires { ⌜ doneBy d .value < 4294967296 ⌝ }
-    ensures { λ r. ⌜ r ≡ replyFrom (doneBy d) ⌝ }
-{
-    match d {
-        Done::Refused(n) => refused(n),
-        Done::Rows(n) => valued(n as u32),
-    }
-}
-
-// A listing has at most 256 rows.
-fn listed(l: Listed) -> Reply
-    requires { ⌜ listedBy l .value < 4294967296 ⌝ }
-    ensures { λ r. ⌜ r ≡ replyFrom (listedBy l) ⌝ }
-{
-    match l {
-        Listed::Refused(n) => refused(n),
-        Listed::Rows(n) => valued(n as u32),
-    }
-}
+ghost use Rattle.reply.specs.Answer.{replyOf};
+ghost use Rattle.ffi.specs.Answer.{checkCall, onBytes, stateFits, roomFits, rowWords, changeFits, requestFits, stateOn};
 
 // A host may look at words before it lends them on: no number but 200 and 201.
 #[no_mangle]
 pub extern "C" fn interface4w_check(state: &[u32]) -> Reply
     ensures { λ r. ⌜ r ≡ replyOf (checkCall (now (state .entry)) .reply) ⌝ }
 {
-    refused(form::check(state))
+    reply::refused(form::check(state))
 }
 
 #[no_mangle]
@@ -141,7 +23,7 @@ pub extern "C" fn interface4w_lookup4(state: &[u32], row: &mut [u32], ip: u32) -
     ensures { λ r. ⌜ r ≡ replyOf (lookup4Call (length (now (row .entry))) ip (now (state .entry)) .reply) ⌝ }
     ensures { λ _. ⌜ now (row .exit) ≡ put 0 (flat (lookup4Call (length (now (row .entry))) ip (now (state .entry)) .reply .rows)) (now (row .entry)) ⌝ }
 {
-    found(interface::lookup4(state, row, ip))
+    reply::found(interface::lookup4(state, row, ip))
 }
 
 #[no_mangle]
@@ -155,28 +37,28 @@ pub extern "C" fn interface4w_lookup4_flow(
     ensures { λ r. ⌜ r ≡ replyOf (lookup4FlowCall (length (now (row .entry))) ip tos oif (now (state .entry)) .reply) ⌝ }
     ensures { λ _. ⌜ now (row .exit) ≡ put 0 (flat (lookup4FlowCall (length (now (row .entry))) ip tos oif (now (state .entry)) .reply .rows)) (now (row .entry)) ⌝ }
 {
-    found(interface::lookup4_flow(state, row, ip, tos, oif))
+    reply::found(interface::lookup4_flow(state, row, ip, tos, oif))
 }
 
 #[no_mangle]
 pub extern "C" fn interface4w_local4(state: &[u32], ip: u32) -> Reply
     ensures { λ r. ⌜ r ≡ replyOf (local4Call ip (now (state .entry)) .reply) ⌝ }
 {
-    local(interface::local4(state, ip))
+    reply::local(interface::local4(state, ip))
 }
 
 #[no_mangle]
 pub extern "C" fn interface4w_source4(state: &[u32], row: &[u32], ip: u32) -> Reply
     ensures { λ r. ⌜ r ≡ replyOf (source4Call (now (row .entry)) ip (now (state .entry)) .reply) ⌝ }
 {
-    chosen(interface::source4(state, row, ip))
+    reply::chosen(interface::source4(state, row, ip))
 }
 
 #[no_mangle]
 pub extern "C" fn interface4w_source(state: &[u32], ip: u32) -> Reply
     ensures { λ r. ⌜ r ≡ replyOf (sourceCall ip (now (state .entry)) .reply) ⌝ }
 {
-    sourced(interface::source(state, ip))
+    reply::sourced(interface::source(state, ip))
 }
 
 #[no_mangle]
@@ -188,14 +70,14 @@ pub extern "C" fn interface4w_select4(
 ) -> Reply
     ensures { λ r. ⌜ r ≡ replyOf (select4Call «dst_present» dst scope (now (state .entry)) .reply) ⌝ }
 {
-    chosen(interface::select4(state, dst_present, dst, scope))
+    reply::chosen(interface::select4(state, dst_present, dst, scope))
 }
 
 #[no_mangle]
 pub extern "C" fn interface4w_left(row: &[u32], clock: u64) -> Reply
     ensures { λ r. ⌜ r ≡ replyOf (leftCall (now (row .entry)) clock) ⌝ }
 {
-    remaining(address::left(row, clock))
+    reply::remaining(address::left(row, clock))
 }
 
 #[no_mangle]
@@ -204,7 +86,7 @@ pub extern "C" fn interface4w_down(state: &mut [u32], events: &mut [u32]) -> Rep
     ensures { λ _. ⌜ now (state .exit) ≡ downCall (length (now (events .entry))) (now (state .entry)) .words ⌝ }
     ensures { λ _. ⌜ now (events .exit) ≡ put 0 (flat (downCall (length (now (events .entry))) (now (state .entry)) .reply .rows)) (now (events .entry)) ⌝ }
 {
-    done(changes::down(state, events))
+    reply::done(changes::down(state, events))
 }
 
 #[no_mangle]
@@ -217,7 +99,7 @@ pub extern "C" fn interface4w_add_route4(
     ensures { λ _. ⌜ now (state .exit) ≡ addRoute4Call (now (request .entry)) (length (now (events .entry))) (now (state .entry)) .words ⌝ }
     ensures { λ _. ⌜ now (events .exit) ≡ put 0 (flat (addRoute4Call (now (request .entry)) (length (now (events .entry))) (now (state .entry)) .reply .rows)) (now (events .entry)) ⌝ }
 {
-    done(changes::add_route4(state, request, events))
+    reply::done(changes::add_route4(state, request, events))
 }
 
 #[no_mangle]
@@ -230,7 +112,7 @@ pub extern "C" fn interface4w_del_route4(
     ensures { λ _. ⌜ now (state .exit) ≡ delRoute4Call (now (request .entry)) (length (now (events .entry))) (now (state .entry)) .words ⌝ }
     ensures { λ _. ⌜ now (events .exit) ≡ put 0 (flat (delRoute4Call (now (request .entry)) (length (now (events .entry))) (now (state .entry)) .reply .rows)) (now (events .entry)) ⌝ }
 {
-    done(changes::del_route4(state, request, events))
+    reply::done(changes::del_route4(state, request, events))
 }
 
 #[no_mangle]
@@ -239,7 +121,7 @@ pub extern "C" fn interface4w_up(state: &mut [u32], events: &mut [u32], clock: u
     ensures { λ _. ⌜ now (state .exit) ≡ upCall (length (now (events .entry))) clock (now (state .entry)) .words ⌝ }
     ensures { λ _. ⌜ now (events .exit) ≡ put 0 (flat (upCall (length (now (events .entry))) clock (now (state .entry)) .reply .rows)) (now (events .entry)) ⌝ }
 {
-    done(additions::up(state, events, clock))
+    reply::done(additions::up(state, events, clock))
 }
 
 #[no_mangle]
@@ -253,7 +135,7 @@ pub extern "C" fn interface4w_add_v4(
     ensures { λ _. ⌜ now (state .exit) ≡ addV4Call (now (request .entry)) (length (now (events .entry))) clock (now (state .entry)) .words ⌝ }
     ensures { λ _. ⌜ now (events .exit) ≡ put 0 (flat (addV4Call (now (request .entry)) (length (now (events .entry))) clock (now (state .entry)) .reply .rows)) (now (events .entry)) ⌝ }
 {
-    done(additions::add_v4(state, request, events, clock))
+    reply::done(additions::add_v4(state, request, events, clock))
 }
 
 #[no_mangle]
@@ -266,7 +148,7 @@ pub extern "C" fn interface4w_del_v4(
     ensures { λ _. ⌜ now (state .exit) ≡ delV4Call (now (request .entry)) (length (now (events .entry))) (now (state .entry)) .words ⌝ }
     ensures { λ _. ⌜ now (events .exit) ≡ put 0 (flat (delV4Call (now (request .entry)) (length (now (events .entry))) (now (state .entry)) .reply .rows)) (now (events .entry)) ⌝ }
 {
-    done(changes::del_v4(state, request, events))
+    reply::done(changes::del_v4(state, request, events))
 }
 
 #[no_mangle]
@@ -275,7 +157,7 @@ pub extern "C" fn interface4w_expire(state: &mut [u32], events: &mut [u32], cloc
     ensures { λ _. ⌜ now (state .exit) ≡ expireCall (length (now (events .entry))) clock (now (state .entry)) .words ⌝ }
     ensures { λ _. ⌜ now (events .exit) ≡ put 0 (flat (expireCall (length (now (events .entry))) clock (now (state .entry)) .reply .rows)) (now (events .entry)) ⌝ }
 {
-    done(changes::expire(state, events, clock))
+    reply::done(changes::expire(state, events, clock))
 }
 
 #[no_mangle]
@@ -283,7 +165,7 @@ pub extern "C" fn interface4w_dump4(state: &[u32], listing: &mut [u32]) -> Reply
     ensures { λ r. ⌜ r ≡ replyOf (dump4Call (length (now (listing .entry))) (now (state .entry)) .reply) ⌝ }
     ensures { λ _. ⌜ now (listing .exit) ≡ put 0 (flat (dump4Call (length (now (listing .entry))) (now (state .entry)) .reply .rows)) (now (listing .entry)) ⌝ }
 {
-    listed(dump::dump4(state, listing))
+    reply::listed(dump::dump4(state, listing))
 }
 
 #[no_mangle]
@@ -291,7 +173,7 @@ pub extern "C" fn interface4_check(state: &[u8]) -> Reply
     ensures { λ r. ⌜ r ≡ replyOf (onBytes (stateFits (now (state .entry))) (checkCall (wordsOf (now (state .entry))) .reply)) ⌝ }
 {
     if state.len() != 38028 {
-        return refused(200);
+        return reply::refused(200);
     }
     let mut s = [0u32; 9507];
     endian::words_of(state, &mut s);
@@ -303,7 +185,7 @@ pub extern "C" fn interface4_local4(state: &[u8], ip: u32) -> Reply
     ensures { λ r. ⌜ r ≡ replyOf (onBytes (stateFits (now (state .entry))) (local4Call ip (wordsOf (now (state .entry))) .reply)) ⌝ }
 {
     if state.len() != 38028 {
-        return refused(200);
+        return reply::refused(200);
     }
     let mut s = [0u32; 9507];
     endian::words_of(state, &mut s);
@@ -315,7 +197,7 @@ pub extern "C" fn interface4_source(state: &[u8], ip: u32) -> Reply
     ensures { λ r. ⌜ r ≡ replyOf (onBytes (stateFits (now (state .entry))) (sourceCall ip (wordsOf (now (state .entry))) .reply)) ⌝ }
 {
     if state.len() != 38028 {
-        return refused(200);
+        return reply::refused(200);
     }
     let mut s = [0u32; 9507];
     endian::words_of(state, &mut s);
@@ -327,7 +209,7 @@ pub extern "C" fn interface4_select4(state: &[u8], dst_present: u32, dst: u32, s
     ensures { λ r. ⌜ r ≡ replyOf (onBytes (stateFits (now (state .entry))) (select4Call «dst_present» dst scope (wordsOf (now (state .entry))) .reply)) ⌝ }
 {
     if state.len() != 38028 {
-        return refused(200);
+        return reply::refused(200);
     }
     let mut s = [0u32; 9507];
     endian::words_of(state, &mut s);
@@ -352,7 +234,7 @@ pub extern "C" fn interface4_source4(state: &[u8], row: &[u8], ip: u32) -> Reply
     ensures { λ r. ⌜ r ≡ replyOf (onBytes (stateFits (now (state .entry))) (source4Call (rowWords 128 (now (row .entry))) ip (wordsOf (now (state .entry))) .reply)) ⌝ }
 {
     if state.len() != 38028 {
-        return refused(200);
+        return reply::refused(200);
     }
     let mut s = [0u32; 9507];
     endian::words_of(state, &mut s);
@@ -391,7 +273,7 @@ pub extern "C" fn interface4_down(state: &mut [u8], events: &mut [u8]) -> Reply
     ensures { λ _. ⌜ now (events .exit) ≡ put 0 (bytesOf (flat (onBytes (changeFits (now (state .entry)) (now (events .entry))) (downCall 13056 (wordsOf (now (state .entry))) .reply) .rows))) (now (events .entry)) ⌝ }
 {
     if !((state.len() == 38028) & (52224 <= events.len())) {
-        return refused(200);
+        return reply::refused(200);
     }
     let mut s = [0u32; 9507];
     endian::words_of(state, &mut s);
@@ -412,7 +294,7 @@ pub extern "C" fn interface4_add_route4(
     ensures { λ _. ⌜ now (events .exit) ≡ put 0 (bytesOf (flat (onBytes (requestFits 136 (now (request .entry)) (now (state .entry)) (now (events .entry))) (addRoute4Call (wordsOf (now (request .entry))) 13056 (wordsOf (now (state .entry))) .reply) .rows))) (now (events .entry)) ⌝ }
 {
     if !((request.len() == 136) & ((state.len() == 38028) & (52224 <= events.len()))) {
-        return refused(200);
+        return reply::refused(200);
     }
     let mut q = [0u32; 34];
     endian::words_of(request, &mut q);
@@ -435,7 +317,7 @@ pub extern "C" fn interface4_del_route4(
     ensures { λ _. ⌜ now (events .exit) ≡ put 0 (bytesOf (flat (onBytes (requestFits 196 (now (request .entry)) (now (state .entry)) (now (events .entry))) (delRoute4Call (wordsOf (now (request .entry))) 13056 (wordsOf (now (state .entry))) .reply) .rows))) (now (events .entry)) ⌝ }
 {
     if !((request.len() == 196) & ((state.len() == 38028) & (52224 <= events.len()))) {
-        return refused(200);
+        return reply::refused(200);
     }
     let mut q = [0u32; 49];
     endian::words_of(request, &mut q);
@@ -454,7 +336,7 @@ pub extern "C" fn interface4_up(state: &mut [u8], events: &mut [u8], clock: u64)
     ensures { λ _. ⌜ now (events .exit) ≡ put 0 (bytesOf (flat (onBytes (changeFits (now (state .entry)) (now (events .entry))) (upCall 13056 clock (wordsOf (now (state .entry))) .reply) .rows))) (now (events .entry)) ⌝ }
 {
     if !((state.len() == 38028) & (52224 <= events.len())) {
-        return refused(200);
+        return reply::refused(200);
     }
     let mut s = [0u32; 9507];
     endian::words_of(state, &mut s);
@@ -476,7 +358,7 @@ pub extern "C" fn interface4_add_v4(
     ensures { λ _. ⌜ now (events .exit) ≡ put 0 (bytesOf (flat (onBytes (requestFits 72 (now (request .entry)) (now (state .entry)) (now (events .entry))) (addV4Call (wordsOf (now (request .entry))) 13056 clock (wordsOf (now (state .entry))) .reply) .rows))) (now (events .entry)) ⌝ }
 {
     if !((request.len() == 72) & ((state.len() == 38028) & (52224 <= events.len()))) {
-        return refused(200);
+        return reply::refused(200);
     }
     let mut q = [0u32; 18];
     endian::words_of(request, &mut q);
@@ -495,7 +377,7 @@ pub extern "C" fn interface4_del_v4(state: &mut [u8], request: &[u8], events: &m
     ensures { λ _. ⌜ now (events .exit) ≡ put 0 (bytesOf (flat (onBytes (requestFits 44 (now (request .entry)) (now (state .entry)) (now (events .entry))) (delV4Call (wordsOf (now (request .entry))) 13056 (wordsOf (now (state .entry))) .reply) .rows))) (now (events .entry)) ⌝ }
 {
     if !((request.len() == 44) & ((state.len() == 38028) & (52224 <= events.len()))) {
-        return refused(200);
+        return reply::refused(200);
     }
     let mut q = [0u32; 11];
     endian::words_of(request, &mut q);
@@ -514,7 +396,7 @@ pub extern "C" fn interface4_expire(state: &mut [u8], events: &mut [u8], clock: 
     ensures { λ _. ⌜ now (events .exit) ≡ put 0 (bytesOf (flat (onBytes (changeFits (now (state .entry)) (now (events .entry))) (expireCall 13056 clock (wordsOf (now (state .entry))) .reply) .rows))) (now (events .entry)) ⌝ }
 {
     if !((state.len() == 38028) & (52224 <= events.len())) {
-        return refused(200);
+        return reply::refused(200);
     }
     let mut s = [0u32; 9507];
     endian::words_of(state, &mut s);
@@ -530,7 +412,7 @@ pub extern "C" fn interface4_dump4(state: &[u8], listing: &mut [u8]) -> Reply
     ensures { λ _. ⌜ now (listing .exit) ≡ put 0 (bytesOf (flat (onBytes (roomFits 32768 (now (state .entry)) (now (listing .entry))) (dump4Call 8192 (wordsOf (now (state .entry))) .reply) .rows))) (now (listing .entry)) ⌝ }
 {
     if !((state.len() == 38028) & (32768 <= listing.len())) {
-        return refused(200);
+        return reply::refused(200);
     }
     let mut s = [0u32; 9507];
     endian::words_of(state, &mut s);
@@ -546,7 +428,7 @@ pub extern "C" fn interface4_lookup4(state: &[u8], row: &mut [u8], ip: u32) -> R
     ensures { λ _. ⌜ now (row .exit) ≡ put 0 (bytesOf (flat (onBytes (roomFits 128 (now (state .entry)) (now (row .entry))) (lookup4Call 32 ip (wordsOf (now (state .entry))) .reply) .rows))) (now (row .entry)) ⌝ }
 {
     if !((state.len() == 38028) & (128 <= row.len())) {
-        return refused(200);
+        return reply::refused(200);
     }
     let mut s = [0u32; 9507];
     endian::words_of(state, &mut s);
@@ -568,7 +450,7 @@ pub extern "C" fn interface4_lookup4_flow(
     ensures { λ _. ⌜ now (row .exit) ≡ put 0 (bytesOf (flat (onBytes (roomFits 128 (now (state .entry)) (now (row .entry))) (lookup4FlowCall 32 ip tos oif (wordsOf (now (state .entry))) .reply) .rows))) (now (row .entry)) ⌝ }
 {
     if !((state.len() == 38028) & (128 <= row.len())) {
-        return refused(200);
+        return reply::refused(200);
     }
     let mut s = [0u32; 9507];
     endian::words_of(state, &mut s);

@@ -1,37 +1,29 @@
+-- `ffi::give_rows` meets its contract.
+-- Assumes nothing.
 use Prim.Native.Nat.{_*_}
 use Rattle.ffi.specs.Changed.{part-back}
 use borrow.Author.Needs.{needs}
 use Rattle.ffi.proofs.give_rows.Statement.{statement}
 use Rattle.ffi.proofs.give_rows.Tie as tie
-use Rattle.ffi.proofs.give_rows.Reads as reads
-use Rattle.ffi.proofs.give_rows.Lts as lts
-use Rattle.endian.proofs.bytes_of.Reads as bytes-of-reads
 
--- src/lib.rt:352:15
 mul-end : tie.Need-mul-end
 mul-end c = search needs
 
--- src/lib.rt:353:22
 sub-bytes-of : tie.Need-sub-bytes-of
 sub-bytes-of c = search needs
 
--- src/lib.rt:353:22
 part-bytes-of-start : tie.Need-part-bytes-of-start
 part-bytes-of-start c = search needs
 
--- src/lib.rt:353:22
 part-bytes-of-end : tie.Need-part-bytes-of-end
 part-bytes-of-end c = search needs
 
--- src/lib.rt:353:5
 bytes-of-requires : tie.Need-bytes-of-requires
 bytes-of-requires c κs = search needs
 
--- src/lib.rt:348:1
 same-length : tie.Need-same-length
 same-length c = search needs
 
--- src/lib.rt:348:1
 returns : tie.Need-returns
 returns c =
     let q = c .before .before in

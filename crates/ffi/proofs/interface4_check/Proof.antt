@@ -1,42 +1,32 @@
+-- `ffi::interface4_check` meets its contract.
+-- Assumes nothing.
 use mathlib.Core.Path.{refl, _∙_}
 use Rattle.ffi.specs.Bytes.{whole, bytes-no, bytes-yes}
 use Rattle.ffi.specs.Answer.{checkCall}
 use borrow.Author.Needs.{needs}
 use Rattle.ffi.proofs.interface4_check.Statement.{statement}
 use Rattle.ffi.proofs.interface4_check.Tie as tie
-use Rattle.ffi.proofs.interface4_check.Reads as reads
-use Rattle.ffi.proofs.interface4_check.Lts as lts
-use Rattle.endian.proofs.words_of.Reads as words-of-reads
-use Rattle.ffi.proofs.interface4w_check.Reads as interface4w-check-reads
-use Rattle.ffi.proofs.refused.Reads as refused-reads
 
--- src/lib.rt:220:9
 refused-requires : tie.Need-refused-requires
 refused-requires c κs = search needs
 
--- src/lib.rt:220:9
 returns : tie.Need-returns
 returns c =
     let a = c .before .before .before .args in
     c .refused .ensures ∙ bytes-no (a .state .now) checkCall (c .before .if1 .taken)
 
--- src/lib.rt:223:29
 slice-aggregate-words-of : tie.Need-slice-aggregate-words-of
 slice-aggregate-words-of c = search needs
 
--- src/lib.rt:223:5
 words-of-requires : tie.Need-words-of-requires
 words-of-requires c κs = search needs
 
--- src/lib.rt:224:24
 slice-aggregate-interface4w-check : tie.Need-slice-aggregate-interface4w-check
 slice-aggregate-interface4w-check c = search needs
 
--- src/lib.rt:224:5
 interface4w-check-requires : tie.Need-interface4w-check-requires
 interface4w-check-requires c κs = search needs
 
--- src/lib.rt:215:1
 returns-2 : tie.Need-returns-2
 returns-2 c =
     let k = c .before .before .before in

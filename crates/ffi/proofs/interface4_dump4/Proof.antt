@@ -1,3 +1,5 @@
+-- `ffi::interface4_dump4` meets its contract.
+-- Assumes nothing.
 use mathlib.Core.Path.{refl}
 use Prim.Native.Nat.{ℕ, _*_}
 use mathlib.Core.List.{List}
@@ -7,34 +9,24 @@ use Rattle.definition.specs.Step.{dump4Call}
 use Rattle.endian.specs.Endian.{wordsOf}
 use Rattle.ffi.specs.Answer.{roomFits}
 use Rattle.ffi.specs.Bytes.{whole}
-use Rattle.ffi.specs.Rows.{dump4-lists}
+use Rattle.reply.specs.Listing.{dump4-lists}
 use Rattle.ffi.specs.Changed.{room, wrote-no, wrote-yes, wrote-on, listing-words}
 use borrow.Author.Needs.{needs}
 use Rattle.ffi.proofs.interface4_dump4.Statement.{statement}
 use Rattle.ffi.proofs.interface4_dump4.Tie as tie
-use Rattle.ffi.proofs.interface4_dump4.Reads as reads
-use Rattle.ffi.proofs.interface4_dump4.Lts as lts
-use Rattle.endian.proofs.words_of.Reads as words-of-reads
-use Rattle.ffi.proofs.give_rows.Reads as give-rows-reads
-use Rattle.ffi.proofs.interface4w_dump4.Reads as interface4w-dump4-reads
-use Rattle.ffi.proofs.refused.Reads as refused-reads
 
--- src/lib.rt:513:9
 refused-requires : tie.Need-refused-requires
 refused-requires c κs = search needs
 
--- src/lib.rt:513:9
 returns : tie.Need-returns
 returns c =
     let a = c .before .before .before .before .args in
     let x = wrote-no (roomFits 32768 (a .state .now) (a .listing .now)) (a .listing .now) (dump4Call 8192 (wordsOf (a .state .now)) .reply) (c .refused .result) (not-true _ (c .before .if1 .taken)) (c .refused .ensures) in
     (x .answer, x .rows)
 
--- src/lib.rt:516:29
 slice-aggregate-words-of : tie.Need-slice-aggregate-words-of
 slice-aggregate-words-of c = search needs
 
--- src/lib.rt:516:5
 words-of-requires : tie.Need-words-of-requires
 words-of-requires c κs =
     let e = c .before in
@@ -42,23 +34,18 @@ words-of-requires c κs =
     let r = room 32768 (a .state .now) (a .listing .now) (not-false _ (e .if1 .left)) in
     omega (arith, r .0)
 
--- src/lib.rt:518:36
 slice-aggregate-interface4w-dump4 : tie.Need-slice-aggregate-interface4w-dump4
 slice-aggregate-interface4w-dump4 c = search needs
 
--- src/lib.rt:518:40
 slice-aggregate-interface4w-dump4-2 : tie.Need-slice-aggregate-interface4w-dump4-2
 slice-aggregate-interface4w-dump4-2 c = search needs
 
--- src/lib.rt:518:9
 interface4w-dump4-requires : tie.Need-interface4w-dump4-requires
 interface4w-dump4-requires c κs = search needs
 
--- src/lib.rt:519:15
 slice-aggregate-give-rows : tie.Need-slice-aggregate-give-rows
 slice-aggregate-give-rows c = search needs
 
--- src/lib.rt:519:5
 give-rows-requires : tie.Need-give-rows-requires
 give-rows-requires c κs =
     let d = c .before .before .before in
@@ -69,11 +56,9 @@ give-rows-requires c κs =
     let m = listing-words (d .interface4w-dump4 .result) _ (d .interface4w-dump4 .ensures .0) (dump4-lists _ 8192) in
     (m .0, omega (arith, m .0), omega (arith, m .0, r .1))
 
--- src/lib.rt:507:1
 same-length : tie.Need-same-length
 same-length c = search needs
 
--- src/lib.rt:507:1
 returns-2 : tie.Need-returns-2
 returns-2 c =
     let g = c .before .before in

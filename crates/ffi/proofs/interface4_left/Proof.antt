@@ -1,57 +1,45 @@
+-- `ffi::interface4_left` meets its contract.
+-- Assumes nothing.
 use mathlib.Core.Path.{refl, ap, _∙_}
 use mathlib.Core.List.{List}
 use Prim.Native.Nat.{ℕ}
 use Rattle.ffi.specs.Bytes.{whole, row-no, row-yes}
-use Rattle.ffi.specs.Answer.{replyOf}
+use Rattle.reply.specs.Answer.{replyOf}
 use Rattle.definition.specs.Step.{leftCall}
 use borrow.Author.Needs.{needs}
 use Rattle.ffi.proofs.interface4_left.Statement.{statement}
 use Rattle.ffi.proofs.interface4_left.Tie as tie
-use Rattle.ffi.proofs.interface4_left.Reads as reads
-use Rattle.ffi.proofs.interface4_left.Lts as lts
-use Rattle.endian.proofs.words_of.Reads as words-of-reads
-use Rattle.ffi.proofs.interface4w_left.Reads as interface4w-left-reads
 
--- src/lib.rt:258:33
 sub-interface4w-left : tie.Need-sub-interface4w-left
 sub-interface4w-left c = search needs
 
--- src/lib.rt:258:33
 part-interface4w-left-start : tie.Need-part-interface4w-left-start
 part-interface4w-left-start c = search needs
 
--- src/lib.rt:258:33
 part-interface4w-left-end : tie.Need-part-interface4w-left-end
 part-interface4w-left-end c = search needs
 
--- src/lib.rt:258:9
 interface4w-left-requires : tie.Need-interface4w-left-requires
 interface4w-left-requires c κs = search needs
 
--- src/lib.rt:258:9
 returns : tie.Need-returns
 returns c =
     let t = c .before .before .before in
     let a = t .before .before .args in
     c .interface4w-left .ensures ∙ ap (λ (x : List ℕ). replyOf (leftCall x (a .clock))) (row-no 80 (a .row .now) (t .if1 .taken))
 
--- src/lib.rt:260:27
 slice-aggregate-words-of : tie.Need-slice-aggregate-words-of
 slice-aggregate-words-of c = search needs
 
--- src/lib.rt:260:5
 words-of-requires : tie.Need-words-of-requires
 words-of-requires c κs = search needs
 
--- src/lib.rt:261:22
 slice-aggregate-interface4w-left : tie.Need-slice-aggregate-interface4w-left
 slice-aggregate-interface4w-left c = search needs
 
--- src/lib.rt:261:5
 interface4w-left-requires-2 : tie.Need-interface4w-left-requires-2
 interface4w-left-requires-2 c κs = search needs
 
--- src/lib.rt:252:1
 returns-2 : tie.Need-returns-2
 returns-2 c =
     let k = c .before .before .before in

@@ -1,42 +1,32 @@
+-- `ffi::interface4_local4` meets its contract.
+-- Assumes nothing.
 use mathlib.Core.Path.{refl, _∙_}
 use Rattle.ffi.specs.Bytes.{whole, bytes-no, bytes-yes}
 use Rattle.definition.specs.Step.{local4Call}
 use borrow.Author.Needs.{needs}
 use Rattle.ffi.proofs.interface4_local4.Statement.{statement}
 use Rattle.ffi.proofs.interface4_local4.Tie as tie
-use Rattle.ffi.proofs.interface4_local4.Reads as reads
-use Rattle.ffi.proofs.interface4_local4.Lts as lts
-use Rattle.endian.proofs.words_of.Reads as words-of-reads
-use Rattle.ffi.proofs.interface4w_local4.Reads as interface4w-local4-reads
-use Rattle.ffi.proofs.refused.Reads as refused-reads
 
--- src/lib.rt:220:9
 refused-requires : tie.Need-refused-requires
 refused-requires c κs = search needs
 
--- src/lib.rt:220:9
 returns : tie.Need-returns
 returns c =
     let a = c .before .before .before .args in
     c .refused .ensures ∙ bytes-no (a .state .now) (local4Call (a .ip)) (c .before .if1 .taken)
 
--- src/lib.rt:223:29
 slice-aggregate-words-of : tie.Need-slice-aggregate-words-of
 slice-aggregate-words-of c = search needs
 
--- src/lib.rt:223:5
 words-of-requires : tie.Need-words-of-requires
 words-of-requires c κs = search needs
 
--- src/lib.rt:224:24
 slice-aggregate-interface4w-local4 : tie.Need-slice-aggregate-interface4w-local4
 slice-aggregate-interface4w-local4 c = search needs
 
--- src/lib.rt:224:5
 interface4w-local4-requires : tie.Need-interface4w-local4-requires
 interface4w-local4-requires c κs = search needs
 
--- src/lib.rt:215:1
 returns-2 : tie.Need-returns-2
 returns-2 c =
     let k = c .before .before .before in

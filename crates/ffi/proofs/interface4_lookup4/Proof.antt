@@ -1,3 +1,5 @@
+-- `ffi::interface4_lookup4` meets its contract.
+-- Assumes nothing.
 use mathlib.Core.Path.{refl}
 use Prim.Native.Nat.{ℕ, _*_}
 use mathlib.Core.List.{List}
@@ -14,29 +16,19 @@ use Rattle.ffi.specs.Changed.{room, wrote-no, wrote-yes, wrote-on, row-w
 use borrow.Author.Needs.{needs}
 use Rattle.ffi.proofs.interface4_lookup4.Statement.{statement}
 use Rattle.ffi.proofs.interface4_lookup4.Tie as tie
-use Rattle.ffi.proofs.interface4_lookup4.Reads as reads
-use Rattle.ffi.proofs.interface4_lookup4.Lts as lts
-use Rattle.endian.proofs.words_of.Reads as words-of-reads
-use Rattle.ffi.proofs.give_rows.Reads as give-rows-reads
-use Rattle.ffi.proofs.interface4w_lookup4.Reads as interface4w-lookup4-reads
-use Rattle.ffi.proofs.refused.Reads as refused-reads
 
--- src/lib.rt:529:9
 refused-requires : tie.Need-refused-requires
 refused-requires c κs = search needs
 
--- src/lib.rt:529:9
 returns : tie.Need-returns
 returns c =
     let a = c .before .before .before .before .args in
     let x = wrote-no (roomFits 128 (a .state .now) (a .row .now)) (a .row .now) (lookup4Call 32 (a .ip) (wordsOf (a .state .now)) .reply) (c .refused .result) (not-true _ (c .before .if1 .taken)) (c .refused .ensures) in
     (x .answer, x .rows)
 
--- src/lib.rt:532:29
 slice-aggregate-words-of : tie.Need-slice-aggregate-words-of
 slice-aggregate-words-of c = search needs
 
--- src/lib.rt:532:5
 words-of-requires : tie.Need-words-of-requires
 words-of-requires c κs =
     let e = c .before in
@@ -44,27 +36,21 @@ words-of-requires c κs =
     let r = room 128 (a .state .now) (a .row .now) (not-false _ (e .if1 .left)) in
     omega (arith, r .0)
 
--- src/lib.rt:534:38
 slice-aggregate-interface4w-lookup4 : tie.Need-slice-aggregate-interface4w-lookup4
 slice-aggregate-interface4w-lookup4 c = search needs
 
--- src/lib.rt:534:42
 slice-aggregate-interface4w-lookup4-2 : tie.Need-slice-aggregate-interface4w-lookup4-2
 slice-aggregate-interface4w-lookup4-2 c = search needs
 
--- src/lib.rt:534:9
 interface4w-lookup4-requires : tie.Need-interface4w-lookup4-requires
 interface4w-lookup4-requires c κs = search needs
 
--- src/lib.rt:535:15
 slice-aggregate-give-rows : tie.Need-slice-aggregate-give-rows
 slice-aggregate-give-rows c = search needs
 
--- src/lib.rt:535:19
 cast-give-rows : tie.Need-cast-give-rows
 cast-give-rows c = search needs
 
--- src/lib.rt:535:5
 give-rows-requires : tie.Need-give-rows-requires
 give-rows-requires c κs =
     let d = c .before .before .before .before in
@@ -75,11 +61,9 @@ give-rows-requires c κs =
     let m = bit (eqb (d .interface4w-lookup4 .result .number) 0) in
     (omega (arith, m), omega (arith, m), omega (arith, m, r .1))
 
--- src/lib.rt:523:1
 same-length : tie.Need-same-length
 same-length c = search needs
 
--- src/lib.rt:523:1
 returns-2 : tie.Need-returns-2
 returns-2 c =
     let g = c .before .before in

@@ -1,42 +1,32 @@
+-- `ffi::interface4_select4` meets its contract.
+-- Assumes nothing.
 use mathlib.Core.Path.{refl, _∙_}
 use Rattle.ffi.specs.Bytes.{whole, bytes-no, bytes-yes}
 use Rattle.definition.specs.Step.{select4Call}
 use borrow.Author.Needs.{needs}
 use Rattle.ffi.proofs.interface4_select4.Statement.{statement}
 use Rattle.ffi.proofs.interface4_select4.Tie as tie
-use Rattle.ffi.proofs.interface4_select4.Reads as reads
-use Rattle.ffi.proofs.interface4_select4.Lts as lts
-use Rattle.endian.proofs.words_of.Reads as words-of-reads
-use Rattle.ffi.proofs.interface4w_select4.Reads as interface4w-select4-reads
-use Rattle.ffi.proofs.refused.Reads as refused-reads
 
--- src/lib.rt:244:9
 refused-requires : tie.Need-refused-requires
 refused-requires c κs = search needs
 
--- src/lib.rt:244:9
 returns : tie.Need-returns
 returns c =
     let a = c .before .before .before .args in
     c .refused .ensures ∙ bytes-no (a .state .now) (select4Call (a .dst-present) (a .dst) (a .scope)) (c .before .if1 .taken)
 
--- src/lib.rt:247:29
 slice-aggregate-words-of : tie.Need-slice-aggregate-words-of
 slice-aggregate-words-of c = search needs
 
--- src/lib.rt:247:5
 words-of-requires : tie.Need-words-of-requires
 words-of-requires c κs = search needs
 
--- src/lib.rt:248:25
 slice-aggregate-interface4w-select4 : tie.Need-slice-aggregate-interface4w-select4
 slice-aggregate-interface4w-select4 c = search needs
 
--- src/lib.rt:248:5
 interface4w-select4-requires : tie.Need-interface4w-select4-requires
 interface4w-select4-requires c κs = search needs
 
--- src/lib.rt:239:1
 returns-2 : tie.Need-returns-2
 returns-2 c =
     let k = c .before .before .before in

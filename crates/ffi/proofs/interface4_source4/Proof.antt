@@ -1,58 +1,46 @@
+-- `ffi::interface4_source4` meets its contract.
+-- Assumes nothing.
 use mathlib.Core.Path.{refl, ap, _∙_}
 use mathlib.Core.List.{List, []}
 use Prim.Native.Nat.{ℕ}
 use Rattle.endian.specs.Endian.{wordsOf}
 use Rattle.ffi.specs.Bytes.{whole, bytes-no, bytes-yes, row-no, row-yes}
-use Rattle.ffi.specs.Answer.{replyOf, onBytes, stateFits, rowWords}
+use Rattle.reply.specs.Answer.{replyOf}
+use Rattle.ffi.specs.Answer.{onBytes, stateFits, rowWords}
 use Rattle.definition.specs.Step.{source4Call}
 use borrow.Author.Needs.{needs}
 use Rattle.ffi.proofs.interface4_source4.Statement.{statement}
 use Rattle.ffi.proofs.interface4_source4.Tie as tie
-use Rattle.ffi.proofs.interface4_source4.Reads as reads
-use Rattle.ffi.proofs.interface4_source4.Lts as lts
-use Rattle.endian.proofs.words_of.Reads as words-of-reads
-use Rattle.ffi.proofs.interface4w_source4.Reads as interface4w-source4-reads
-use Rattle.ffi.proofs.refused.Reads as refused-reads
 
--- src/lib.rt:269:9
 refused-requires : tie.Need-refused-requires
 refused-requires c κs = search needs
 
--- src/lib.rt:269:9
 returns : tie.Need-returns
 returns c =
     let a = c .before .before .before .before .args in
     c .refused .ensures ∙ bytes-no (a .state .now) (source4Call (rowWords 128 (a .row .now)) (a .ip)) (c .before .if1 .taken)
 
--- src/lib.rt:272:29
 slice-aggregate-words-of : tie.Need-slice-aggregate-words-of
 slice-aggregate-words-of c = search needs
 
--- src/lib.rt:272:5
 words-of-requires : tie.Need-words-of-requires
 words-of-requires c κs = search needs
 
--- src/lib.rt:275:36
 slice-aggregate-interface4w-source4 : tie.Need-slice-aggregate-interface4w-source4
 slice-aggregate-interface4w-source4 c = search needs
 
--- src/lib.rt:275:40
 sub-interface4w-source4 : tie.Need-sub-interface4w-source4
 sub-interface4w-source4 c = search needs
 
--- src/lib.rt:275:40
 part-interface4w-source4-start : tie.Need-part-interface4w-source4-start
 part-interface4w-source4-start c = search needs
 
--- src/lib.rt:275:40
 part-interface4w-source4-end : tie.Need-part-interface4w-source4-end
 part-interface4w-source4-end c = search needs
 
--- src/lib.rt:275:9
 interface4w-source4-requires : tie.Need-interface4w-source4-requires
 interface4w-source4-requires c κs = search needs
 
--- src/lib.rt:275:9
 returns-2 : tie.Need-returns-2
 returns-2 c =
     let t = c .before .before .before .before in
@@ -62,27 +50,21 @@ returns-2 c =
     let s = whole 9507 (a .state .now) _ _ (e .if1 .left) refl (k .words-of .ensures) in
     c .interface4w-source4 .ensures ∙ bytes-yes (a .state .now) (source4Call [] (a .ip)) _ (e .if1 .left) s ∙ ap (λ (x : List ℕ). replyOf (onBytes (stateFits (a .state .now)) (source4Call x (a .ip) (wordsOf (a .state .now)) .reply))) (row-no 128 (a .row .now) (t .if2 .taken))
 
--- src/lib.rt:277:27
 slice-aggregate-words-of-2 : tie.Need-slice-aggregate-words-of-2
 slice-aggregate-words-of-2 c = search needs
 
--- src/lib.rt:277:5
 words-of-requires-2 : tie.Need-words-of-requires-2
 words-of-requires-2 c κs = search needs
 
--- src/lib.rt:278:25
 slice-aggregate-interface4w-source4-2 : tie.Need-slice-aggregate-interface4w-source4-2
 slice-aggregate-interface4w-source4-2 c = search needs
 
--- src/lib.rt:278:29
 slice-aggregate-interface4w-source4-3 : tie.Need-slice-aggregate-interface4w-source4-3
 slice-aggregate-interface4w-source4-3 c = search needs
 
--- src/lib.rt:278:5
 interface4w-source4-requires-2 : tie.Need-interface4w-source4-requires-2
 interface4w-source4-requires-2 c κs = search needs
 
--- src/lib.rt:264:1
 returns-3 : tie.Need-returns-3
 returns-3 c =
     let j = c .before .before .before .before in

@@ -1,37 +1,30 @@
+-- `ffi::interface4w_down` meets its contract.
+-- Assumes nothing.
 use Rattle.definition.specs.Step.{downCall}
 use mathlib.Core.Path.{ap, _∙_}
-use Rattle.ffi.specs.Answer.{replyFrom}
+use Rattle.reply.specs.Answer.{replyFrom}
 use Rattle.changes.specs.Answer.{doneBy}
-use Rattle.ffi.specs.Told.{down-told, small}
+use Rattle.reply.specs.Told.{down-told, small}
 use lib.ListN.{length}
 use borrow.Author.Needs.{needs}
 use Rattle.ffi.proofs.interface4w_down.Statement.{statement}
 use Rattle.ffi.proofs.interface4w_down.Tie as tie
-use Rattle.ffi.proofs.interface4w_down.Reads as reads
-use Rattle.ffi.proofs.interface4w_down.Lts as lts
-use Rattle.changes.proofs.down.Reads as down-reads
-use Rattle.ffi.proofs.done.Reads as done-reads
 
--- src/lib.rt:173:10
 down-requires : tie.Need-down-requires
 down-requires c κs = search needs
 
--- src/lib.rt:173:5
 done-requires : tie.Need-done-requires
 done-requires c κs =
     let k = c .before .before .before .before in
     let a = k .before .before .before .before .before .args in
     small (k .down .result) (downCall (length (a .events .now)) (a .state .now) .reply) (k .down .ensures .0) (down-told (a .state .now) (length (a .events .now)))
 
--- src/lib.rt:167:1
 same-length : tie.Need-same-length
 same-length c = search needs
 
--- src/lib.rt:167:1
 same-length-2 : tie.Need-same-length-2
 same-length-2 c = search needs
 
--- src/lib.rt:167:1
 returns : tie.Need-returns
 returns c =
     let k = c .before .before .before .before .before in

@@ -1,33 +1,27 @@
+-- `ffi::interface4w_dump4` meets its contract.
+-- Assumes nothing.
 use mathlib.Core.Path.{ap, _∙_}
 use lib.ListN.{length}
 use Rattle.definition.specs.Step.{dump4Call}
 use Rattle.dump.specs.Answer.{listedBy}
-use Rattle.ffi.specs.Answer.{replyFrom}
-use Rattle.ffi.specs.Rows.{dump4-lists, listed-small}
+use Rattle.reply.specs.Answer.{replyFrom}
+use Rattle.reply.specs.Listing.{dump4-lists, listed-small}
 use borrow.Author.Needs.{needs}
 use Rattle.ffi.proofs.interface4w_dump4.Statement.{statement}
 use Rattle.ffi.proofs.interface4w_dump4.Tie as tie
-use Rattle.ffi.proofs.interface4w_dump4.Reads as reads
-use Rattle.ffi.proofs.interface4w_dump4.Lts as lts
-use Rattle.dump.proofs.dump4.Reads as dump4-reads
-use Rattle.ffi.proofs.listed.Reads as listed-reads
 
--- src/lib.rt:278:12
 dump4-requires : tie.Need-dump4-requires
 dump4-requires c κs = search needs
 
--- src/lib.rt:278:5
 listed-requires : tie.Need-listed-requires
 listed-requires c κs =
     let k = c .before .before in
     let a = k .before .before .before .before .args in
     listed-small (k .dump4 .result) (dump4Call (length (a .listing .now)) (a .state .now) .reply) (k .dump4 .ensures .0) (dump4-lists (a .state .now) (length (a .listing .now)))
 
--- src/lib.rt:273:1
 same-length : tie.Need-same-length
 same-length c = search needs
 
--- src/lib.rt:273:1
 returns : tie.Need-returns
 returns c =
     let k = c .before .before .before in

@@ -1,37 +1,30 @@
+-- `ffi::interface4w_expire` meets its contract.
+-- Assumes nothing.
 use Rattle.definition.specs.Step.{expireCall}
 use mathlib.Core.Path.{ap, _∙_}
-use Rattle.ffi.specs.Answer.{replyFrom}
+use Rattle.reply.specs.Answer.{replyFrom}
 use Rattle.changes.specs.Answer.{doneBy}
-use Rattle.ffi.specs.Told.{expire-told, small}
+use Rattle.reply.specs.Told.{expire-told, small}
 use lib.ListN.{length}
 use borrow.Author.Needs.{needs}
 use Rattle.ffi.proofs.interface4w_expire.Statement.{statement}
 use Rattle.ffi.proofs.interface4w_expire.Tie as tie
-use Rattle.ffi.proofs.interface4w_expire.Reads as reads
-use Rattle.ffi.proofs.interface4w_expire.Lts as lts
-use Rattle.changes.proofs.expire.Reads as expire-reads
-use Rattle.ffi.proofs.done.Reads as done-reads
 
--- src/lib.rt:173:10
 expire-requires : tie.Need-expire-requires
 expire-requires c κs = search needs
 
--- src/lib.rt:173:5
 done-requires : tie.Need-done-requires
 done-requires c κs =
     let k = c .before .before .before .before in
     let a = k .before .before .before .before .before .args in
     small (k .expire .result) (expireCall (length (a .events .now)) (a .clock) (a .state .now) .reply) (k .expire .ensures .0) (expire-told (a .state .now) (length (a .events .now)) (a .clock))
 
--- src/lib.rt:167:1
 same-length : tie.Need-same-length
 same-length c = search needs
 
--- src/lib.rt:167:1
 same-length-2 : tie.Need-same-length-2
 same-length-2 c = search needs
 
--- src/lib.rt:167:1
 returns : tie.Need-returns
 returns c =
     let k = c .before .before .before .before .before in

@@ -1,24 +1,19 @@
+-- `ffi::interface4w_local4` meets its contract.
+-- Assumes nothing.
 use mathlib.Core.Path.{ap, _∙_}
-use Rattle.ffi.specs.Answer.{replyFrom}
+use Rattle.reply.specs.Answer.{replyFrom}
 use Rattle.interface.specs.Answer.{localBy}
-use Rattle.ffi.specs.Laws.{local4-numbers}
+use Rattle.reply.specs.Reading.{local4-numbers}
 use borrow.Author.Needs.{needs}
 use Rattle.ffi.proofs.interface4w_local4.Statement.{statement}
 use Rattle.ffi.proofs.interface4w_local4.Tie as tie
-use Rattle.ffi.proofs.interface4w_local4.Reads as reads
-use Rattle.ffi.proofs.interface4w_local4.Lts as lts
-use Rattle.ffi.proofs.local.Reads as local-reads
-use Rattle.interface.proofs.local4.Reads as local4-reads
 
--- src/lib.rt:136:11
 local4-requires : tie.Need-local4-requires
 local4-requires c κs = search needs
 
--- src/lib.rt:136:5
 local-requires : tie.Need-local-requires
 local-requires c κs = search needs
 
--- src/lib.rt:132:1
 returns : tie.Need-returns
 returns c =
     let k = c .before in

@@ -1,29 +1,23 @@
+-- `ffi::interface4w_lookup4` meets its contract.
+-- Assumes nothing.
 use mathlib.Core.Path.{ap, _∙_}
-use Rattle.ffi.specs.Answer.{replyFrom}
+use Rattle.reply.specs.Answer.{replyFrom}
 use Rattle.interface.specs.Answer.{foundBy}
-use Rattle.ffi.specs.Laws.{lookup4-numbers}
+use Rattle.reply.specs.Reading.{lookup4-numbers}
 use lib.ListN.{length}
 use borrow.Author.Needs.{needs}
 use Rattle.ffi.proofs.interface4w_lookup4.Statement.{statement}
 use Rattle.ffi.proofs.interface4w_lookup4.Tie as tie
-use Rattle.ffi.proofs.interface4w_lookup4.Reads as reads
-use Rattle.ffi.proofs.interface4w_lookup4.Lts as lts
-use Rattle.ffi.proofs.found.Reads as found-reads
-use Rattle.interface.proofs.lookup4.Reads as lookup4-reads
 
--- src/lib.rt:121:11
 lookup4-requires : tie.Need-lookup4-requires
 lookup4-requires c κs = search needs
 
--- src/lib.rt:121:5
 found-requires : tie.Need-found-requires
 found-requires c κs = search needs
 
--- src/lib.rt:116:1
 same-length : tie.Need-same-length
 same-length c = search needs
 
--- src/lib.rt:116:1
 returns : tie.Need-returns
 returns c =
     let k = c .before .before .before in

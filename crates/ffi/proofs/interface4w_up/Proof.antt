@@ -1,37 +1,30 @@
+-- `ffi::interface4w_up` meets its contract.
+-- Assumes nothing.
 use Rattle.definition.specs.Step.{upCall}
 use mathlib.Core.Path.{ap, _∙_}
-use Rattle.ffi.specs.Answer.{replyFrom}
+use Rattle.reply.specs.Answer.{replyFrom}
 use Rattle.changes.specs.Answer.{doneBy}
-use Rattle.ffi.specs.Told.{up-told, small}
+use Rattle.reply.specs.Told.{up-told, small}
 use lib.ListN.{length}
 use borrow.Author.Needs.{needs}
 use Rattle.ffi.proofs.interface4w_up.Statement.{statement}
 use Rattle.ffi.proofs.interface4w_up.Tie as tie
-use Rattle.ffi.proofs.interface4w_up.Reads as reads
-use Rattle.ffi.proofs.interface4w_up.Lts as lts
-use Rattle.additions.proofs.up.Reads as up-reads
-use Rattle.ffi.proofs.done.Reads as done-reads
 
--- src/lib.rt:173:10
 up-requires : tie.Need-up-requires
 up-requires c κs = search needs
 
--- src/lib.rt:173:5
 done-requires : tie.Need-done-requires
 done-requires c κs =
     let k = c .before .before .before .before in
     let a = k .before .before .before .before .before .args in
     small (k .up .result) (upCall (length (a .events .now)) (a .clock) (a .state .now) .reply) (k .up .ensures .0) (up-told (a .state .now) (length (a .events .now)) (a .clock))
 
--- src/lib.rt:167:1
 same-length : tie.Need-same-length
 same-length c = search needs
 
--- src/lib.rt:167:1
 same-length-2 : tie.Need-same-length-2
 same-length-2 c = search needs
 
--- src/lib.rt:167:1
 returns : tie.Need-returns
 returns c =
     let k = c .before .before .before .before .before in

@@ -1,12 +1,12 @@
--- `calls::sourced` meets its contract, case by case.
+-- `reply::sourced` meets its contract, case by case.
 -- Assumes nothing.
 use mathlib.Core.Path.{sym, ap, _∙_}
-use Rattle.calls.specs.Numbered.{replyFrom}
+use Rattle.reply.specs.Answer.{replyFrom}
 use Rattle.interface.specs.Answer.{sourcedBy}
 use Rattle.interface.specs.declared.Sourced.{Sourced}
 use borrow.Author.Needs.{needs}
-use Rattle.calls.proofs.sourced.Statement.{statement}
-use Rattle.calls.proofs.sourced.Tie as tie
+use Rattle.reply.proofs.sourced.Statement.{statement}
+use Rattle.reply.proofs.sourced.Tie as tie
 
 enum-known-a : tie.Need-enum-known-a
 enum-known-a c = search needs
@@ -16,9 +16,6 @@ refused-requires c κs = search needs
 
 enum-known-a-2 : tie.Need-enum-known-a-2
 enum-known-a-2 c = search needs
-
-cast-valued : tie.Need-cast-valued
-cast-valued c = search needs
 
 valued-requires : tie.Need-valued-requires
 valued-requires c κs = search needs
@@ -32,11 +29,4 @@ returns-2 c = c .valued .ensures ∙ ap (λ (x : Sourced). replyFrom (sourcedBy 
 pub sourced-spec : {M : Type 1} → statement M
 sourced-spec =
     tie.close
-    (tie.spec
-    enum-known-a
-    refused-requires
-    enum-known-a-2
-    cast-valued
-    valued-requires
-    returns
-    returns-2)
+    (tie.spec enum-known-a refused-requires enum-known-a-2 valued-requires returns returns-2)

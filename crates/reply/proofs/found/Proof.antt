@@ -1,36 +1,28 @@
+-- `reply::found` meets its contract, case by case.
+-- Assumes nothing.
 use mathlib.Core.Path.{sym, ap, _∙_}
-use Rattle.ffi.specs.Answer.{replyFrom}
+use Rattle.reply.specs.Answer.{replyFrom}
 use Rattle.interface.specs.Answer.{foundBy}
 use Rattle.interface.specs.declared.Found.{Found}
 use borrow.Author.Needs.{needs}
-use Rattle.ffi.proofs.found.Statement.{statement}
-use Rattle.ffi.proofs.found.Tie as tie
-use Rattle.ffi.proofs.found.Reads as reads
-use Rattle.ffi.proofs.found.Lts as lts
-use Rattle.ffi.proofs.refused.Reads as refused-reads
-use Rattle.ffi.proofs.valued.Reads as valued-reads
+use Rattle.reply.proofs.found.Statement.{statement}
+use Rattle.reply.proofs.found.Tie as tie
 
--- src/lib.rt:53:24
 enum-known-f : tie.Need-enum-known-f
 enum-known-f c = search needs
 
--- src/lib.rt:53:30
 refused-requires : tie.Need-refused-requires
 refused-requires c κs = search needs
 
--- src/lib.rt:54:23
 enum-told : tie.Need-enum-told
 enum-told c = search needs
 
--- src/lib.rt:54:23
 valued-requires : tie.Need-valued-requires
 valued-requires c κs = search needs
 
--- src/lib.rt:49:1
 returns : tie.Need-returns
 returns c = c .refused .ensures ∙ ap (λ (x : Found). replyFrom (foundBy x)) (sym (c .before .before .f .given .1))
 
--- src/lib.rt:49:1
 returns-2 : tie.Need-returns-2
 returns-2 c = c .valued .ensures ∙ ap (λ (x : Found). replyFrom (foundBy x)) (sym (c .before .enum-told .given .1))
 

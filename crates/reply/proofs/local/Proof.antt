@@ -1,41 +1,32 @@
-use Rattle.ffi.specs.Laws.{as-local}
+-- `reply::local` meets its contract, case by case.
+-- Assumes nothing.
+use Rattle.reply.specs.Reading.{as-local}
 use mathlib.Core.Path.{sym, ap, _∙_}
-use Rattle.ffi.specs.Answer.{replyFrom}
+use Rattle.reply.specs.Answer.{replyFrom}
 use Rattle.interface.specs.Answer.{localBy}
 use Rattle.interface.specs.declared.Local.{Local}
 use borrow.Author.Needs.{needs}
-use Rattle.ffi.proofs.local.Statement.{statement}
-use Rattle.ffi.proofs.local.Tie as tie
-use Rattle.ffi.proofs.local.Reads as reads
-use Rattle.ffi.proofs.local.Lts as lts
-use Rattle.ffi.proofs.refused.Reads as refused-reads
-use Rattle.ffi.proofs.valued.Reads as valued-reads
+use Rattle.reply.proofs.local.Statement.{statement}
+use Rattle.reply.proofs.local.Tie as tie
 
--- src/lib.rt:62:24
 enum-known-l : tie.Need-enum-known-l
 enum-known-l c = search needs
 
--- src/lib.rt:62:30
 refused-requires : tie.Need-refused-requires
 refused-requires c κs = search needs
 
--- src/lib.rt:63:19
 enum-known-l-2 : tie.Need-enum-known-l-2
 enum-known-l-2 c = search needs
 
--- src/lib.rt:63:32
 cast-valued : tie.Need-cast-valued
 cast-valued c = search needs
 
--- src/lib.rt:63:25
 valued-requires : tie.Need-valued-requires
 valued-requires c κs = search needs
 
--- src/lib.rt:58:1
 returns : tie.Need-returns
 returns c = c .refused .ensures ∙ ap (λ (x : Local). replyFrom (localBy x)) (sym (c .before .before .l .given .1))
 
--- src/lib.rt:58:1
 returns-2 : tie.Need-returns-2
 returns-2 c = c .valued .ensures ∙ as-local (c .before .before .l2 .given .0 .0) ∙ ap (λ (x : Local). replyFrom (localBy x)) (sym (c .before .before .l2 .given .1))
 
