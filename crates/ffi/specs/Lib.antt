@@ -2,3 +2,4 @@ pub mod Answer
 pub mod Rows
 pub mod Bytes
 pub mod Changed
+pub mod Stays

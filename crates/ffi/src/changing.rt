@@ -2,6 +2,7 @@
 use crate::on_words;
 use reply::Reply;
 ghost use mathlib.Core.Path.{_≡_};
+ghost use mathlib.Core.Bool.{true};
 ghost use Prim.Native.Nat.{_≤_, _*_};
 ghost use lib.ListN.{length, take};
 ghost use Rattle.lists.specs.Lists.{flat, put};
@@ -10,12 +11,16 @@ ghost use Rattle.endian.specs.Endian.{wordsOf, bytesOf};
 ghost use Rattle.reply.specs.Answer.{replyOf};
 ghost use Rattle.ffi.specs.Answer.{onBytes, changeFits, requestFits, stateOn};
 
-// The state's words and n event rows, as bytes.
-fn give_back(s: &[u32], e: &[u32], n: u32, state: &mut [u8], events: &mut [u8])
+// The state's words and n event rows, as bytes. Where the call kept the words and told nothing, the bytes are there already.
+fn give_back(kept: bool, s: &[u32], e: &[u32], n: u32, state: &mut [u8], events: &mut [u8])
     requires { ⌜ (length (now s) ≡ 9507) × (length (now e) ≡ 13056) × (n ≤ 384) × (length (now state) ≡ 38028) × (52224 ≤ length (now events)) ⌝ }
+    requires { ⌜ (kept ≡ true → (now state ≡ bytesOf (now s)) × (n ≡ 0)) ⌝ }
     ensures { λ _. ⌜ now (state .exit) ≡ bytesOf (now (s .entry)) ⌝ }
     ensures { λ _. ⌜ now (events .exit) ≡ put 0 (bytesOf (take (34 * n) (now (e .entry)))) (now (events .entry)) ⌝ }
 {
+    if kept {
+        return;
+    }
     endian::bytes_of(s, state);
     let end = 34 * (n as usize);
     endian::bytes_of(&e[0..end], events);
@@ -34,7 +39,7 @@ pub extern "C" fn interface4_down(state: &mut [u8], events: &mut [u8]) -> Reply
     endian::words_of(state, &mut s);
     let mut e = [0u32; 13056];
     let answer = on_words::interface4w_down(&mut s, &mut e);
-    give_back(&s, &e, answer.value, state, events);
+    give_back(1 <= answer.number, &s, &e, answer.value, state, events);
     answer
 }
 
@@ -57,7 +62,8 @@ pub extern "C" fn interface4_add_route4(
     endian::words_of(state, &mut s);
     let mut e = [0u32; 13056];
     let answer = on_words::interface4w_add_route4(&mut s, &q, &mut e);
-    give_back(&s, &e, answer.value, state, events);
+    // A refusal by the reference may have listed the table.
+    give_back(200 <= answer.number, &s, &e, answer.value, state, events);
     answer
 }
 
@@ -80,7 +86,7 @@ pub extern "C" fn interface4_del_route4(
     endian::words_of(state, &mut s);
     let mut e = [0u32; 13056];
     let answer = on_words::interface4w_del_route4(&mut s, &q, &mut e);
-    give_back(&s, &e, answer.value, state, events);
+    give_back(1 <= answer.number, &s, &e, answer.value, state, events);
     answer
 }
 
@@ -97,7 +103,7 @@ pub extern "C" fn interface4_up(state: &mut [u8], events: &mut [u8], clock: u64)
     endian::words_of(state, &mut s);
     let mut e = [0u32; 13056];
     let answer = on_words::interface4w_up(&mut s, &mut e, clock);
-    give_back(&s, &e, answer.value, state, events);
+    give_back(1 <= answer.number, &s, &e, answer.value, state, events);
     answer
 }
 
@@ -121,7 +127,7 @@ pub extern "C" fn interface4_add_v4(
     endian::words_of(state, &mut s);
     let mut e = [0u32; 13056];
     let answer = on_words::interface4w_add_v4(&mut s, &q, &mut e, clock);
-    give_back(&s, &e, answer.value, state, events);
+    give_back(1 <= answer.number, &s, &e, answer.value, state, events);
     answer
 }
 
@@ -140,7 +146,7 @@ pub extern "C" fn interface4_del_v4(state: &mut [u8], request: &[u8], events: &m
     endian::words_of(state, &mut s);
     let mut e = [0u32; 13056];
     let answer = on_words::interface4w_del_v4(&mut s, &q, &mut e);
-    give_back(&s, &e, answer.value, state, events);
+    give_back(1 <= answer.number, &s, &e, answer.value, state, events);
     answer
 }
 
@@ -157,6 +163,6 @@ pub extern "C" fn interface4_expire(state: &mut [u8], events: &mut [u8], clock: 
     endian::words_of(state, &mut s);
     let mut e = [0u32; 13056];
     let answer = on_words::interface4w_expire(&mut s, &mut e, clock);
-    give_back(&s, &e, answer.value, state, events);
+    give_back(1 <= answer.number, &s, &e, answer.value, state, events);
     answer
 }

@@ -2,6 +2,7 @@
 -- Assumes nothing.
 use Prim.Native.Nat.{_*_}
 use Rattle.ffi.specs.Changed.{state-back, part-back}
+use Rattle.ffi.specs.Stays.{none-back}
 use borrow.Author.Needs.{needs}
 use Rattle.ffi.proofs.changing.give_back.Statement.{statement}
 use Rattle.ffi.proofs.changing.give_back.Tie as tie
@@ -32,16 +33,23 @@ same-length-2 c = search needs
 
 returns : tie.Need-returns
 returns c =
+    let t = c .before .before .before .before .before in
+    let k = t .pre .1 (c .if1 .taken) in
+    (k .0, none-back (t .args .e .now) (t .args .events .now) (t .args .n) (k .1))
+
+returns-2 : tie.Need-returns-2
+returns-2 c =
     let q = c .before .before in
     let p = q .before .before .before .before .before in
-    let t = p .before .before .before .before .before .before in
+    let t = p .before .before .before .before .before .before .before in
     let a = t .args in
-    (state-back (a .s .now) (a .state .now) _ (t .pre .0) (t .pre .3) (p .bytes-of .ensures), part-back (a .e .now) (a .events .now) _ (34 * a .n) (q .bytes-of2 .ensures))
+    (state-back (a .s .now) (a .state .now) _ (t .pre .0 .0) (t .pre .0 .3) (p .bytes-of .ensures), part-back (a .e .now) (a .events .now) _ (34 * a .n) (q .bytes-of2 .ensures))
 
 pub give-back-spec : {M : Type 1} → statement M
 give-back-spec =
     tie.close
     (tie.spec
+    returns
     bytes-of-requires
     mul-end
     sub-bytes-of
@@ -50,4 +58,4 @@ give-back-spec =
     bytes-of-requires-2
     same-length
     same-length-2
-    returns)
+    returns-2)

@@ -6,6 +6,7 @@ use borrow.Author.Tests.{not-true, not-false}
 use Rattle.ffi.specs.Bytes.{whole}
 use Rattle.reply.specs.Told.{down-told}
 use Rattle.ffi.specs.Changed.{changed-no, changed-yes, room, as-words, value-few}
+use Rattle.ffi.specs.Stays.{down-stays, stays-from}
 use Rattle.ffi.specs.Answer.{changeFits}
 use Rattle.definition.specs.Step.{downCall}
 use Rattle.endian.specs.Endian.{wordsOf}
@@ -49,12 +50,13 @@ slice-aggregate-give-back-2 c = search needs
 
 give-back-requires : tie.Need-give-back-requires
 give-back-requires c κs =
-    let d = c .before .before .before .before .before .before in
+    let d = c .before .before .before .before .before .before .before in
     let k = d .before .before .before .before in
     let e = k .before .before .before in
     let a = e .before .before .before .args in
     let r = room 52224 (a .state .now) (a .events .now) (not-false _ (e .if1 .left)) in
-    (search needs, search needs, value-few (d .interface4w-down .result) _ (d .interface4w-down .ensures .0) (down-told _ 13056), r .0, r .1)
+    let s = whole 9507 (a .state .now) _ _ (r .0) refl (k .words-of .ensures) in
+    ((search needs, search needs, value-few (d .interface4w-down .result) _ (d .interface4w-down .ensures .0) (down-told _ 13056), r .0, r .1), stays-from 1 (a .state .now) _ _ (downCall 13056 _) (d .interface4w-down .result) (r .0) (e .before .before .slice-known .given) s (d .interface4w-down .ensures .0) (d .interface4w-down .ensures .1 .0) (down-stays _ 13056))
 
 same-length : tie.Need-same-length
 same-length c = search needs
@@ -65,7 +67,7 @@ same-length-2 c = search needs
 returns-2 : tie.Need-returns-2
 returns-2 c =
     let g = c .before .before .before .before in
-    let d = g .before .before .before .before .before .before .before in
+    let d = g .before .before .before .before .before .before .before .before in
     let k = d .before .before .before .before in
     let e = k .before .before .before in
     let a = e .before .before .before .args in
