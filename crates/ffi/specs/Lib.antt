@@ -3,3 +3,4 @@ pub mod Rows
 pub mod Bytes
 pub mod Changed
 pub mod Stays
+pub mod Quiet

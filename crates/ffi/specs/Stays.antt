@@ -6,14 +6,14 @@ use mathlib.Core.Path.{_≡_, refl, sym, ap, _∙_}
 use mathlib.Core.Bool.{true, false}
 use mathlib.Core.List.{List}
 use mathlib.Core.Logic.{_≢_}
-use lib.Dec.{leb}
+use lib.Dec.{eqb, leb}
 use lib.ListN.{length, getD, take}
-use borrow.Author.Tests.{leb-true}
+use borrow.Author.Tests.{eqb-true, leb-true}
 use mir.Syntax.{w8}
 use mir.Val.{Fits}
 use Rattle.lists.specs.Lists.{Row, put}
 use Rattle.definition.specs.Call as Call
-use Rattle.definition.specs.Step.{Result, step, upCall, downCall, addV4Call, delV4Call, expireCall, addRoute4Call, delRoute4Call}
+use Rattle.definition.specs.Step.{Result, step, upCall, downCall, addV4Call, delV4Call, addRoute4Call, delRoute4Call}
 use Rattle.definition.specs.Laws.Refusals.{alone, unfit-leaves, addsRoute, others-leave}
 use Rattle.endian.specs.Endian.{wordsOf, bytesOf}
 use Rattle.endian.specs.Laws.{bytes-words, bytes-none}
@@ -52,10 +52,6 @@ module _ (w : List ℕ) (events : ℕ) where
   unfolding step
   del-v4-stays q h = others (Call.delV4 q events) w refl h
 
-  pub expire-stays : (now : ℕ) → 1 ≤ expireCall events now w .reply .number → Stays (expireCall events now w) w
-  unfolding step
-  expire-stays now h = others (Call.expire events now) w refl h
-
   pub add-route4-stays : (q : Row) → 200 ≤ addRoute4Call q events w .reply .number → Stays (addRoute4Call q events w) w
   unfolding step
   add-route4-stays q h = unfit (Call.addRoute4 q events) w h
@@ -66,7 +62,7 @@ module _ (w : List ℕ) (events : ℕ) where
 
 -- ---- on bytes
 -- where the call on their words stays, the bytes are those of the words that it left
-pub stays-on : (b w w′ : List ℕ) (r : Result) (x : Reply) → length b ≡ 38028 → ((i : ℕ) → Fits w8 (getD b i 0)) → w ≡ wordsOf b → x ≡ replyOf (r .reply) → w′ ≡ r .words → Stays r w
+stays-on : (b w w′ : List ℕ) (r : Result) (x : Reply) → length b ≡ 38028 → ((i : ℕ) → Fits w8 (getD b i 0)) → w ≡ wordsOf b → x ≡ replyOf (r .reply) → w′ ≡ r .words → Stays r w
     → (b ≡ bytesOf w′) × (x .value ≡ 0)
 stays-on b w w′ r x l f e a s t = (
   sym (bytes-words 9507 b l (λ i. f i .fits)) ∙ ap bytesOf (sym (s ∙ t .words ∙ e)),
@@ -79,6 +75,13 @@ pub stays-from : (k : ℕ) (b w w′ : List ℕ) (r : Result) (x : Reply) → le
 stays-from k b w w′ r x l f e a s t h =
     let n : x .number ≡ r .reply .number = ap (λ (y : Reply). y .number) a in
     stays-on b w w′ r x l f e a s (t (omega (arith, n, leb-true k (x .number) h)))
+
+-- with no row told
+pub stays-quiet : (b w w′ : List ℕ) (r : Result) (x : Reply) → length b ≡ 38028 → ((i : ℕ) → Fits w8 (getD b i 0)) → w ≡ wordsOf b → x ≡ replyOf (r .reply) → w′ ≡ r .words
+    → (r .reply .value ≡ 0 → Stays r w) → eqb (x .value) 0 ≡ true → (b ≡ bytesOf w′) × (x .value ≡ 0)
+stays-quiet b w w′ r x l f e a s t h =
+    let n : x .value ≡ r .reply .value = ap (λ (y : Reply). y .value) a in
+    stays-on b w w′ r x l f e a s (t (omega (arith, n, eqb-true (x .value) 0 h)))
 
 -- no row leaves the buffer as it was
 pub none-back : (e out : List ℕ) (n : ℕ) → n ≡ 0 → out ≡ put 0 (bytesOf (take (34 * n) e)) out

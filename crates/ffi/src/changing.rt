@@ -163,6 +163,7 @@ pub extern "C" fn interface4_expire(state: &mut [u8], events: &mut [u8], clock: 
     endian::words_of(state, &mut s);
     let mut e = [0u32; 13056];
     let answer = on_words::interface4w_expire(&mut s, &mut e, clock);
-    give_back(1 <= answer.number, &s, &e, answer.value, state, events);
+    // A refusal tells nothing either.
+    give_back(answer.value == 0, &s, &e, answer.value, state, events);
     answer
 }

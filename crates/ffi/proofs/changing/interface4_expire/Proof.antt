@@ -6,7 +6,8 @@ use borrow.Author.Tests.{not-true, not-false}
 use Rattle.ffi.specs.Bytes.{whole}
 use Rattle.reply.specs.Told.{expire-told}
 use Rattle.ffi.specs.Changed.{changed-no, changed-yes, room, as-words, value-few}
-use Rattle.ffi.specs.Stays.{expire-stays, stays-from}
+use Rattle.ffi.specs.Stays.{stays-quiet}
+use Rattle.ffi.specs.Quiet.{expire-stays}
 use Rattle.ffi.specs.Answer.{changeFits}
 use Rattle.definition.specs.Step.{expireCall}
 use Rattle.endian.specs.Endian.{wordsOf}
@@ -56,7 +57,7 @@ give-back-requires c κs =
     let a = e .before .before .before .args in
     let r = room 52224 (a .state .now) (a .events .now) (not-false _ (e .if1 .left)) in
     let s = whole 9507 (a .state .now) _ _ (r .0) refl (k .words-of .ensures) in
-    ((search needs, search needs, value-few (d .interface4w-expire .result) _ (d .interface4w-expire .ensures .0) (expire-told _ 13056 (a .clock)), r .0, r .1), stays-from 1 (a .state .now) _ _ (expireCall 13056 _ _) (d .interface4w-expire .result) (r .0) (e .before .before .slice-known .given) s (d .interface4w-expire .ensures .0) (d .interface4w-expire .ensures .1 .0) (expire-stays _ 13056 _))
+    ((search needs, search needs, value-few (d .interface4w-expire .result) _ (d .interface4w-expire .ensures .0) (expire-told _ 13056 (a .clock)), r .0, r .1), stays-quiet (a .state .now) _ _ (expireCall 13056 _ _) (d .interface4w-expire .result) (r .0) (e .before .before .slice-known .given) s (d .interface4w-expire .ensures .0) (d .interface4w-expire .ensures .1 .0) (expire-stays _ 13056 _))
 
 same-length : tie.Need-same-length
 same-length c = search needs
