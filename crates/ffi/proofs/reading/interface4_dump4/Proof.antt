@@ -8,7 +8,7 @@ use borrow.Author.Tests.{not-true, not-false}
 use Rattle.definition.specs.Step.{dump4Call}
 use Rattle.endian.specs.Endian.{wordsOf}
 use Rattle.ffi.specs.Answer.{roomFits}
-use Rattle.ffi.specs.Bytes.{whole}
+use Rattle.endian.specs.Laws.{words-whole}
 use Rattle.reply.specs.Listing.{dump4-lists}
 use Rattle.ffi.specs.Changed.{room, wrote-no, wrote-yes, wrote-on, listing-words}
 use borrow.Author.Needs.{needs}
@@ -68,7 +68,7 @@ returns-2 c =
     let a = e .before .before .before .args in
     let f = roomFits 32768 (a .state .now) (a .listing .now) in
     let r = room 32768 (a .state .now) (a .listing .now) (not-false _ (e .if1 .left)) in
-    let s = whole 9507 (a .state .now) _ _ (r .0) refl (k .words-of .ensures) in
+    let s = words-whole 9507 (a .state .now) _ _ (r .0) refl (k .words-of .ensures) in
     let m = listing-words (d .interface4w-dump4 .result) _ (d .interface4w-dump4 .ensures .0) (dump4-lists _ 8192) in
     let y = wrote-yes f (a .listing .now) (dump4Call 8192 _ .reply) (d .interface4w-dump4 .result) _ _ _ (32 * d .interface4w-dump4 .result .value) (not-false _ (e .if1 .left)) (m .1) (d .interface4w-dump4 .ensures .0) (d .interface4w-dump4 .ensures .1) (g .give-rows .ensures) in
     let x = wrote-on f (a .listing .now) (λ (u : List ℕ). dump4Call 8192 u .reply) (d .interface4w-dump4 .result) _ _ _ s y in

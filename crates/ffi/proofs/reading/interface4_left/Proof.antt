@@ -3,7 +3,8 @@
 use mathlib.Core.Path.{refl, ap, _∙_}
 use mathlib.Core.List.{List}
 use Prim.Native.Nat.{ℕ}
-use Rattle.ffi.specs.Bytes.{whole, row-no, row-yes}
+use Rattle.endian.specs.Laws.{words-whole}
+use Rattle.ffi.specs.Bytes.{row-no, row-yes}
 use Rattle.reply.specs.Answer.{replyOf}
 use Rattle.definition.specs.Step.{leftCall}
 use borrow.Author.Needs.{needs}
@@ -45,7 +46,7 @@ returns-2 c =
     let k = c .before .before .before in
     let e = k .before .before in
     let a = e .before .before .args in
-    let s = whole 20 (a .row .now) _ _ (e .if1 .left) refl (k .words-of .ensures) in
+    let s = words-whole 20 (a .row .now) _ _ (e .if1 .left) refl (k .words-of .ensures) in
     c .interface4w-left2 .ensures ∙ ap (λ (x : List ℕ). replyOf (leftCall x (a .clock))) (s ∙ row-yes 80 (a .row .now) (e .if1 .left))
 
 pub interface4-left-spec : {M : Type 1} → statement M

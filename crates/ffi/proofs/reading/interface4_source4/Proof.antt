@@ -4,7 +4,8 @@ use mathlib.Core.Path.{refl, ap, _∙_}
 use mathlib.Core.List.{List, []}
 use Prim.Native.Nat.{ℕ}
 use Rattle.endian.specs.Endian.{wordsOf}
-use Rattle.ffi.specs.Bytes.{whole, bytes-no, bytes-yes, row-no, row-yes}
+use Rattle.endian.specs.Laws.{words-whole}
+use Rattle.ffi.specs.Bytes.{bytes-no, bytes-yes, row-no, row-yes}
 use Rattle.reply.specs.Answer.{replyOf}
 use Rattle.ffi.specs.Answer.{onBytes, stateFits, rowWords}
 use Rattle.definition.specs.Step.{source4Call}
@@ -47,7 +48,7 @@ returns-2 c =
     let k = t .before .before in
     let e = k .before .before in
     let a = e .before .before .before .args in
-    let s = whole 9507 (a .state .now) _ _ (e .if1 .left) refl (k .words-of .ensures) in
+    let s = words-whole 9507 (a .state .now) _ _ (e .if1 .left) refl (k .words-of .ensures) in
     c .interface4w-source4 .ensures ∙ bytes-yes (a .state .now) (source4Call [] (a .ip)) _ (e .if1 .left) s ∙ ap (λ (x : List ℕ). replyOf (onBytes (stateFits (a .state .now)) (source4Call x (a .ip) (wordsOf (a .state .now)) .reply))) (row-no 128 (a .row .now) (t .if2 .taken))
 
 slice-aggregate-words-of-2 : tie.Need-slice-aggregate-words-of-2
@@ -72,8 +73,8 @@ returns-3 c =
     let k = f .before .before in
     let e = k .before .before in
     let a = e .before .before .before .args in
-    let s = whole 9507 (a .state .now) _ _ (e .if1 .left) refl (k .words-of .ensures) in
-    let r = whole 32 (a .row .now) _ _ (f .if2 .left) refl (j .words-of2 .ensures) in
+    let s = words-whole 9507 (a .state .now) _ _ (e .if1 .left) refl (k .words-of .ensures) in
+    let r = words-whole 32 (a .row .now) _ _ (f .if2 .left) refl (j .words-of2 .ensures) in
     c .interface4w-source42 .ensures ∙ bytes-yes (a .state .now) (source4Call _ (a .ip)) _ (e .if1 .left) s ∙ ap (λ (x : List ℕ). replyOf (onBytes (stateFits (a .state .now)) (source4Call x (a .ip) (wordsOf (a .state .now)) .reply))) (r ∙ row-yes 128 (a .row .now) (f .if2 .left))
 
 pub interface4-source4-spec : {M : Type 1} → statement M
