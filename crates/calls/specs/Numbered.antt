@@ -5,16 +5,9 @@ use mathlib.Core.Bool.{cond}
 use mathlib.Core.List.{List}
 use lib.Dec.{eqb, leb}
 use Rattle.lists.specs.Lists.{Row, flat, put}
-use Rattle.definition.specs.Call as Call
 use Rattle.definition.specs.Step.{Result, upCall, downCall, addV4Call, delV4Call, expireCall, addRoute4Call, delRoute4Call, dump4Call, lookup4Call, lookup4FlowCall, local4Call, source4Call, sourceCall, select4Call, leftCall}
-use Rattle.interface.specs.Answer.{Numbers, numbers}
-use Rattle.calls.specs.declared.Reply.{Reply}
-
-abbrev pub replyFrom : Numbers → Reply
-replyFrom n = record { number = n .number; present = n .present; value = n .value; second = n .second }
-
-abbrev pub replyOf : Call.Reply → Reply
-replyOf r = replyFrom (numbers r)
+use Rattle.reply.specs.declared.Reply.{Reply}
+use Rattle.reply.specs.Answer.{replyOf}
 
 -- a clock of its low and its high word
 abbrev pub clockOf : ℕ → ℕ → ℕ

@@ -1,123 +1,10 @@
 // Every call by the number that the list of answers gives it (host/README.md), with its answer as numbers.
-use address::LeftReply;
 use changes::Done;
-use dump::Listed;
-use interface::Chosen;
-use interface::Found;
-use interface::Local;
-use interface::Sourced;
+use reply::Reply;
 ghost use mathlib.Core.Path.{_≡_};
 ghost use lib.ListN.{length};
-ghost use Rattle.interface.specs.Answer.{foundBy, localBy, chosenBy, sourcedBy};
-ghost use Rattle.changes.specs.Answer.{doneBy};
 ghost use Rattle.changes.specs.Laws.{Answers};
-ghost use Rattle.dump.specs.Answer.{listedBy};
-ghost use Rattle.address.specs.Row.{replyOf as address·replyOf};
-ghost use Rattle.calls.specs.Numbered.{replyFrom, replyOf, clockOf, changeBy, readBy, callBy, Did};
-
-// The number is 0, or the refusal's number and then the rest is 0.
-pub struct Reply {
-    pub number: u32,
-    pub present: u32,
-    pub value: usize,
-    pub second: u32,
-}
-
-fn refused(n: u32) -> Reply
-    ensures { λ r. ⌜ r ≡ record { number = n; present = 0; value = 0; second = 0 } ⌝ }
-{
-    Reply {
-        number: n,
-        present: 0,
-        value: 0,
-        second: 0,
-    }
-}
-
-fn valued(v: usize) -> Reply
-    ensures { λ r. ⌜ r ≡ record { number = 0; present = 0; value = v; second = 0 } ⌝ }
-{
-    Reply {
-        number: 0,
-        present: 0,
-        value: v,
-        second: 0,
-    }
-}
-
-fn done(d: Done) -> Reply
-    ensures { λ r. ⌜ r ≡ replyFrom (doneBy d) ⌝ }
-{
-    match d {
-        Done::Refused(n) => refused(n),
-        Done::Rows(n) => valued(n),
-    }
-}
-
-fn listed(l: Listed) -> Reply
-    ensures { λ r. ⌜ r ≡ replyFrom (listedBy l) ⌝ }
-{
-    match l {
-        Listed::Refused(n) => refused(n),
-        Listed::Rows(n) => valued(n),
-    }
-}
-
-fn found(f: Found) -> Reply
-    ensures { λ r. ⌜ r ≡ replyFrom (foundBy f) ⌝ }
-{
-    match f {
-        Found::Refused(n) => refused(n),
-        Found::Row => valued(0),
-    }
-}
-
-fn local(l: Local) -> Reply
-    ensures { λ r. ⌜ r ≡ replyFrom (localBy l) ⌝ }
-{
-    match l {
-        Local::Refused(n) => refused(n),
-        Local::Is(b) => valued(b as usize),
-    }
-}
-
-fn chosen(a: Chosen) -> Reply
-    ensures { λ r. ⌜ r ≡ replyFrom (chosenBy a) ⌝ }
-{
-    match a {
-        Chosen::Refused(n) => refused(n),
-        Chosen::Nothing => valued(0),
-        Chosen::Address(v) => Reply {
-            number: 0,
-            present: 1,
-            value: v as usize,
-            second: 0,
-        },
-    }
-}
-
-fn sourced(a: Sourced) -> Reply
-    ensures { λ r. ⌜ r ≡ replyFrom (sourcedBy a) ⌝ }
-{
-    match a {
-        Sourced::Refused(n) => refused(n),
-        Sourced::Address(v) => valued(v as usize),
-    }
-}
-
-fn remaining(l: LeftReply) -> Reply
-    ensures { λ r. ⌜ r ≡ replyOf (address·replyOf l) ⌝ }
-{
-    match l {
-        LeftReply::Refused(n) => refused(n),
-        LeftReply::Left { preferred, valid } => Reply {
-            number: 0,
-            present: 0,
-            value: preferred as usize,
-            second: valid,
-        },
-    }
-}
+ghost use Rattle.calls.specs.Numbered.{clockOf, changeBy, readBy, callBy, Did};
 
 fn long(x: u32) -> u64
     ensures { λ r. ⌜ r ≡ x ⌝ }
@@ -152,14 +39,14 @@ fn read(code: u32, state: &[u32], lent: &[u32], a: u32, b: u32, c: u32, buffer: 
     ensures { λ r. ⌜ Did (readBy code (now (lent .entry)) a b c (length (now (buffer .entry))) (now (state .entry))) (now (buffer .entry)) r (now (state .entry)) (now (buffer .exit)) ⌝ }
 {
     match code {
-        8 => listed(dump::dump4(state, buffer)),
-        9 => found(interface::lookup4(state, buffer, a)),
-        10 => found(interface::lookup4_flow(state, buffer, a, b, c)),
-        11 => local(interface::local4(state, a)),
-        12 => chosen(interface::source4(state, lent, a)),
-        13 => sourced(interface::source(state, a)),
-        14 => chosen(interface::select4(state, a, b, c)),
-        _ => remaining(address::left(lent, clock_of(a, b))),
+        8 => reply::listed(dump::dump4(state, buffer)),
+        9 => reply::found(interface::lookup4(state, buffer, a)),
+        10 => reply::found(interface::lookup4_flow(state, buffer, a, b, c)),
+        11 => reply::local(interface::local4(state, a)),
+        12 => reply::chosen(interface::source4(state, lent, a)),
+        13 => reply::sourced(interface::source(state, a)),
+        14 => reply::chosen(interface::select4(state, a, b, c)),
+        _ => reply::remaining(address::left(lent, clock_of(a, b))),
     }
 }
 
@@ -176,7 +63,7 @@ pub fn call(
     ensures { λ r. ⌜ Did (callBy code (now (lent .entry)) a b c (length (now (buffer .entry))) (now (state .entry))) (now (buffer .entry)) r (now (state .exit)) (now (buffer .exit)) ⌝ }
 {
     if code <= 7 {
-        return done(change(code, state, lent, clock_of(a, b), buffer));
+        return reply::done(change(code, state, lent, clock_of(a, b), buffer));
     }
     read(code, state, lent, a, b, c, buffer)
 }

@@ -9,7 +9,7 @@ use native.Mathlib.Omega.{arith}
 use lib.ListN.{length, getD, set, take, drop, length-append}
 use lib.Seq.{take-nil, drop-nil, take-suc, length-take-le}
 use Rattle.lists.specs.Lists.{put}
-use Rattle.lists.specs.Put.{put-none, put-more, put-take}
+use Rattle.lists.specs.Put.{put-none, put-more, put-take, put-whole}
 use Rattle.endian.specs.Endian.{word, wordsOf, bytesOf}
 
 -- every number of the list is below n
@@ -191,6 +191,10 @@ module _ (b l : List ℕ) (h : length b ≤ 4 * length l) where
       let room : 0 + length (wordsOf b) ≤ length l = omega (arith, words-room) in
       rw (e, ← getD-wordsOf b i k)
       (rw (zero-add i) at (put-take 0 (wordsOf b) l i room far))
+
+-- words as many as there is room for are all of it
+pub words-whole : (n : ℕ) (b l m : List ℕ) → length b ≡ 4 * n → length l ≡ n → m ≡ put 0 (wordsOf b) l → m ≡ wordsOf b
+words-whole n b l m h k e = e ∙ put-whole (wordsOf b) l (omega (arith, length-wordsOf b))
 
 -- no word gives no byte
 pub bytes-none : (l : List ℕ) → l ≡ put 0 (bytesOf []) l

@@ -1,4 +1,4 @@
--- A reply as the host gets it: its numbers, the rows standing in the buffer that was lent.
+-- What the host asks of the calls beyond the definition: a state looked at alone, and every call on bytes.
 use Prim.Native.Nat.{ℕ}
 use mathlib.Core.Bool.{Bool, true, cond, _&&_}
 use mathlib.Core.List.{List, []}
@@ -8,14 +8,6 @@ use Rattle.endian.specs.Endian.{wordsOf, bytesOf}
 use Rattle.definition.specs.Call as Call
 use Rattle.definition.specs.Words.{stateSize, wellFormed}
 use Rattle.definition.specs.Step.{Result, checks}
-use Rattle.interface.specs.Answer.{Numbers, numbers}
-use Rattle.ffi.specs.declared.Reply.{Reply}
-
-abbrev pub replyFrom : Numbers → Reply
-replyFrom n = record { number = n .number; present = n .present; value = n .value; second = n .second }
-
-abbrev pub replyOf : Call.Reply → Reply
-replyOf r = replyFrom (numbers r)
 
 -- words looked at alone: 200 or 201 as each call gives it, else 0
 abbrev pub checkCall : List ℕ → Result

@@ -1,27 +1,17 @@
 -- A call on bytes is the call on their words, if there are as many as there must be.
 -- Assumes nothing.
-use Prim.Native.Nat.{ℕ, _+_, _*_}
-use native.Mathlib.Omega.{arith}
+use Prim.Native.Nat.{ℕ}
 use mathlib.Core.Path.{_≡_, sym, ap, _∙_}
-use mathlib.Core.List.{List, [], append-nil}
+use mathlib.Core.List.{List, []}
 use lib.Dec.{eqb}
-use lib.ListN.{length, drop, drop-of-length-le}
+use lib.ListN.{length}
 use borrow.Author.Tests.{eq-eqb, ne-eqb}
-use Rattle.lists.specs.Lists.{put}
 use Rattle.lists.specs.All.{cond-true, cond-false}
 use Rattle.definition.specs.Call as Call
 use Rattle.definition.specs.Step.{Result}
 use Rattle.endian.specs.Endian.{wordsOf}
-use Rattle.endian.specs.Laws.{length-wordsOf}
-use Rattle.ffi.specs.Answer.{replyOf, onBytes, stateFits, rowWords}
-
--- words as many as there is room for are all of it
-pub whole : (n : ℕ) (b l m : List ℕ) → length b ≡ 4 * n → length l ≡ n → m ≡ put 0 (wordsOf b) l → m ≡ wordsOf b
-unfolding put
-whole n b l m h k e =
-    let long : length (wordsOf b) ≡ n = omega (arith, length-wordsOf b) in
-    let none : drop (0 + length (wordsOf b)) l ≡ [] = drop-of-length-le l {i = 0 + length (wordsOf b)} (omega arith) in
-    e ∙ rw none (append-nil (wordsOf b))
+use Rattle.reply.specs.Answer.{replyOf}
+use Rattle.ffi.specs.Answer.{onBytes, stateFits, rowWords}
 
 module _ (b : List ℕ) (call : List ℕ → Result) where
   pub bytes-no : (length b ≡ 38028 → ⊥) → replyOf (Call.refusal 200) ≡ replyOf (onBytes (stateFits b) (call (wordsOf b) .reply))

@@ -18,10 +18,12 @@ use Rattle.definition.specs.Call as Call
 use Rattle.definition.specs.Step.{Result}
 use Rattle.endian.specs.Endian.{bytesOf}
 use Rattle.endian.specs.Laws.{length-bytesOf, bytes-none}
-use Rattle.ffi.specs.declared.Reply.{Reply}
-use Rattle.ffi.specs.Answer.{replyOf, onBytes, stateFits, roomFits, changeFits, requestFits, stateOn}
-use Rattle.ffi.specs.Told.{Told}
-use Rattle.ffi.specs.Rows.{Lists, OneRow}
+use Rattle.reply.specs.declared.Reply.{Reply}
+use Rattle.reply.specs.Answer.{replyOf}
+use Rattle.reply.specs.Told.{Told}
+use Rattle.reply.specs.Listing.{Lists}
+use Rattle.ffi.specs.Answer.{onBytes, stateFits, roomFits, changeFits, requestFits, stateOn}
+use Rattle.ffi.specs.Rows.{OneRow}
 
 -- all of the state's bytes are written
 pub state-back : (w b b′ : List ℕ) → length w ≡ 9507 → length b ≡ 38028 → b′ ≡ put 0 (bytesOf w) b → b′ ≡ bytesOf w

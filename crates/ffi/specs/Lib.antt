@@ -1,6 +1,6 @@
 pub mod Answer
-pub mod Laws
-pub mod Told
 pub mod Rows
 pub mod Bytes
 pub mod Changed
+pub mod Stays
+pub mod Quiet

@@ -1,10 +1,10 @@
 // A record of the list of answers (host/README.md): a call with what the unchanged Rust answered. Here the call is made, and its
 // answer and every word that it was lent are compared with the record.
-use calls::Reply;
+use reply::Reply;
 ghost use mathlib.Core.Path.{_≡_};
 ghost use Prim.Native.Nat.{_≤_};
 ghost use lib.ListN.{length, getD, set};
-ghost use Rattle.calls.specs.Numbered.{replyOf};
+ghost use Rattle.reply.specs.Answer.{replyOf};
 ghost use Rattle.recorded.specs.Record.{checkOf, fit, Fit, setAll, setsOf, lentOf, changesOf, rowsOf, restarted, beforeOf, afterOf, resultOf, heldBy, bufferBy, sameReply, agrees as Record·agrees, verdictOf, heldAfter};
 
 // What stands before a run of words, so that damage to it is seen.
@@ -163,7 +163,7 @@ fn same_reply(r: &[u32], reply: Reply) -> bool
 {
     (reply.number == r[6])
         & (reply.present == r[7])
-        & (reply.value == state::wide(r[8]))
+        & (reply.value == r[8])
         & (reply.second == r[9])
 }
 

@@ -1,12 +1,12 @@
 -- The listing of a well-formed state's words, as the functions over rows and text have it.
 -- Assumes nothing.
-use Prim.Native.Nat.{ℕ, _+_, _-_, _*_, _≤_}
+use Prim.Native.Nat.{ℕ, _+_, _*_, _≤_}
 use mathlib.Core.Path.{_≡_, sym, ap, _∙_}
 use mathlib.Core.Bool.{true, false}
 use mathlib.Core.List.{List, [], append-nil}
 use native.Mathlib.Omega.{arith}
 use lib.Dec.{eqb}
-use lib.ListN.{length, take, drop, drop-of-length-le}
+use lib.ListN.{length, take, drop}
 use lib.Seq.{take-at, length-take-le}
 use borrow.Author.Tests.{eq-eqb, ne-eqb}
 use Rattle.lists.specs.Lists.{Row, flat, put, chop}
@@ -17,7 +17,6 @@ use Rattle.definition.specs.Reference.Source.{dump4}
 use Rattle.definition.specs.Kept.Encode.{good-decode}
 use Rattle.definition.specs.Kept.Reading.{dump4-listing}
 use Rattle.endian.specs.Endian.{wordsOf}
-use Rattle.endian.specs.Laws.{length-wordsOf}
 use Rattle.print.specs.Print.{render, refusedLine}
 use Rattle.show.specs.Show.{shownWords, shown}
 
@@ -52,14 +51,6 @@ listed-rows rows buffer l n s e f =
     let long : length (flat rows) ≡ 32 * n = length-flat 32 rows s ∙ ap (λ (k : ℕ). 32 * k) (sym e) in
     let front : take (32 * n) buffer ≡ flat rows = ap (take (32 * n)) f ∙ take-at (flat rows) (drop (0 + length (flat rows)) l) (32 * n) long in
     rw (front, e) (rw append-nil at (chop-flat 32 rows [] s))
-
--- words as many as there is room for are all of it
-pub words-whole : (b l m : List ℕ) → length b ≡ 38028 → length l ≡ 9507 → m ≡ put 0 (wordsOf b) l → m ≡ wordsOf b
-unfolding put
-words-whole b l m h k e =
-    let long : length (wordsOf b) ≡ 9507 = omega (arith, length-wordsOf b) in
-    let none : drop (0 + length (wordsOf b)) l ≡ [] = drop-of-length-le l {i = 0 + length (wordsOf b)} (omega arith) in
-    e ∙ rw none (append-nil (wordsOf b))
 
 -- a run put at the start counts bytes of what it was put in
 pub counts-put : (vs l m : List ℕ) (r : ℕ) → r ≡ length vs → m ≡ put 0 vs l → r ≤ length l → (r ≤ length m) × (r ≡ length (take r m))

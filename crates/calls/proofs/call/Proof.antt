@@ -3,7 +3,9 @@
 use denote.Ref.{now}
 use lib.ListN.{length}
 use borrow.Author.Tests.{le-leb, lt-leb}
-use Rattle.calls.specs.Laws.{called-change, called-read}
+use Rattle.reply.specs.Told.{small}
+use Rattle.calls.specs.Numbered.{changeBy}
+use Rattle.calls.specs.Laws.{change-told, called-change, called-read}
 use borrow.Author.Needs.{needs}
 use Rattle.calls.proofs.call.Statement.{statement}
 use Rattle.calls.proofs.call.Tie as tie
@@ -15,7 +17,14 @@ change-requires : tie.Need-change-requires
 change-requires c κs = search needs
 
 done-requires : tie.Need-done-requires
-done-requires c κs = search needs
+done-requires c κs =
+    let k = c .before .before .before .before in
+    let a = k .before .before .before .before .before .before .before .before .args in
+    let t = k .before .before .clock-of .result in
+    let q = now (a .lent) in
+    let n = length (now (a .buffer)) in
+    let w = now (a .state) in
+    small (k .change .result) (changeBy (a .code) q t n w .reply) (k .change .ensures .answer) (change-told (a .code) q t n w)
 
 same-length : tie.Need-same-length
 same-length c = search needs

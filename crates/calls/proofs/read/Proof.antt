@@ -9,7 +9,9 @@ use Rattle.interface.specs.Answer.{numbers, foundBy, localBy, chosenBy, sourced
 use Rattle.dump.specs.Answer.{listedBy}
 use Rattle.address.specs.Row.{replyOf as address·replyOf}
 use Rattle.calls.specs.Numbered.{readBy, clockOf}
-use Rattle.calls.specs.Laws.{writes, answers, read-rest, dump4-says, lookup4-says, lookup4-flow-says, local4-says, source4-says, source-says, select4-says, local4-quiet, source4-quiet, source-quiet, select4-quiet, left-quiet}
+use Rattle.reply.specs.Reading.{lookup4-numbers, lookup4-flow-numbers, local4-numbers, source4-numbers, source-numbers, select4-numbers}
+use Rattle.reply.specs.Listing.{dump4-lists, listed-small}
+use Rattle.calls.specs.Laws.{writes, answers, read-rest, local4-quiet, source4-quiet, source-quiet, select4-quiet, left-quiet}
 use borrow.Author.Needs.{needs}
 use Rattle.calls.proofs.read.Statement.{statement}
 use Rattle.calls.proofs.read.Tie as tie
@@ -18,7 +20,12 @@ dump4-requires : tie.Need-dump4-requires
 dump4-requires c κs = search needs
 
 listed-requires : tie.Need-listed-requires
-listed-requires c κs = search needs
+listed-requires c κs =
+    let k = c .before .before in
+    let a = k .before .before .before .before .before .before .args in
+    let n = length (now (a .buffer)) in
+    let w = now (a .state) in
+    listed-small (k .dump4 .result) (dump4Call n w .reply) (k .dump4 .ensures .0) (dump4-lists w n)
 
 lookup4-requires : tie.Need-lookup4-requires
 lookup4-requires c κs = search needs
@@ -80,7 +87,7 @@ returns c =
     let z = a .c in
     let n = length (now (a .buffer)) in
     let w = now (a .state) in
-    writes (a .code) row x y z n w (dump4Call n w) (listedBy (k .dump4 .result)) (ap (λ (k : ℕ). readBy k row x y z n w) (sym (m .match .keys1))) (c .listed .ensures) (ap listedBy (k .dump4 .ensures .0) ∙ dump4-says w n) (k .dump4 .ensures .1)
+    writes (a .code) row x y z n w (dump4Call n w) (listedBy (k .dump4 .result)) (ap (λ (k : ℕ). readBy k row x y z n w) (sym (m .match .keys1))) (c .listed .ensures) (ap listedBy (k .dump4 .ensures .0) ∙ dump4-lists w n .says) (k .dump4 .ensures .1)
 
 same-length-2 : tie.Need-same-length-2
 same-length-2 c = search needs
@@ -97,7 +104,7 @@ returns-2 c =
     let z = a .c in
     let n = length (now (a .buffer)) in
     let w = now (a .state) in
-    writes (a .code) row x y z n w (lookup4Call n x w) (foundBy (k .lookup4 .result)) (ap (λ (k : ℕ). readBy k row x y z n w) (sym (m .match .keys2))) (c .found .ensures) (ap foundBy (k .lookup4 .ensures .0) ∙ lookup4-says w n x) (k .lookup4 .ensures .1)
+    writes (a .code) row x y z n w (lookup4Call n x w) (foundBy (k .lookup4 .result)) (ap (λ (k : ℕ). readBy k row x y z n w) (sym (m .match .keys2))) (c .found .ensures) (ap foundBy (k .lookup4 .ensures .0) ∙ lookup4-numbers w n x) (k .lookup4 .ensures .1)
 
 same-length-3 : tie.Need-same-length-3
 same-length-3 c = search needs
@@ -114,7 +121,7 @@ returns-3 c =
     let z = a .c in
     let n = length (now (a .buffer)) in
     let w = now (a .state) in
-    writes (a .code) row x y z n w (lookup4FlowCall n x y z w) (foundBy (k .lookup4-flow .result)) (ap (λ (k : ℕ). readBy k row x y z n w) (sym (m .match .keys3))) (c .found2 .ensures) (ap foundBy (k .lookup4-flow .ensures .0) ∙ lookup4-flow-says w n x y z) (k .lookup4-flow .ensures .1)
+    writes (a .code) row x y z n w (lookup4FlowCall n x y z w) (foundBy (k .lookup4-flow .result)) (ap (λ (k : ℕ). readBy k row x y z n w) (sym (m .match .keys3))) (c .found2 .ensures) (ap foundBy (k .lookup4-flow .ensures .0) ∙ lookup4-flow-numbers w n x y z) (k .lookup4-flow .ensures .1)
 
 returns-4 : tie.Need-returns-4
 unfolding readBy
@@ -128,7 +135,7 @@ returns-4 c =
     let z = a .c in
     let n = length (now (a .buffer)) in
     let w = now (a .state) in
-    answers (a .code) row x y z n w (local4Call x w) (localBy (k .local4 .result)) (ap (λ (k : ℕ). readBy k row x y z n w) (sym (m .match .keys4))) (c .local .ensures) (ap localBy (k .local4 .ensures) ∙ local4-says w x) (local4-quiet w x)
+    answers (a .code) row x y z n w (local4Call x w) (localBy (k .local4 .result)) (ap (λ (k : ℕ). readBy k row x y z n w) (sym (m .match .keys4))) (c .local .ensures) (ap localBy (k .local4 .ensures) ∙ local4-numbers w x) (local4-quiet w x)
 
 returns-5 : tie.Need-returns-5
 unfolding readBy
@@ -142,7 +149,7 @@ returns-5 c =
     let z = a .c in
     let n = length (now (a .buffer)) in
     let w = now (a .state) in
-    answers (a .code) row x y z n w (source4Call row x w) (chosenBy (k .source4 .result)) (ap (λ (k : ℕ). readBy k row x y z n w) (sym (m .match .keys5))) (c .chosen .ensures) (ap chosenBy (k .source4 .ensures) ∙ source4-says w row x) (source4-quiet w row x)
+    answers (a .code) row x y z n w (source4Call row x w) (chosenBy (k .source4 .result)) (ap (λ (k : ℕ). readBy k row x y z n w) (sym (m .match .keys5))) (c .chosen .ensures) (ap chosenBy (k .source4 .ensures) ∙ source4-numbers w row x) (source4-quiet w row x)
 
 returns-6 : tie.Need-returns-6
 unfolding readBy
@@ -156,7 +163,7 @@ returns-6 c =
     let z = a .c in
     let n = length (now (a .buffer)) in
     let w = now (a .state) in
-    answers (a .code) row x y z n w (sourceCall x w) (sourcedBy (k .source .result)) (ap (λ (k : ℕ). readBy k row x y z n w) (sym (m .match .keys6))) (c .sourced .ensures) (ap sourcedBy (k .source .ensures) ∙ source-says w x) (source-quiet w x)
+    answers (a .code) row x y z n w (sourceCall x w) (sourcedBy (k .source .result)) (ap (λ (k : ℕ). readBy k row x y z n w) (sym (m .match .keys6))) (c .sourced .ensures) (ap sourcedBy (k .source .ensures) ∙ source-numbers w x) (source-quiet w x)
 
 returns-7 : tie.Need-returns-7
 unfolding readBy
@@ -170,7 +177,7 @@ returns-7 c =
     let z = a .c in
     let n = length (now (a .buffer)) in
     let w = now (a .state) in
-    answers (a .code) row x y z n w (select4Call x y z w) (chosenBy (k .select4 .result)) (ap (λ (k : ℕ). readBy k row x y z n w) (sym (m .match .keys7))) (c .chosen2 .ensures) (ap chosenBy (k .select4 .ensures) ∙ select4-says w x y z) (select4-quiet w x y z)
+    answers (a .code) row x y z n w (select4Call x y z w) (chosenBy (k .select4 .result)) (ap (λ (k : ℕ). readBy k row x y z n w) (sym (m .match .keys7))) (c .chosen2 .ensures) (ap chosenBy (k .select4 .ensures) ∙ select4-numbers w x y z) (select4-quiet w x y z)
 
 returns-8 : tie.Need-returns-8
 returns-8 c =

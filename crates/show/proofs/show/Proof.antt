@@ -9,7 +9,8 @@ use denote.Ref.{now}
 use lib.ListN.{length}
 use Rattle.lists.specs.Lists.{put}
 use Rattle.show.specs.Show.{shown, shownWords}
-use Rattle.show.specs.Laws.{shown-words, shown-other, words-whole, counts-put}
+use Rattle.endian.specs.Laws.{words-whole}
+use Rattle.show.specs.Laws.{shown-words, shown-other, counts-put}
 use borrow.Author.Needs.{needs}
 use Rattle.show.proofs.show.Statement.{statement}
 use Rattle.show.proofs.show.Tie as tie
@@ -46,7 +47,7 @@ returns-2 c =
     let b = now (a .args .bytes) in
     let o = now (a .args .out) in
     let r = c .show-words .ensures in
-    let s = words-whole b _ _ (omega arith) refl (c .before .before .before .before .words-of .ensures) in
+    let s = words-whole 9507 b _ _ (omega arith) refl (c .before .before .before .before .words-of .ensures) in
     let e = ap shownWords s ∙ sym (shown-words b (omega arith)) in
     let m = r .1 .0 ∙ ap (λ (x : List ℕ). length x) e in
     let n = r .1 .1 ∙ ap (λ (x : List ℕ). put 0 x o) e in

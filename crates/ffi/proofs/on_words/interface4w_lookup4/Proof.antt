@@ -1,0 +1,28 @@
+-- `ffi::on_words::interface4w_lookup4` meets its contract.
+-- Assumes nothing.
+use mathlib.Core.Path.{ap, _∙_}
+use Rattle.reply.specs.Answer.{replyFrom}
+use Rattle.interface.specs.Answer.{foundBy}
+use Rattle.reply.specs.Reading.{lookup4-numbers}
+use lib.ListN.{length}
+use borrow.Author.Needs.{needs}
+use Rattle.ffi.proofs.on_words.interface4w_lookup4.Statement.{statement}
+use Rattle.ffi.proofs.on_words.interface4w_lookup4.Tie as tie
+
+lookup4-requires : tie.Need-lookup4-requires
+lookup4-requires c κs = search needs
+
+found-requires : tie.Need-found-requires
+found-requires c κs = search needs
+
+same-length : tie.Need-same-length
+same-length c = search needs
+
+returns : tie.Need-returns
+returns c =
+    let k = c .before .before .before in
+    let a = k .before .before .before .before .args in
+    (c .found .ensures ∙ ap replyFrom (ap foundBy (k .lookup4 .ensures .0) ∙ lookup4-numbers (a .state .now) (length (a .row .now)) (a .ip)), k .lookup4 .ensures .1)
+
+pub interface4w-lookup4-spec : {M : Type 1} → statement M
+interface4w-lookup4-spec = tie.close (tie.spec lookup4-requires found-requires same-length returns)

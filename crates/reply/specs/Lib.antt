@@ -1,0 +1,4 @@
+pub mod Answer
+pub mod Reading
+pub mod Listing
+pub mod Told
