@@ -1,2 +1,3 @@
 pub mod Answer
 pub mod Laws
+pub mod Numbers

@@ -13,7 +13,7 @@ ghost use Rattle.definition.specs.Words.{routeCount};
 ghost use Rattle.definition.specs.Reference.Lookup.{lookupIn};
 ghost use Rattle.definition.specs.Step.{lookup4Call, lookup4FlowCall, local4Call, source4Call, sourceCall, select4Call};
 ghost use Rattle.state.specs.Holds.{Holds, Valid};
-ghost use Rattle.interface.specs.Answer.{foundOf, localOf, chosenOf, sourcedOf, foundIn, rowsIn};
+ghost use Rattle.interface.specs.Answer.{numbers, foundBy, localBy, chosenBy, sourcedBy, foundOf, localOf, chosenOf, sourcedOf, foundIn, rowsIn};
 ghost use Rattle.interface.specs.Laws.{checked};
 
 // What a lookup answers; the row stands in the buffer that it was lent.
@@ -84,6 +84,7 @@ fn look(s: &[u32], row: &mut [u32], f: Flow) -> Found
 }
 
 pub fn lookup4(state: &[u32], row: &mut [u32], ip: u32) -> Found
+    ensures { λ r. ⌜ foundBy r ≡ numbers (lookup4Call (length (now (row .entry))) ip (now (state .entry)) .reply) ⌝ }
     ensures { λ r. ⌜ r ≡ foundOf (lookup4Call (length (now (row .entry))) ip (now (state .entry)) .reply) ⌝ }
     ensures { λ _. ⌜ now (row .exit) ≡ put 0 (flat (lookup4Call (length (now (row .entry))) ip (now (state .entry)) .reply .rows)) (now (row .entry)) ⌝ }
 {
@@ -104,6 +105,7 @@ pub fn lookup4(state: &[u32], row: &mut [u32], ip: u32) -> Found
 }
 
 pub fn lookup4_flow(state: &[u32], row: &mut [u32], ip: u32, tos: u32, oif: u32) -> Found
+    ensures { λ r. ⌜ foundBy r ≡ numbers (lookup4FlowCall (length (now (row .entry))) ip tos oif (now (state .entry)) .reply) ⌝ }
     ensures { λ r. ⌜ r ≡ foundOf (lookup4FlowCall (length (now (row .entry))) ip tos oif (now (state .entry)) .reply) ⌝ }
     ensures { λ _. ⌜ now (row .exit) ≡ put 0 (flat (lookup4FlowCall (length (now (row .entry))) ip tos oif (now (state .entry)) .reply .rows)) (now (row .entry)) ⌝ }
 {
@@ -124,6 +126,7 @@ pub fn lookup4_flow(state: &[u32], row: &mut [u32], ip: u32, tos: u32, oif: u32)
 }
 
 pub fn local4(state: &[u32], ip: u32) -> Local
+    ensures { λ r. ⌜ localBy r ≡ numbers (local4Call ip (now (state .entry)) .reply) ⌝ }
     ensures { λ r. ⌜ r ≡ localOf (local4Call ip (now (state .entry)) .reply) ⌝ }
 {
     let n = checked(state, true, true, true);
@@ -134,6 +137,7 @@ pub fn local4(state: &[u32], ip: u32) -> Local
 }
 
 pub fn source(state: &[u32], ip: u32) -> Sourced
+    ensures { λ r. ⌜ sourcedBy r ≡ numbers (sourceCall ip (now (state .entry)) .reply) ⌝ }
     ensures { λ r. ⌜ r ≡ sourcedOf (sourceCall ip (now (state .entry)) .reply) ⌝ }
 {
     let n = checked(state, true, true, true);
@@ -144,6 +148,7 @@ pub fn source(state: &[u32], ip: u32) -> Sourced
 }
 
 pub fn source4(state: &[u32], row: &[u32], ip: u32) -> Chosen
+    ensures { λ r. ⌜ chosenBy r ≡ numbers (source4Call (now (row .entry)) ip (now (state .entry)) .reply) ⌝ }
     ensures { λ r. ⌜ r ≡ chosenOf (source4Call (now (row .entry)) ip (now (state .entry)) .reply) ⌝ }
 {
     let n = checked(state, true, route::fit_route(row), true);
@@ -158,6 +163,7 @@ pub fn source4(state: &[u32], row: &[u32], ip: u32) -> Chosen
 }
 
 pub fn select4(state: &[u32], dst_present: u32, dst: u32, scope: u32) -> Chosen
+    ensures { λ r. ⌜ chosenBy r ≡ numbers (select4Call «dst_present» dst scope (now (state .entry)) .reply) ⌝ }
     ensures { λ r. ⌜ r ≡ chosenOf (select4Call «dst_present» dst scope (now (state .entry)) .reply) ⌝ }
 {
     let n = checked(

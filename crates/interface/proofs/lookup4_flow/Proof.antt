@@ -6,6 +6,7 @@ use Rattle.definition.specs.Words.{decode}
 use Rattle.definition.specs.Step.{lookup4FlowCall}
 use Rattle.definition.specs.Reference.Lookup.{lookup4Flow}
 use Rattle.interface.specs.Laws.{passed, valid, held, look-no, look-yes}
+use Rattle.interface.specs.Numbers.{lookup4-flow-says}
 use borrow.Author.Needs.{needs}
 use Rattle.interface.proofs.lookup4_flow.Statement.{statement}
 use Rattle.interface.proofs.lookup4_flow.Tie as tie
@@ -24,7 +25,10 @@ unfolding lookup4FlowCall lookup4Flow
 returns c =
     let k = c .before in
     let a = k .before .before .before .args in
+    let x =
     look-no (a .state .now) (a .row .now) (k .checked .result) (ltb (a .tos) 256) (record { ip = a .ip; tos = a .tos; scope = 0; oif = a .oif }) (k .checked .ensures) (c .if1 .taken)
+    in
+    (lookup4-flow-says (a .state .now) (length (a .row .now)) (a .ip) (a .tos) (a .oif) (x .0), x)
 
 -- src/lib.rt:106:5
 look-requires : tie.Need-look-requires
@@ -48,8 +52,11 @@ returns-2 c =
     let k = e .before in
     let a = k .before .before .before .args in
     let h = held (leb 32 (length (a .row .now))) true (ltb (a .tos) 256) (a .state .now) (k .checked .result) (k .checked .ensures) (e .if1 .left) in
+    let x =
     look-yes (a .state .now) (a .row .now) (k .checked .result) (ltb (a .tos) 256) (record { ip = a .ip; tos = a .tos; scope = 0; oif = a .oif }) (y .look .result) _ (k .checked .ensures) (e .if1 .left)
     (y .look .ensures .0 (decode (a .state .now)) h) (y .look .ensures .1 (decode (a .state .now)) h)
+    in
+    (lookup4-flow-says (a .state .now) (length (a .row .now)) (a .ip) (a .tos) (a .oif) (x .0), x)
 
 pub lookup4-flow-spec : {M : Type 1} → statement M
 lookup4-flow-spec =

@@ -4,6 +4,7 @@ use lib.Dec.{ltb}
 use Rattle.definition.specs.Words.{decode}
 use Rattle.interface.specs.Answer.{chosenFor}
 use Rattle.interface.specs.Laws.{valid, held, select-no, select-yes}
+use Rattle.interface.specs.Numbers.{select4-says}
 use borrow.Author.Needs.{needs}
 use Rattle.interface.proofs.select4.Statement.{statement}
 use Rattle.interface.proofs.select4.Tie as tie
@@ -27,7 +28,10 @@ returns c =
     let k = c .before in
     let r = k .before in
     let a = r .before .before .args in
+    let x =
     select-no (a .state .now) (k .checked .result) (a .dst-present) (a .dst) (a .scope) (r .fit-optional .result) (r .fit-optional .ensures) (k .checked .ensures) (c .if1 .taken)
+    in
+    (select4-says (a .state .now) (a .dst-present) (a .dst) (a .scope) x, x)
 
 -- src/lib.rt:164:9
 select4-requires : tie.Need-select4-requires
@@ -52,9 +56,12 @@ returns-2 c =
     let k = y .before .before in
     let r = k .before in
     let a = r .before .before .args in
+    let x =
     ap chosenFor (sym (c .before .selected .given .1))
     ∙ select-yes (a .state .now) (k .checked .result) (a .dst-present) (a .dst) (a .scope) (r .fit-optional .result) (r .fit-optional .ensures) (y .select4 .result) (k .checked .ensures) (y .before .if1 .left)
     (y .select4 .ensures (decode (a .state .now)) (held true true (r .fit-optional .result && ltb (a .scope) 256) (a .state .now) (k .checked .result) (k .checked .ensures) (y .before .if1 .left)))
+    in
+    (select4-says (a .state .now) (a .dst-present) (a .dst) (a .scope) x, x)
 
 -- src/lib.rt:152:1
 returns-3 : tie.Need-returns-3
@@ -63,9 +70,12 @@ returns-3 c =
     let k = y .before .before in
     let r = k .before in
     let a = r .before .before .args in
+    let x =
     ap chosenFor (sym (c .enum-told .given .1))
     ∙ select-yes (a .state .now) (k .checked .result) (a .dst-present) (a .dst) (a .scope) (r .fit-optional .result) (r .fit-optional .ensures) (y .select4 .result) (k .checked .ensures) (y .before .if1 .left)
     (y .select4 .ensures (decode (a .state .now)) (held true true (r .fit-optional .result && ltb (a .scope) 256) (a .state .now) (k .checked .result) (k .checked .ensures) (y .before .if1 .left)))
+    in
+    (select4-says (a .state .now) (a .dst-present) (a .dst) (a .scope) x, x)
 
 pub select4-spec : {M : Type 1} → statement M
 select4-spec =

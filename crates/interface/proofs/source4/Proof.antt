@@ -4,6 +4,7 @@ use Rattle.definition.specs.Words.{decode}
 use Rattle.definition.specs.Kept.Fit.{length-route}
 use Rattle.interface.specs.Answer.{chosenFor}
 use Rattle.interface.specs.Laws.{valid, held, passed, source4-no, source4-yes}
+use Rattle.interface.specs.Numbers.{source4-says}
 use borrow.Author.Needs.{needs}
 use Rattle.interface.proofs.source4.Statement.{statement}
 use Rattle.interface.proofs.source4.Tie as tie
@@ -27,7 +28,10 @@ returns c =
     let k = c .before in
     let r = k .before in
     let a = r .before .before .before .args in
+    let x =
     source4-no (a .state .now) (k .checked .result) (a .ip) (a .row .now) (r .fit-route .result) (r .fit-route .ensures) (k .checked .ensures) (c .if1 .taken)
+    in
+    (source4-says (a .state .now) (a .row .now) (a .ip) x, x)
 
 -- src/lib.rt:145:9
 source4-requires : tie.Need-source4-requires
@@ -55,9 +59,12 @@ returns-2 c =
     let k = y .before .before in
     let r = k .before in
     let a = r .before .before .before .args in
+    let x =
     ap chosenFor (sym (c .before .selected .given .1))
     ∙ source4-yes (a .state .now) (k .checked .result) (a .ip) (a .row .now) (r .fit-route .result) (r .fit-route .ensures) (y .source4 .result) (k .checked .ensures) (y .before .if1 .left)
     (y .source4 .ensures (decode (a .state .now)) (held true (r .fit-route .result) true (a .state .now) (k .checked .result) (k .checked .ensures) (y .before .if1 .left)))
+    in
+    (source4-says (a .state .now) (a .row .now) (a .ip) x, x)
 
 -- src/lib.rt:138:1
 returns-3 : tie.Need-returns-3
@@ -66,9 +73,12 @@ returns-3 c =
     let k = y .before .before in
     let r = k .before in
     let a = r .before .before .before .args in
+    let x =
     ap chosenFor (sym (c .enum-told .given .1))
     ∙ source4-yes (a .state .now) (k .checked .result) (a .ip) (a .row .now) (r .fit-route .result) (r .fit-route .ensures) (y .source4 .result) (k .checked .ensures) (y .before .if1 .left)
     (y .source4 .ensures (decode (a .state .now)) (held true (r .fit-route .result) true (a .state .now) (k .checked .result) (k .checked .ensures) (y .before .if1 .left)))
+    in
+    (source4-says (a .state .now) (a .row .now) (a .ip) x, x)
 
 pub source4-spec : {M : Type 1} → statement M
 source4-spec =
