@@ -17,7 +17,7 @@ use Rattle.additions.proofs.add_v4.Statement.{statement}
 use Rattle.additions.proofs.add_v4.Tie as tie
 use Rattle.additions.proofs.add_v4.Reads as reads
 use Rattle.additions.proofs.add_v4.Lts as lts
-use Rattle.additions.proofs.fit_add_v4.Reads as fit-add-v4-reads
+use Rattle.fit.proofs.fit_add_v4.Reads as fit-add-v4-reads
 use Rattle.interface.proofs.checked.Reads as checked-reads
 use Rattle.whole.proofs.add_v4.Reads as add-v4-reads
 

@@ -14,7 +14,7 @@ use Rattle.changes.proofs.add_route4.Statement.{statement}
 use Rattle.changes.proofs.add_route4.Tie as tie
 use Rattle.changes.proofs.add_route4.Reads as reads
 use Rattle.changes.proofs.add_route4.Lts as lts
-use Rattle.changes.proofs.fit_add_route4.Reads as fit-add-route4-reads
+use Rattle.fit.proofs.fit_add_route4.Reads as fit-add-route4-reads
 use Rattle.changes.proofs.public_of.Reads as public-of-reads
 use Rattle.interface.proofs.checked.Reads as checked-reads
 use Rattle.request.proofs.add_route4.Reads as add-route4-reads

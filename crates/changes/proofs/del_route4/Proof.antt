@@ -14,7 +14,7 @@ use Rattle.changes.proofs.del_route4.Statement.{statement}
 use Rattle.changes.proofs.del_route4.Tie as tie
 use Rattle.changes.proofs.del_route4.Reads as reads
 use Rattle.changes.proofs.del_route4.Lts as lts
-use Rattle.changes.proofs.fit_del_route4.Reads as fit-del-route4-reads
+use Rattle.fit.proofs.fit_del_route4.Reads as fit-del-route4-reads
 use Rattle.changes.proofs.public_of.Reads as public-of-reads
 use Rattle.interface.proofs.checked.Reads as checked-reads
 use Rattle.request.proofs.del_route4.Reads as del-route4-reads

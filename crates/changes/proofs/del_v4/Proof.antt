@@ -13,7 +13,7 @@ use Rattle.changes.proofs.del_v4.Statement.{statement}
 use Rattle.changes.proofs.del_v4.Tie as tie
 use Rattle.changes.proofs.del_v4.Reads as reads
 use Rattle.changes.proofs.del_v4.Lts as lts
-use Rattle.changes.proofs.fit_del_v4.Reads as fit-del-v4-reads
+use Rattle.fit.proofs.fit_del_v4.Reads as fit-del-v4-reads
 use Rattle.delv4.proofs.del_v4.Reads as del-v4-reads
 use Rattle.interface.proofs.checked.Reads as checked-reads
 
