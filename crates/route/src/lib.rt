@@ -7,7 +7,6 @@ ghost use Prim.Native.Nat.{_≤_};
 ghost use lib.Dec.{eqb};
 ghost use lib.ListN.{length};
 ghost use Rattle.prefix.specs.Mask.{hostBits};
-ghost use Rattle.layout.specs.Address.{optional};
 ghost use mathlib.Core.Bool.{true};
 ghost use lib.ListN.{drop};
 ghost use Rattle.kind.specs.Kind.{kindOf};
@@ -140,13 +139,6 @@ fn no_host_bits(ip: u32, prefix: u32) -> bool
     ((ip as u64) << prefix) & 0xffff_ffff == 0
 }
 
-// A value may stand beside its mark: any beside 1, only 0 beside 0.
-fn fit_optional(present: u32, value: u32) -> bool
-    ensures { λ r. ⌜ r ≡ optional present value ⌝ }
-{
-    (present == 1) | ((present == 0) & (value == 0))
-}
-
 // The row could stand in a well-formed state. Tests of one kind are side by side, so that they are done as one.
 pub fn fit_route(r: &[u32]) -> bool
     ensures { λ x. ⌜ x ≡ fitRoute (now (r .entry)) ⌝ }
@@ -162,8 +154,8 @@ pub fn fit_route(r: &[u32]) -> bool
         & (r[6] < 256)
         & (r[7] < 256)
         & kind::is_kind(r[5])
-        & fit_optional(r[8], r[9])
-        & fit_optional(r[10], r[11])
+        & address::fit_optional(r[8], r[9])
+        & address::fit_optional(r[10], r[11])
         & (r[12] <= 1)
         & (r[13] <= 1)
         & (r[14] <= 1)
