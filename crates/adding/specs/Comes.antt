@@ -6,7 +6,7 @@ use mathlib.Core.Path.{_≡_, refl, sym, ap, subst, _∙_}
 use mathlib.Core.Bool.{Bool, true, false, cond}
 use mathlib.Core.List.{List, []}
 use lib.ListN.{length, take, drop}
-use Rattle.lists.specs.All.{test-case, true-false}
+use Rattle.lists.specs.Bools.{test-case, true-false}
 use Rattle.lists.specs.Lists.{put, flat}
 use Rattle.definition.specs.State.{State, Out, stays}
 use Rattle.definition.specs.Words.{within}

@@ -22,7 +22,7 @@ use Rattle.definition.specs.Kept.Keeps.{Keeps, through-keeps, keeps-fit}
 use Rattle.definition.specs.Kept.Rows.{candidates-fit}
 use Rattle.definition.specs.Kept.Addresses.{bring-keeps}
 use Rattle.definition.specs.Kept.Growing as Growing
-use Rattle.state.specs.Holds.{Holds, Valid, count-addresses}
+use Rattle.state.specs.Holds.{Holds, Valid, count-addresses, Sound, sound-valid}
 use Rattle.events.specs.Step.{rest}
 use Rattle.steps.specs.Does.{does-length}
 use Rattle.steps.specs.Adds.{Adds, joined, holds-within, adds-rows, adds-also, adds-stop}
@@ -30,7 +30,7 @@ use Rattle.steps.specs.Through.{Covered, covered-through, adds-start, adds-next
 use Rattle.steps.specs.declared.Told.{Told}
 use Rattle.steps.specs.declared.Told.the-variants.{Rows, Full}
 use Rattle.kernel.specs.Add.{kernelAdd4-covered}
-use Rattle.bring.specs.Sound.{Sound, AddsFrom, Leaves, sound-valid, adds-holds, adds-sound, through-leaves, kernelAdd4-leaves}
+use Rattle.bring.specs.Sound.{AddsFrom, Leaves, adds-holds, adds-sound, through-leaves, kernelAdd4-leaves}
 use Rattle.bring.specs.Bring.{block-rows, block-ready}
 use Rattle.adding.specs.Added.{loopback-keeps}
 

@@ -10,7 +10,7 @@ use lib.ListN.{length}
 use mir.Val.{boolByte}
 use borrow.Author.Tests.{eqb-true, ne-eqb}
 use Rattle.lists.specs.Lists.{Row, flat, put}
-use Rattle.lists.specs.All.{cond-case, cond-true, cond-false, test-case}
+use Rattle.lists.specs.Bools.{cond-case, cond-true, cond-false, test-case}
 use Rattle.lists.specs.Put.{put-none}
 use Rattle.life.specs.Life.{allowance}
 use Rattle.layout.specs.Address.{optional, fitAddress}

@@ -6,7 +6,8 @@ use mathlib.Core.List.{List, [], _∷_, _++_, map}
 use lib.Dec.{leb}
 use borrow.Author.Tests.{eqb-true}
 use Rattle.lists.specs.Lists.{Row, all, keep}
-use Rattle.lists.specs.All.{and-iff, all-append, all-cons, all-keep, all-map, all-tail}
+use Rattle.lists.specs.Bools.{and-iff}
+use Rattle.lists.specs.All.{all-append, all-cons, all-keep, all-map, all-tail}
 use Rattle.prefix.specs.Mask.{hostBits}
 use Rattle.layout.specs.Address.{prefix}
 use Rattle.layout.specs.Route.{fitRoute, dst, len, kind, prefsrc}

@@ -7,7 +7,7 @@ use mathlib.Core.List.{List, []}
 use lib.Dec.{eqb}
 use lib.ListN.{length}
 use borrow.Author.Tests.{ne-eqb, eqb-true, leb-true}
-use Rattle.lists.specs.All.{and-left, and-right}
+use Rattle.lists.specs.Bools.{and-left, and-right}
 use Rattle.lists.specs.Lists.{Row, flat, put}
 use Rattle.definition.specs.State.{State, Out, sizes}
 use Rattle.definition.specs.Words.{within, stateSize, encode, decode, wellFormed, fitState}
@@ -16,8 +16,9 @@ use Rattle.definition.specs.Step.{Result, checks, changing, outcome, requestIs,
 use Rattle.definition.specs.Kept.Encode.{good-decode, encode-decode}
 use Rattle.definition.specs.Reference.Addresses.{Outcome, goes, refused}
 use Rattle.definition.specs.Kept.Numbers.{Numbered}
+use Rattle.state.specs.Holds.{Sound}
 use Rattle.request.specs.declared.Done as request
-use Rattle.request.specs.Done.{Requested, Sound}
+use Rattle.request.specs.Done.{Requested}
 use Rattle.interface.specs.Laws.{checked, passed, held}
 use Rattle.changes.specs.declared.Done.{Done}
 use Rattle.changes.specs.declared.Done.the-variants.{Refused, Rows}
@@ -63,7 +64,7 @@ sized-first false room fit w = no-room (eqb (length w) stateSize) (wellFormed w 
 pub sound : (buffers request : Bool) (w : List ℕ) (n : ℕ) → n ≡ checked buffers true request w → n ≡ 0 → Sound w
 sound buffers request w n c z =
     let p = passed buffers true request w n c z in
-    record { state = decode w; holding = held buffers true request w n c z; fits = good-decode w (p .long) (p .formed) .fits }
+    record { state = decode w; holds = held buffers true request w n c z; fits = good-decode w (p .long) (p .formed) .fits }
 
 pub fit-decoded : (buffers request : Bool) (w : List ℕ) (n : ℕ) → n ≡ checked buffers true request w → n ≡ 0 → fitState (decode w) ≡ true
 fit-decoded buffers request w n c z =

@@ -9,7 +9,8 @@ use lib.ListN.{length}
 use borrow.Author.Tests.{leb-true}
 use Rattle.lists.specs.Lists.{flat, put}
 use Rattle.lists.specs.Count.{count-most}
-use Rattle.lists.specs.All.{and-iff}
+use Rattle.lists.specs.Bools.{and-iff}
+use Rattle.lists.specs.Put.{put-no-rows}
 use Rattle.life.specs.Life.{allowance}
 use Rattle.definition.specs.State.{State, Out}
 use Rattle.definition.specs.Words.{within, encode, decode}
@@ -29,7 +30,7 @@ use Rattle.delv4.specs.declared.Deleted as Deleted
 use Rattle.delv4.specs.declared.Deleted.{Deleted}
 use Rattle.delv4.specs.Asked.{Deletes}
 use Rattle.changes.specs.Answer.{deletedOf}
-use Rattle.changes.specs.Laws.{Answers, answers-refused, change-refused, change-made, kept}
+use Rattle.changes.specs.Laws.{Answers, answers-refused, change-refused, change-made}
 use Rattle.changes.specs.Requests.{answers-by, by-fit}
 
 -- 384 rows suffice
@@ -94,4 +95,4 @@ module _ (q w ev : List ℕ) (n : ℕ) (fitted flag : Bool) (k : flag ≡ (reque
       (asks ∙ ap (λ (o : Outcome). outcome o w) (t .is)) roomy-here (t .step)
   deletes-answers w′ ev′ Deleted.the-variants.Nothing t =
       answers-by (changing (requestIs delV4Size q && eventsFit (length ev)) fitted (delV4 q) w) (record { reply = refusal 99; words = encode (decode w) }) w′ ev ev′ (Refused 99)
-      (asks ∙ ap (λ (o : Outcome). outcome o w) (t .0) ∙ rw (good .limits) refl) refl (t .1 .words) (t .2 ∙ kept ev)
+      (asks ∙ ap (λ (o : Outcome). outcome o w) (t .0) ∙ rw (good .limits) refl) refl (t .1 .words) (t .2 ∙ put-no-rows ev)

@@ -11,7 +11,8 @@ use lib.ListN.{length, take, drop, length-append, length-drop}
 use lib.Seq.{length-take-le}
 use borrow.Author.Tests.{eq-eqb}
 use Rattle.lists.specs.Lists.{Row, flat, put}
-use Rattle.lists.specs.All.{all-append, and-both}
+use Rattle.lists.specs.Bools.{and-both}
+use Rattle.lists.specs.All.{all-append}
 use Rattle.lists.specs.Rows.{sized, length-flat, length-put}
 use Rattle.lists.specs.Put.{put-none, put-behind, put-part}
 use Rattle.lists.specs.At.{flat-append, flat-cons}

@@ -10,7 +10,8 @@ use lib.Dec.{eqb, ltb}
 use lib.ListN.{length, getD, take, drop, set, length-append}
 use borrow.Author.Tests.{lt-ltb, le-ltb, ltb-true, ltb-false}
 use Rattle.lists.specs.Lists.{Row, all, any, eqRow, put, zeros}
-use Rattle.lists.specs.All.{cond-true, cond-false, test-case, eqRow-refl}
+use Rattle.lists.specs.Bools.{cond-true, cond-false, test-case}
+use Rattle.lists.specs.All.{eqRow-refl}
 use Rattle.lists.specs.At.{all-at}
 use Rattle.lists.specs.Rows.{length-zeros}
 use Rattle.life.specs.Life.{reached}

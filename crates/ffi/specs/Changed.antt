@@ -13,7 +13,7 @@ use borrow.Author.Tests.{eqb-true, leb-true}
 use Rattle.lists.specs.Lists.{Row, flat, put}
 use Rattle.lists.specs.Put.{put-whole}
 use Rattle.lists.specs.Rows.{length-flat}
-use Rattle.lists.specs.All.{cond-true, cond-false, and-left, and-right}
+use Rattle.lists.specs.Bools.{cond-true, cond-false, and-left, and-right}
 use Rattle.definition.specs.Call as Call
 use Rattle.definition.specs.Step.{Result}
 use Rattle.endian.specs.Endian.{bytesOf}

@@ -9,7 +9,7 @@ use lib.Dec.{eqb, leb, ltb}
 use lib.ListN.{length}
 use borrow.Author.Tests.{eqb-true}
 use Rattle.lists.specs.Lists.{Row}
-use Rattle.lists.specs.All.{cond-case, test-case}
+use Rattle.lists.specs.Bools.{cond-case, test-case}
 use Rattle.layout.specs.Address.{optional}
 use Rattle.layout.specs.Route.{fitRoute}
 use Rattle.definition.specs.State.{State}

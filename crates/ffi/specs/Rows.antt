@@ -10,7 +10,7 @@ use lib.ListN.{length}
 use borrow.Author.Tests.{eqb-true, eqb-false, ne-eqb}
 use mir.Val.{boolByte}
 use Rattle.lists.specs.Lists.{flat}
-use Rattle.lists.specs.All.{cond-case, test-case, and-left}
+use Rattle.lists.specs.Bools.{cond-case, test-case, and-left}
 use Rattle.lists.specs.Rows.{sized}
 use Rattle.definition.specs.State.{State}
 use Rattle.definition.specs.Words.{stateSize, decode, wellFormed}

@@ -10,7 +10,7 @@ use lib.Dec.{eqb}
 use lib.ListN.{length}
 use borrow.Author.Tests.{eqb-true}
 use Rattle.lists.specs.Lists.{Row}
-use Rattle.lists.specs.All.{cond-case, test-case}
+use Rattle.lists.specs.Bools.{cond-case, test-case}
 use Rattle.lists.specs.Rows.{sized}
 use Rattle.definition.specs.State.{State, sizes}
 use Rattle.definition.specs.Words.{stateSize, decode, wellFormed, within}

@@ -9,7 +9,7 @@ use lib.Dec.{leb}
 use lib.ListN.{length}
 use borrow.Author.Tests.{lt-leb}
 use Rattle.lists.specs.Lists.{Row, put}
-use Rattle.lists.specs.All.{test-case}
+use Rattle.lists.specs.Bools.{test-case}
 use Rattle.layout.specs.Route.{table, fitRoute}
 use Rattle.layout.specs.Event.{newRoute4}
 use Rattle.definition.specs.State.{State, Out, sizes, withRoutes, withTables}

@@ -10,7 +10,7 @@ use lib.Dec.{eqb}
 use lib.ListN.{length, getD, take, drop, drop-of-length-le, length-append}
 use lib.Seq.{drop-cons}
 use Rattle.lists.specs.Lists.{Row, any, keep, removeFirst, eqRow}
-use Rattle.lists.specs.All.{test-case, cond-case}
+use Rattle.lists.specs.Bools.{test-case, cond-case}
 use Rattle.lists.specs.Count.{count, length-removeFirst, count-removeFirst}
 use Rattle.layout.specs.Address.{local}
 use Rattle.layout.specs.Route as Route

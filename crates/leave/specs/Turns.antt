@@ -8,7 +8,7 @@ use native.Mathlib.Omega.{arith}
 use lib.Dec.{eqb, lit<}
 use lib.ListN.{length, getD, take, drop}
 use Rattle.lists.specs.Lists.{Row, any, keep}
-use Rattle.lists.specs.All.{cond-true, cond-false, cond-case}
+use Rattle.lists.specs.Bools.{cond-true, cond-false, cond-case}
 use Rattle.lists.specs.Count.{count-most}
 use Rattle.lists.specs.Laid.{Laid, Lays, laid-part}
 use Rattle.lists.specs.Pass.{part, laid-rows}

@@ -10,7 +10,8 @@ use lib.Dec.{eqb}
 use borrow.Author.Tests.{eqb-true, eq-eqb}
 use lib.ListN.{length, length-append}
 use Rattle.lists.specs.Lists.{Row, all, any, keep, first, until, onward, removeFirst, replaceFirst, behindLast, pairwise, each, eqRow}
-use Rattle.lists.specs.All.{all-append, not-both, pairwise-head, pairwise-tail, all-kept, fails, cond-case, test-case, true-false, or-case, or-false, or-left, or-right, all-head, all-tail, eqRow-true, eq-eqRow, eqRow-refl}
+use Rattle.lists.specs.Bools.{not-both, fails, cond-case, test-case, true-false, or-case, or-false, or-left, or-right}
+use Rattle.lists.specs.All.{all-append, pairwise-head, pairwise-tail, all-kept, all-head, all-tail, eqRow-true, eq-eqRow, eqRow-refl}
 
 -- 1 where a test passes
 abbrev pub tick : Bool → ℕ
@@ -45,6 +46,9 @@ module _ {A : Type 0} where
   pub count-most : (p : A → Bool) (l : List A) → count p l ≤ length l
   count-most p [] = omega arith
   count-most p (x ∷ l) = omega (arith, count-most p l, tick-most (p x))
+
+  pub length-keep-most : (p : A → Bool) (l : List A) → length (keep p l) ≤ length l
+  length-keep-most p l = omega (arith, length-keep p l, count-most p l)
 
   pub count-append : (p : A → Bool) (l m : List A) → count p (l ++ m) ≡ count p l + count p m
   count-append p [] m = omega arith

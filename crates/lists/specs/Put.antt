@@ -8,7 +8,7 @@ use native.Mathlib.Numerals.{add-one}
 use native.Mathlib.Omega.{arith}
 use lib.ListN.{length, getD, set, take, drop, length-append, length-drop, take-append-drop, List·getD-append, drop-of-length-le}
 use lib.Seq.{length-take-le, take-at, drop-at, set-at, drop-cons, take-suc, set-split, drop-append-add, drop-drop, take-add, getD-take, getD-drop, getD-append-add}
-use Rattle.lists.specs.Lists.{zeros, span, put}
+use Rattle.lists.specs.Lists.{zeros, span, put, flat}
 use Rattle.lists.specs.Rows.{length-zeros, length-span}
 
 -- ---- a list cut in three: what is before, the run, what is behind
@@ -122,6 +122,11 @@ module _ (at : ℕ) (vs l : List ℕ) (h : at + length vs ≤ length l) where
 pub put-none : (at : ℕ) (l : List ℕ) → l ≡ put at [] l
 unfolding put
 put-none at l = sym (rw (add-zero at, take-append-drop at l))
+
+-- no rows
+pub put-no-rows : (l : List ℕ) → l ≡ put 0 (flat []) l
+unfolding flat
+put-no-rows l = put-none 0 l
 
 pub put-more : (at : ℕ) (vs : List ℕ) (v : ℕ) (l : List ℕ) → at + length vs < length l → set (put at vs l) (at + length vs) v ≡ put at (vs ++ (v ∷ [])) l
 unfolding put

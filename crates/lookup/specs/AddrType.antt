@@ -15,7 +15,7 @@ use Rattle.layout.specs.Route.{kind, fitRoute}
 use Rattle.definition.specs.State.{State}
 use Rattle.definition.specs.Reference.Lookup.{Flow, answer, flowTo, typeSet, kindFound, addrType4, local4, listed, localTable, unicastKind, localKind, broadcastKind}
 use Rattle.lists.specs.Place.{nothing-from, something-at}
-use Rattle.lookup.specs.Pass.{laid-count}
+use Rattle.lists.specs.Pass.{laid-rows}
 
 abbrev pub typeRows : Bool → (ℕ → Bool) → List Row → ℕ → ℕ
 typeRows b set l ip = cond b (kindFound (answer set (flowTo ip) l)) broadcastKind
@@ -33,12 +33,12 @@ local-rows st ip = refl
 
 module _ (w : List ℕ) (n : ℕ) (long : length w ≡ 32 * n) (l : List Row) (h : Laid 32 fitRoute w l) (set : ℕ → Bool) (ip place : ℕ) (found : answer set (flowTo ip) l ≡ getElem? l place) where
   pub type-none : n ≤ place → unicastKind ≡ typeRows true set l ip
-  type-none b = rw (found, nothing-from l place (omega (arith, laid-count w n long l h)))
+  type-none b = rw (found, nothing-from l place (omega (arith, laid-rows w n (lit< tt) long l h)))
 
   module _ (b : place < n) (e : ℕ) (q : e ≡ errorOf (getD w (32 * place + 5) 0)) where
     there : (getElem? l place ≡ some (getD l place [])) × (getD w (32 * place + 5) 0 ≡ kind (getD l place []))
     there =
-        let b′ : place < length l = omega (arith, laid-count w n long l h) in
+        let b′ : place < length l = omega (arith, laid-rows w n (lit< tt) long l h) in
         (something-at l place [] b′, laid-word h place 5 b′ (lit< tt))
 
     pub type-rejects : (e ≡ 0 → ⊥) → unicastKind ≡ typeRows true set l ip

@@ -10,7 +10,7 @@ use lib.ListN.{length, getD, getElem?, take, drop, length-drop}
 use lib.Seq.{length-take-le}
 use borrow.Author.Tests.{eqb-true}
 use Rattle.lists.specs.Lists.{Row, span, put, first, removeFirst}
-use Rattle.lists.specs.All.{fails, and-iff}
+use Rattle.lists.specs.Bools.{fails, and-iff}
 use Rattle.lists.specs.Count.{count}
 use Rattle.lists.specs.At.{removeAt, sized-at}
 use Rattle.lists.specs.Place.{placeOf, first-at, remove-at, nothing-from, something-at}

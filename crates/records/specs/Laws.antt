@@ -12,7 +12,7 @@ use lib.ListN.{length, getD, take, set}
 use lib.Seq.{take-suc, take-suc-set}
 use borrow.Author.Tests.{le-ltb}
 use Rattle.lists.specs.Lists.{Row, first}
-use Rattle.lists.specs.All.{test-case, and-left, and-right, and-rest}
+use Rattle.lists.specs.Bools.{test-case, and-left, and-right, and-rest}
 use Rattle.layout.specs.Address.{local, secondary, fitAddress}
 use Rattle.definition.specs.State.{State}
 use Rattle.definition.specs.Words.{addressCount, decode}

@@ -10,7 +10,8 @@ use borrow.Author.Tests.{eq-eqb}
 use lib.ListN.{length, getD, take, drop, drop-of-length-le, length-append}
 use lib.Seq.{take-at, drop-at}
 use Rattle.lists.specs.Lists.{Row, any, all, keep, removeFirst, eqRow, put, flat, zeros, span}
-use Rattle.lists.specs.All.{all-first, eqRow-true, eqRow-refl, or-case, all-head, all-tail, cond-true, cond-false, and-both, all-append, all-map, all-keep}
+use Rattle.lists.specs.Bools.{or-case, cond-true, cond-false, and-both}
+use Rattle.lists.specs.All.{all-first, eqRow-true, eqRow-refl, all-head, all-tail, all-append, all-map, all-keep}
 use Rattle.lists.specs.At.{removeAt}
 use Rattle.lists.specs.Rows.{length-zeros, sized, length-flat}
 use Rattle.lists.specs.Count.{count, length-removeFirst, count-removeFirst}

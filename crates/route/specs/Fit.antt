@@ -11,7 +11,7 @@ use lib.ListN.{length}
 use lib.Pow.{shl-shr, mod-mod-pow, mod-pow-add}
 use borrow.Author.Tests.{eq-eqb, ne-eqb, le-leb, eqb-true, eqb-false}
 use Rattle.lists.specs.Lists.{Row}
-use Rattle.lists.specs.All.{test-case}
+use Rattle.lists.specs.Bools.{test-case}
 use Rattle.prefix.specs.Mask.{hostBits}
 use Rattle.kind.specs.Kind.{isKind}
 use Rattle.layout.specs.Address.{optional}

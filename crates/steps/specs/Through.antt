@@ -8,7 +8,7 @@ use native.Mathlib.Omega.{arith}
 use lib.ListN.{length, getD, take, drop}
 use lib.Seq.{take-all}
 use Rattle.lists.specs.Lists.{Row}
-use Rattle.lists.specs.All.{test-case, true-false, and-rest, and-right}
+use Rattle.lists.specs.Bools.{test-case, true-false, and-rest, and-right}
 use Rattle.lists.specs.Split.{take-more}
 use Rattle.definition.specs.State.{State, Out, sizes, becomes, stays, also, through}
 use Rattle.definition.specs.Words.{within}

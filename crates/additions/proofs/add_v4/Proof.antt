@@ -9,9 +9,9 @@ use Rattle.definition.specs.Reference.Addresses.{addV4}
 use Rattle.definition.specs.Kept.Numbers.{addV4-number}
 use Rattle.interface.specs.Laws.{held}
 use Rattle.changes.specs.Laws.{change-made}
-use Rattle.changes.specs.Requests.{by-fit, request-no, request-fits, encoded}
+use Rattle.changes.specs.Requests.{by-fit, request-no, request-fits, encoded, sound}
 use Rattle.definition.specs.Laws.Refusals.{addV4-leaves}
-use Rattle.additions.specs.Laws.{cameOf, comes-answers, good-passed, bring-sound}
+use Rattle.additions.specs.Laws.{cameOf, comes-answers, good-passed}
 use borrow.Author.Needs.{needs}
 use Rattle.additions.proofs.add_v4.Statement.{statement}
 use Rattle.additions.proofs.add_v4.Tie as tie
@@ -51,7 +51,7 @@ add-v4-requires c κs =
     let i = k .before .before in
     let a = i .before .before .before .before .args in
     let p = request-fits (a .q .now) (a .state .now) (a .events .now) (k .checked .result) addV4Size (fitAddV4 (a .q .now)) (i .fit-add-v4 .result) (addV4 (a .q .now) (a .clock)) (i .fit-add-v4 .ensures) (k .checked .ensures) (e .if1 .left) in
-    (bring-sound (requestIs addV4Size (a .q .now) && eventsFit (length (a .events .now))) (fitAddV4 (a .q .now)) (a .state .now) (k .checked .result) (by-fit (a .q .now) (a .state .now) (a .events .now) (k .checked .result) addV4Size (fitAddV4 (a .q .now)) (i .fit-add-v4 .result) (addV4 (a .q .now) (a .clock)) (i .fit-add-v4 .ensures) (k .checked .ensures)) (e .if1 .left), ((p .0, p .1), omega (arith, p .2)))
+    (sound (requestIs addV4Size (a .q .now) && eventsFit (length (a .events .now))) (fitAddV4 (a .q .now)) (a .state .now) (k .checked .result) (by-fit (a .q .now) (a .state .now) (a .events .now) (k .checked .result) addV4Size (fitAddV4 (a .q .now)) (i .fit-add-v4 .result) (addV4 (a .q .now) (a .clock)) (i .fit-add-v4 .ensures) (k .checked .ensures)) (e .if1 .left), ((p .0, p .1), omega (arith, p .2)))
 
 -- src/lib.rt:33:28
 enum-known-came : tie.Need-enum-known-came

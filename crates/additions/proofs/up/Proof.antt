@@ -5,7 +5,7 @@ use borrow.Author.Tests.{leb-true}
 use Rattle.definition.specs.Words.{decode}
 use Rattle.definition.specs.Step.{eventsFit}
 use Rattle.interface.specs.Laws.{passed, held}
-use Rattle.additions.specs.Laws.{toldOf, up-no, up-yes, good-passed, bring-sound}
+use Rattle.additions.specs.Laws.{toldOf, up-no, up-yes, good-passed}
 use borrow.Author.Needs.{needs}
 use Rattle.additions.proofs.up.Statement.{statement}
 use Rattle.additions.proofs.up.Tie as tie
@@ -13,6 +13,7 @@ use Rattle.additions.proofs.up.Reads as reads
 use Rattle.additions.proofs.up.Lts as lts
 use Rattle.interface.proofs.checked.Reads as checked-reads
 use Rattle.whole.proofs.up.Reads as up-reads
+use Rattle.changes.specs.Requests.{sound}
 
 -- src/lib.rt:44:9
 checked-requires : tie.Need-checked-requires
@@ -37,7 +38,7 @@ up-requires c κs =
     let k = e .before in
     let a = k .before .before .before .before .args in
     let p = passed (eventsFit (length (a .events .now))) true true (a .state .now) (k .checked .result) (k .checked .ensures) (e .if1 .left) in
-    (bring-sound (eventsFit (length (a .events .now))) true (a .state .now) (k .checked .result) (k .checked .ensures) (e .if1 .left), leb-true 13056 (length (a .events .now)) (p .room))
+    (sound (eventsFit (length (a .events .now))) true (a .state .now) (k .checked .result) (k .checked .ensures) (e .if1 .left), leb-true 13056 (length (a .events .now)) (p .room))
 
 -- src/lib.rt:50:27
 enum-known-told : tie.Need-enum-known-told

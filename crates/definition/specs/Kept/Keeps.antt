@@ -9,7 +9,8 @@ use lib.Dec.{eqb}
 use lib.ListN.{length}
 use Rattle.lists.specs.Lists.{Row, all}
 use Rattle.lists.specs.Rows.{sized}
-use Rattle.lists.specs.All.{cond-case, all-append, all-head, all-tail, all-always}
+use Rattle.lists.specs.Bools.{cond-case}
+use Rattle.lists.specs.All.{all-append, all-head, all-tail, all-always}
 use Rattle.layout.specs.Address.{fitAddress}
 use Rattle.definition.specs.State.{State, Sizes, Out, sizes, becomes, stays, also, through, withAddresses, withRoutes, withTables}
 use Rattle.definition.specs.Words.{noneTwice, fitState}

@@ -9,7 +9,7 @@ use native.Mathlib.Omega.{arith}
 use lib.Dec.{eqb}
 use lib.ListN.{length, length-append, length-map}
 use Rattle.lists.specs.Lists.{Row, any, keep, first, until, onward, removeFirst, eqRow, among}
-use Rattle.lists.specs.All.{cond-case}
+use Rattle.lists.specs.Bools.{cond-case}
 use Rattle.lists.specs.Count.{length-keep, count-most, length-removeFirst-most, until-onward}
 use Rattle.layout.specs.Address.{local}
 use Rattle.layout.specs.Route as Route
