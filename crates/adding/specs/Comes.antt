@@ -12,7 +12,7 @@ use Rattle.definition.specs.State.{State, Out, stays}
 use Rattle.definition.specs.Words.{within}
 use Rattle.definition.specs.Reference.Addresses.{Outcome, goes, refused, step}
 use Rattle.state.specs.Holds.{Holds}
-use Rattle.steps.specs.Does.{Does}
+use Rattle.events.specs.Does.{Does}
 use Rattle.steps.specs.Adds.{Adds, rowsOf, adds-none}
 use Rattle.steps.specs.declared.Told.{Told}
 use Rattle.steps.specs.declared.Told.the-variants as Tell

@@ -23,8 +23,7 @@ use Rattle.definition.specs.Kept.Rows.{candidates-fit}
 use Rattle.definition.specs.Kept.Addresses.{bring-keeps}
 use Rattle.definition.specs.Kept.Growing as Growing
 use Rattle.state.specs.Holds.{Holds, Valid, count-addresses, Sound, sound-valid}
-use Rattle.events.specs.Step.{rest}
-use Rattle.steps.specs.Does.{does-length}
+use Rattle.events.specs.Does.{does-length, rest}
 use Rattle.steps.specs.Adds.{Adds, joined, holds-within, adds-rows, adds-also, adds-stop}
 use Rattle.steps.specs.Through.{Covered, covered-through, adds-start, adds-next, adds-full-end, adds-end}
 use Rattle.steps.specs.declared.Told.{Told}

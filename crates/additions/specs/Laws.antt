@@ -14,7 +14,7 @@ use Rattle.definition.specs.Reference.Addresses.{Outcome, goes, refused, up}
 use Rattle.definition.specs.Kept.Numbers.{Numbered}
 use Rattle.definition.specs.Laws.Refusals.{Leaves}
 use Rattle.definition.specs.Kept.Encode.{Good, good-decode}
-use Rattle.steps.specs.Does.{Does}
+use Rattle.events.specs.Does.{Does}
 use Rattle.steps.specs.Adds.{Adds}
 use Rattle.steps.specs.declared.Told as Told
 use Rattle.adding.specs.declared.Done as adding

@@ -21,8 +21,7 @@ use Rattle.definition.specs.Kept.Fit.{sized-routes}
 use Rattle.definition.specs.Kept.Keeps.{Keeps, through-keeps, keeps-fit}
 use Rattle.definition.specs.Kept.Addresses.{kernelAdd4-keeps}
 use Rattle.state.specs.Holds.{Holds, Valid, Sound, sound-valid}
-use Rattle.events.specs.Step.{rest}
-use Rattle.steps.specs.Does.{does-length}
+use Rattle.events.specs.Does.{does-length, rest}
 use Rattle.steps.specs.Adds.{Adds, joined, holds-within, adds-rows}
 use Rattle.steps.specs.Through.{adds-start, adds-next, adds-full-end, adds-end}
 use Rattle.steps.specs.declared.Told.{Told}

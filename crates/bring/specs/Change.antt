@@ -31,8 +31,7 @@ use Rattle.definition.specs.Kept.Step.{covered}
 use Rattle.candidates.specs.Rows.{subnetRoute}
 use Rattle.state.specs.Holds.{Holds, Valid, count-addresses, Sound, sound-valid}
 use Rattle.state.specs.Change.{address-at}
-use Rattle.events.specs.Step.{rest}
-use Rattle.steps.specs.Does.{Does, does-one}
+use Rattle.events.specs.Does.{Does, does-one, rest}
 use Rattle.steps.specs.Adds.{Adds, joined, holds-within, does-adds, full-adds, adds-none, adds-also, adds-stop, adds-rows}
 use Rattle.steps.specs.declared.Told.{Told}
 use Rattle.steps.specs.declared.Told.the-variants.{Rows, Full}

@@ -24,8 +24,7 @@ use Rattle.definition.specs.Kept.Rows.{candidates-fit}
 use Rattle.definition.specs.Kept.Addresses.{place4-fit}
 use Rattle.definition.specs.Kept.Growing.{length-place4}
 use Rattle.state.specs.Holds.{Holds, Valid, count-addresses, Sound}
-use Rattle.events.specs.Step.{rest}
-use Rattle.steps.specs.Does.{does-one}
+use Rattle.events.specs.Does.{does-one, rest}
 use Rattle.steps.specs.Adds.{Adds, joined, holds-within, does-adds, full-adds, adds-also, adds-stop}
 use Rattle.steps.specs.declared.Told.{Told}
 use Rattle.steps.specs.declared.Told.the-variants.{Rows, Full}

@@ -26,7 +26,8 @@ use Rattle.definition.specs.Kept.Fit.{length-address}
 use Rattle.definition.specs.Kept.Rows.{faded-fit}
 use Rattle.definition.specs.Kept.Shrinking.{weight}
 use Rattle.state.specs.Holds.{Holds, Valid, count-addresses, holds-long}
-use Rattle.events.specs.Step.{Fits, Ready, Step, rest, rest-fits, step-one, step-none, step-also}
+use Rattle.events.specs.Does.{rest}
+use Rattle.events.specs.Step.{Fits, Ready, Step, rest-fits, step-one, step-none, step-also}
 use Rattle.events.specs.Turns.{Like, like-refl, like-sym, like-trans, also-like, also-assoc, Going, going-start, going-end, going-fits}
 use Rattle.deletion.specs.Delete.{step-eq}
 use Rattle.leave.specs.Turns.{step-facts}

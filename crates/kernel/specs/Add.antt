@@ -24,7 +24,7 @@ use Rattle.tables.specs.Listed.{tablesOf}
 use Rattle.insert.specs.Plan.{answerOf, rowsAfter, InsertedInto}
 use Rattle.insert.specs.declared.Inserted.{Inserted}
 use Rattle.insert.specs.declared.Inserted.the-variants.{Put, Nothing, Refused, Full}
-use Rattle.steps.specs.Does.{does-none, does-one}
+use Rattle.events.specs.Does.{does-none, does-one}
 use Rattle.steps.specs.Adds.{Adds, holds-within, does-adds, full-adds, adds-none}
 use Rattle.steps.specs.Through.{Covered}
 use Rattle.steps.specs.declared.Told.{Told}

@@ -21,7 +21,8 @@ use Rattle.definition.specs.Reference.Insert.{kernelDel4}
 use Rattle.definition.specs.Reference.Removal.{wanted, leaving, unwanted, ofKind, straysFrom, fall, disable, removeOne}
 use Rattle.definition.specs.Kept.Shrinking.{weight, live, kernelDel4-away, through-away, disable-away}
 use Rattle.state.specs.Holds.{Holds}
-use Rattle.events.specs.Step.{Fits, Step, rest, step-same, step-one, step-rows}
+use Rattle.events.specs.Does.{rest}
+use Rattle.events.specs.Step.{Fits, Step, step-same, step-one, step-rows}
 use Rattle.events.specs.Turns.{Like, like-refl, like-sym, like-trans, like-eq, stays-also, also-like}
 
 -- ---- routes that none wants

@@ -21,7 +21,8 @@ use Rattle.definition.specs.Reference.Removal.{wanted, straysFrom, disable}
 use Rattle.definition.specs.Kept.Shrinking.{weight, live, kernelDel4-away, through-away, stays-away, Away}
 use Rattle.state.specs.Holds.{Holds, Valid, holds-long}
 use Rattle.view.specs.Parts.{addressPart}
-use Rattle.events.specs.Step.{Fits, Ready, Step, rest, rest-fits, step-none, step-length, step-rows, step-also}
+use Rattle.events.specs.Does.{rest}
+use Rattle.events.specs.Step.{Fits, Ready, Step, rest-fits, step-none, step-length, step-rows, step-also}
 use Rattle.events.specs.Turns.{Going, like-refl, like-eq, going-start, going-turn, going-end}
 use Rattle.deletion.specs.Strays.{straysGo}
 use Rattle.deletion.specs.Delete.{step-eq}

@@ -32,7 +32,8 @@ use Rattle.definition.specs.Kept.Fit.{length-address}
 use Rattle.definition.specs.Kept.Shrinking.{weight, live}
 use Rattle.state.specs.Holds.{Holds, Valid, holds-long, count-addresses}
 use Rattle.state.specs.Change.{address-at, fit-address-at}
-use Rattle.events.specs.Step.{Fits, Ready, Step, rest, rest-fits, step-same, step-one, step-also, step-none, step-length, step-rows}
+use Rattle.events.specs.Does.{rest}
+use Rattle.events.specs.Step.{Fits, Ready, Step, rest-fits, step-same, step-one, step-also, step-none, step-length, step-rows}
 use Rattle.events.specs.Turns.{Like, like-refl, like-sym, like-trans, like-eq, also-like, also-assoc, Going, going-start, going-turn, going-end}
 use Rattle.candidates.specs.Laws.{route-long}
 use Rattle.deletion.specs.Delete.{step-eq}

@@ -13,8 +13,7 @@ use Rattle.lists.specs.Bools.{test-case, true-false, and-left, and-right, and-i
 use Rattle.definition.specs.State.{State, Sizes, Out, sizes, most, becomes, stays, also}
 use Rattle.definition.specs.Words.{within}
 use Rattle.state.specs.Holds.{Holds}
-use Rattle.events.specs.Step.{rest}
-use Rattle.steps.specs.Does.{Does, does-none, does-also}
+use Rattle.events.specs.Does.{Does, does-none, does-also, rest}
 use Rattle.steps.specs.declared.Told.{Told}
 use Rattle.steps.specs.declared.Told.the-variants.{Rows, Full}
 

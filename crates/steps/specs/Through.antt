@@ -3,7 +3,7 @@
 use Prim.Native.Nat.{ℕ, zero, suc, _+_, _-_, _*_, _≤_, _<_}
 use mathlib.Core.Path.{_≡_, refl, sym, ap, _∙_}
 use mathlib.Core.Bool.{Bool, true, false, cond, _&&_}
-use mathlib.Core.List.{List, [], _∷_, _++_, append-nil, append-assoc}
+use mathlib.Core.List.{List, [], _∷_, _++_}
 use native.Mathlib.Omega.{arith}
 use lib.ListN.{length, getD, take, drop}
 use lib.Seq.{take-all}
@@ -13,8 +13,8 @@ use Rattle.lists.specs.Split.{take-more}
 use Rattle.definition.specs.State.{State, Out, sizes, becomes, stays, also, through}
 use Rattle.definition.specs.Words.{within}
 use Rattle.state.specs.Holds.{Holds}
-use Rattle.events.specs.Step.{rest}
-use Rattle.steps.specs.Does.{Does, does-same, does-also}
+use Rattle.events.specs.Does.{Does, does-same, does-also, rest}
+use Rattle.events.specs.Turns.{Like, like-refl, like-sym, like-trans, also-like, through-one, through-append}
 use Rattle.steps.specs.Adds.{Adds, joined, within-also, adds-rows, adds-full, does-adds, full-adds, adds-none, adds-also, adds-stop}
 use Rattle.steps.specs.declared.Told.{Told}
 use Rattle.steps.specs.declared.Told.the-variants.{Rows, Full}
@@ -37,23 +37,16 @@ pub record Covered {A : Type 0} (f : A → State → Out) : Type 0 where
   pub covers : (x : A) (st : State) → within ((f x st) .peak) ≡ true → within (sizes ((f x st) .state)) ≡ true
 
 module _ {A : Type 0} (f : A → State → Out) where
-  more-left : (l : List A) (x : A) (st : State) → (f x ((through f l st) .state)) .state ≡ (through f (l ++ (x ∷ [])) st) .state
-  unfolding through also
-  more-left [] x st = refl
-  more-left (y ∷ l) x st = more-left l x ((f y st) .state)
-
-  more-said : (l : List A) (x : A) (st : State) → (through f l st) .told ++ (f x ((through f l st) .state)) .told ≡ (through f (l ++ (x ∷ [])) st) .told
-  unfolding through also
-  more-said [] x st = sym (append-nil ((f x st) .told))
-  more-said (y ∷ l) x st =
-      append-assoc ((f y st) .told) ((through f l ((f y st) .state)) .told) ((f x ((through f l ((f y st) .state)) .state)) .told)
-      ∙ ap (λ (m : List Row). (f y st) .told ++ m) (more-said l x ((f y st) .state))
+  more-like : (l : List A) (x : A) (st : State) → Like (also (through f l st) (f x)) (through f (l ++ (x ∷ [])) st)
+  more-like l x st =
+      like-sym
+      (like-trans (through-append f l (x ∷ []) st)
+      (also-like (through f (x ∷ [])) (f x) (like-refl (through f l st)) (through-one f x ((through f l st) .state))))
 
   -- without limits: the removals
   pub does-more : (l : List A) (x : A) (st : State) {w ev₀ ev : List ℕ} {r : ℕ}
       → Does (also (through f l st) (f x)) w ev₀ ev r → Does (through f (l ++ (x ∷ [])) st) w ev₀ ev r
-  unfolding also
-  does-more l x st d = does-same (more-left l x st) (more-said l x st) d
+  does-more l x st d = let m = more-like l x st in does-same (m .leaves) (m .tells) d
 
   module _ (k : Covered f) where
     more-limits : (l : List A) (x : A) (st : State) → within (sizes st) ≡ true
@@ -85,11 +78,11 @@ module _ {A : Type 0} (f : A → State → Out) where
 
     -- one element more
     pub through-more : (l : List A) (x : A) (st : State) → within (sizes st) ≡ true → Alike (also (through f l st) (f x)) (through f (l ++ (x ∷ [])) st)
-    unfolding also
     through-more l x st h =
+        let m = more-like l x st in
         record {
-          left = more-left l x st;
-          said = more-said l x st;
+          left = m .leaves;
+          said = m .tells;
           limits = more-limits l x st h;
         }
 

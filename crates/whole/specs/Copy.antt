@@ -16,7 +16,7 @@ use Rattle.definition.specs.Words.{within, fitState}
 use Rattle.definition.specs.Reference.Addresses.{Outcome, goes, refused}
 use Rattle.definition.specs.Kept.Step.{roomy}
 use Rattle.state.specs.Holds.{Holds, holds-long, Sound}
-use Rattle.steps.specs.Does.{Does, does-length}
+use Rattle.events.specs.Does.{Does, does-length}
 use Rattle.steps.specs.Adds.{Adds, adds-rows, adds-full, does-adds, full-adds}
 use Rattle.steps.specs.declared.Told.{Told}
 use Rattle.steps.specs.declared.Told.the-variants as Tell
