@@ -109,10 +109,6 @@ module _ (allowance now : ℕ) where
       let j = or-false (due allowance now a) (fades allowance now a) (k .0) in
       rw (j .0) (first-behind l m (k .1))
 
-  fade-is : (st : State) → fade allowance now st ≡ becomes (withAddresses (fadedList (st .addresses)) st) (toldOf (st .addresses))
-  unfolding fade
-  fade-is st = refl
-
   -- nothing is marked
   fade-stays : (st : State) → fadedList (st .addresses) ≡ st .addresses → toldOf (st .addresses) ≡ [] → Like (fade allowance now st) (stays st)
   unfolding fade

@@ -37,9 +37,6 @@ next : (a b : Row) (l : List Row) → before b a ≡ false → ordered (a ∷ b 
 unfolding ordered
 next a b l h = go (ordered (b ∷ l)) refl
   where
-    le : Row → Row → Bool
-    le = λ x y. not (before y x)
-
     rest : pairwise (λ x y. not (before y x)) (b ∷ l) ≡ true → all (λ y. not (before y a)) (b ∷ l) ≡ true
     rest e =
         all-cons (λ y. not (before y a)) b l (false-not (before b a) h)

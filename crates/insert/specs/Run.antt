@@ -8,12 +8,12 @@ use native.Mathlib.Omega.{arith}
 use lib.Dec.{ltb}
 use lib.ListN.{length, getD, set, take, drop, take-append-drop}
 use lib.Seq.{drop-cons, take-all, length-take-le}
-use Rattle.lists.specs.Lists.{Row, all, any, keep, first, replaceFirst, eqRow, pairwise}
-use Rattle.lists.specs.Bools.{test-case, fails, true-false, or-case, not-both, not-so, false-not}
-use Rattle.lists.specs.All.{all-mono, all-cons, eqRow-true, eqRow-refl, pairwise-head, pairwise-tail}
+use Rattle.lists.specs.Lists.{Row, all, any, first, eqRow, pairwise}
+use Rattle.lists.specs.Bools.{test-case, fails, true-false, or-case, not-both, false-not}
+use Rattle.lists.specs.All.{all-mono, all-cons, eqRow-true, pairwise-head, pairwise-tail}
 use Rattle.lists.specs.At.{insertAt}
-use Rattle.lists.specs.Count.{tick, tick-one, tick-none, count, count-append, count-apart, count-most, count-one, count-none, count-mono}
-use Rattle.lists.specs.Place.{placeOf, replace-at, first-at}
+use Rattle.lists.specs.Count.{tick, tick-one, tick-none, count, count-append, count-apart, count-most}
+use Rattle.lists.specs.Place.{placeOf}
 use Rattle.lists.specs.Split.{any-joined, pairwise-drop, count-all, count-sum, any-ltb, any-apart, count-more, all-more, any-more, around-at}
 use Rattle.layout.specs.Route.{before, alike}
 use Rattle.definition.specs.Words.{ordered}

@@ -54,13 +54,3 @@ first false k rest = refl
 pub is-kind-found : (n : ℕ) → isFound (kindOf n) ≡ isKind n
 unfolding kindOf isKind
 is-kind-found n = rw (first, found, found, found, found, found, found, or-false)
-
-pub code-is-kind : (k : Kind) → isKind (codeOf k) ≡ true
-unfolding isKind
-code-is-kind Unicast = refl
-code-is-kind Local = refl
-code-is-kind Broadcast = refl
-code-is-kind Blackhole = refl
-code-is-kind Unreachable = refl
-code-is-kind Prohibit = refl
-code-is-kind Throw = refl

@@ -67,14 +67,6 @@ module _ {A : Type 0} where
       (λ c d. all-first p q l y (all-tail p x l h) d)
       e
 
-  pub first-passes : (q : A → Bool) (l : List A) (y : A) → first q l ≡ some y → q y ≡ true
-  first-passes q [] y e = cc
-  first-passes q (x ∷ l) y e =
-      cond-case (λ (o : Option A). o ≡ some y → q y ≡ true) (q x)
-      (λ c d. let same : x ≡ y = cc in rw same at c)
-      (λ c d. first-passes q l y d)
-      e
-
   pub none-any : (p q : A → Bool) (l : List A) → ((x : A) → p x ≡ false → q x ≡ true) → any p l ≡ false → all q l ≡ true
   none-any p q [] f h = refl
   none-any p q (x ∷ l) f h =

@@ -72,13 +72,6 @@ module _ {A : Type 0} where
   any-count p (x ∷ l) h =
       or-case (p x) (any p l) h (λ e. omega (arith, tick-one (p x) e)) (λ e. omega (arith, any-count p l e))
 
-  -- what passes no more tests than another passes
-  pub count-mono : (p q : A → Bool) (l : List A) → ((x : A) → p x ≡ true → q x ≡ true) → count p l ≤ count q l
-  count-mono p q [] f = omega arith
-  count-mono p q (x ∷ l) f =
-      test-case (p x) (λ e. omega (arith, count-mono p q l f, tick-one (p x) e, tick-one (q x) (f x e)))
-      (λ e. omega (arith, count-mono p q l f, tick-none (p x) e))
-
   pub count-zero : (p : A → Bool) (l : List A) → any p l ≡ false → count p l ≡ 0
   count-zero p [] h = refl
   count-zero p (x ∷ l) h = let k = or-false (p x) (any p l) h in omega (arith, tick-none (p x) (k .0), count-zero p l (k .1))

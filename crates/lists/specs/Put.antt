@@ -34,18 +34,6 @@ module _ (at : ℕ) (vs l : List ℕ) (h : at + length vs ≤ length l) where
   before-put : length (take at l) ≡ at
   before-put = length-take-le at l (omega arith)
 
-  -- what was put is there
-  pub span-put : span at (length vs) (put at vs l) ≡ vs
-  unfolding put
-  span-put = span-at (take at l) vs (drop (at + length vs) l) at (length vs) before-put refl
-
-  -- a run in place of one as long
-  pub put-over : (ws : List ℕ) → length ws ≡ length vs → put at ws (put at vs l) ≡ put at ws l
-  unfolding put
-  put-over ws e =
-      put-at (take at l) vs (drop (at + length vs) l) ws at before-put (sym e)
-      ∙ ap (λ (n : ℕ). take at l ++ (ws ++ drop (at + n) l)) (sym e)
-
   -- a run behind a run is one run, and so is a run ahead of one
   pub put-behind : (ws : List ℕ) → at + length vs + length ws ≤ length l → put (at + length vs) ws (put at vs l) ≡ put at (vs ++ ws) l
   unfolding put
@@ -109,14 +97,6 @@ module _ (at : ℕ) (vs l : List ℕ) (h : at + length vs ≤ length l) where
   pub span-put-behind : (b n : ℕ) → at + length vs ≤ b → span b n (put at vs l) ≡ span b n l
   unfolding span
   span-put-behind b n k = ap (take n) (drop-put-behind b k)
-
-  -- words of the run are its
-  pub getD-put-in : (i d : ℕ) → i < length vs → getD (put at vs l) (at + i) d ≡ getD vs i d
-  unfolding put
-  getD-put-in i d k =
-      ap (λ (n : ℕ). getD (put at vs l) (n + i) d) (sym before-put)
-      ∙ getD-append-add (take at l) (vs ++ drop (at + length vs) l) i d
-      ∙ List·getD-append vs (drop (at + length vs) l) d i k
 
 -- ---- runs that grow by a word
 pub put-none : (at : ℕ) (l : List ℕ) → l ≡ put at [] l

@@ -13,7 +13,7 @@ use Rattle.lists.specs.Laid.{Laid, laid-word}
 use Rattle.kind.specs.Kind.{errorOf}
 use Rattle.layout.specs.Route.{kind, fitRoute}
 use Rattle.definition.specs.State.{State}
-use Rattle.definition.specs.Reference.Lookup.{Flow, answer, flowTo, typeSet, kindFound, addrType4, local4, listed, localTable, unicastKind, localKind, broadcastKind}
+use Rattle.definition.specs.Reference.Lookup.{answer, flowTo, typeSet, kindFound, addrType4, local4, listed, localTable, unicastKind, localKind, broadcastKind}
 use Rattle.lists.specs.Place.{nothing-from, something-at}
 use Rattle.lists.specs.Pass.{laid-rows}
 
@@ -22,10 +22,6 @@ typeRows b set l ip = cond b (kindFound (answer set (flowTo ip) l)) broadcastKin
 
 abbrev pub localRows : Bool → List Row → ℕ → Bool
 localRows b l ip = b && eqb (typeRows b (λ u. eqb u 255 || eqb u 254) l ip) localKind
-
-pub type-rows : (st : State) (ip t : ℕ) → addrType4 st ip t ≡ typeRows (listed t st) (typeSet t) (st .routes) ip
-unfolding addrType4
-type-rows st ip t = refl
 
 pub local-rows : (st : State) (ip : ℕ) → local4 st ip ≡ localRows (listed localTable st) (st .routes) ip
 unfolding local4 addrType4 typeSet

@@ -14,7 +14,7 @@ use borrow.Author.Tests.{eq-eqb, ne-eqb}
 use Rattle.lists.specs.Lists.{Row, all, keep, flat, span, put, chop, zeros, pad}
 use Rattle.lists.specs.All.{all-keep}
 use Rattle.lists.specs.Keep.{keep-append, keep-same}
-use Rattle.lists.specs.Count.{length-keep, length-keep-most}
+use Rattle.lists.specs.Count.{length-keep-most}
 use Rattle.lists.specs.Rows.{length-flat, length-chop, sized-chop, chop-pad, length-zeros, length-span}
 use Rattle.lists.specs.Put.{cut, put-behind, put-none, span-put-behind}
 use Rattle.lists.specs.At.{flat-append, flat-cons}

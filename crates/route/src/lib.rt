@@ -10,7 +10,7 @@ ghost use Rattle.prefix.specs.Mask.{hostBits};
 ghost use mathlib.Core.Bool.{true};
 ghost use lib.ListN.{drop};
 ghost use Rattle.kind.specs.Kind.{kindOf};
-ghost use Rattle.layout.specs.Route.{fitRoute, before, alike};
+ghost use Rattle.layout.specs.Route.{fitRoute, before};
 ghost use Rattle.route.specs.Route4.{kindIn, bitOf, route4Of, rowOf};
 
 pub struct Route4 {
@@ -173,12 +173,4 @@ pub fn before(a: &[u32], b: &[u32]) -> bool
     let tos = (a[0] == b[0]) & ((b[3] < a[3]) | priority);
     let table = (a[2] == b[2]) & ((b[0] < a[0]) | tos);
     (b[2] < a[2]) | table
-}
-
-// They have the same place.
-pub fn alike(a: &[u32], b: &[u32]) -> bool
-    requires { ⌜ (length (now a) ≡ 32) × (length (now b) ≡ 32) ⌝ }
-    ensures { λ r. ⌜ r ≡ alike (now (a .entry)) (now (b .entry)) ⌝ }
-{
-    (a[0] == b[0]) & (a[1] == b[1]) & (a[2] == b[2]) & (a[3] == b[3]) & (a[4] == b[4])
 }

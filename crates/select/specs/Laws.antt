@@ -13,7 +13,7 @@ use Rattle.lists.specs.Bools.{and-iff}
 use Rattle.lists.specs.At.{all-at}
 use Rattle.lists.specs.Rows.{length-chop}
 use Rattle.lists.specs.Chop.{chopFrom, chop-start, chop-at, pass-all, pass-all-end, chop-word-from}
-use Rattle.layout.specs.Route.{fitRoute, table, dst, len, tos, priority, kind, proto, scope, prefsrcPresent, prefsrc, gatewayPresent, gateway, device}
+use Rattle.layout.specs.Route.{table, dst, len, tos, priority, kind, proto, scope, prefsrcPresent, prefsrc, gatewayPresent, gateway, device}
 use Rattle.layout.specs.Request.{oif, listPresent, pairCount, pairIndex, pairValue, fitPairs, fitDelRoute4}
 use Rattle.definition.specs.Reference.Routes.{selects, hasMetrics, tableNamed}
 

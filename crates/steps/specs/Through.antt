@@ -7,15 +7,14 @@ use mathlib.Core.List.{List, [], _∷_, _++_}
 use native.Mathlib.Omega.{arith}
 use lib.ListN.{length, getD, take, drop}
 use lib.Seq.{take-all}
-use Rattle.lists.specs.Lists.{Row}
 use Rattle.lists.specs.Bools.{test-case, true-false, and-rest, and-right}
 use Rattle.lists.specs.Split.{take-more}
-use Rattle.definition.specs.State.{State, Out, sizes, becomes, stays, also, through}
+use Rattle.definition.specs.State.{State, Out, sizes, stays, also, through}
 use Rattle.definition.specs.Words.{within}
 use Rattle.state.specs.Holds.{Holds}
-use Rattle.events.specs.Does.{Does, does-same, does-also, rest}
+use Rattle.events.specs.Does.{does-same, rest}
 use Rattle.events.specs.Turns.{Like, like-refl, like-sym, like-trans, also-like, through-one, through-append}
-use Rattle.steps.specs.Adds.{Adds, joined, within-also, adds-rows, adds-full, does-adds, full-adds, adds-none, adds-also, adds-stop}
+use Rattle.steps.specs.Adds.{Adds, joined, within-also, adds-rows, adds-full, does-adds, full-adds, adds-none, adds-also}
 use Rattle.steps.specs.declared.Told.{Told}
 use Rattle.steps.specs.declared.Told.the-variants.{Rows, Full}
 
@@ -42,11 +41,6 @@ module _ {A : Type 0} (f : A → State → Out) where
       like-sym
       (like-trans (through-append f l (x ∷ []) st)
       (also-like (through f (x ∷ [])) (f x) (like-refl (through f l st)) (through-one f x ((through f l st) .state))))
-
-  -- without limits: the removals
-  pub does-more : (l : List A) (x : A) (st : State) {w ev₀ ev : List ℕ} {r : ℕ}
-      → Does (also (through f l st) (f x)) w ev₀ ev r → Does (through f (l ++ (x ∷ [])) st) w ev₀ ev r
-  does-more l x st d = let m = more-like l x st in does-same (m .leaves) (m .tells) d
 
   module _ (k : Covered f) where
     more-limits : (l : List A) (x : A) (st : State) → within (sizes st) ≡ true
@@ -105,18 +99,6 @@ full-later f k (suc i) (x ∷ l) st s h =
 
 -- ---- loops: the first i elements, and one more on what is left of the buffer
 module _ {A : Type 0} (f : A → State → Out) (l : List A) (st : State) where
-  pub does-start : {w ev : List ℕ} → Does (stays st) w ev ev 0 → Does (through f (take 0 l) st) w ev ev 0
-  unfolding through
-  does-start d = d
-
-  pub does-next : (i : ℕ) (d : A) → i < length l → {w ev₀ ev w′ x : List ℕ} {r r′ : ℕ} → Does (through f (take i l) st) w ev₀ ev r
-      → Does (f (getD l i d) ((through f (take i l) st) .state)) w′ (rest r ev) x r′
-      → Does (through f (take (i + 1) l) st) w′ ev₀ (take (34 * r) ev ++ (x ++ drop (length ev - 34 * r) (drop (34 * r) ev))) (r + r′)
-  does-next i d h t u = rw (take-more l i d h) (does-more f (take i l) (getD l i d) st (does-also t (f (getD l i d)) u))
-
-  pub does-end : (i : ℕ) → length l ≤ i → {w ev₀ ev : List ℕ} {r : ℕ} → Does (through f (take i l) st) w ev₀ ev r → Does (through f l st) w ev₀ ev r
-  does-end i h t = rw (take-all i l h) at t
-
   module _ (k : Covered f) (s : within (sizes st) ≡ true) where
     pub adds-next : (i : ℕ) (d : A) → i < length l → {w ev₀ ev w′ x : List ℕ} {n : ℕ} {r : Told} → Adds (through f (take i l) st) w ev₀ ev (Rows n)
         → Adds (f (getD l i d) ((through f (take i l) st) .state)) w′ (rest n ev) x r
