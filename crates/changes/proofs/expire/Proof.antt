@@ -2,7 +2,7 @@ use lib.Dec.{leb}
 use lib.ListN.{length}
 use Rattle.definition.specs.Words.{decode}
 use Rattle.definition.specs.Step.{eventsFit, clockLimit}
-use Rattle.changes.specs.Steps.{expire-no, expire-room, expire-yes, ready-buffer, roomy-buffer}
+use Rattle.changes.specs.Steps.{expire-no, expire-room, expire-yes, roomy-buffer}
 use borrow.Author.Needs.{needs}
 use Rattle.changes.proofs.expire.Statement.{statement}
 use Rattle.changes.proofs.expire.Tie as tie
@@ -33,7 +33,7 @@ expire-requires c κs =
     let e = c .before .before in
     let k = e .before in
     let a = k .before .before .before .before .args in
-    ready-buffer (eventsFit (length (a .events .now))) (leb (a .clock) clockLimit) (a .state .now) (a .events .now) (k .checked .result) (k .checked .ensures) (e .if1 .left) (expire-room (a .state .now) (a .events .now) (k .checked .result) (a .clock) (k .checked .ensures) (e .if1 .left))
+    record { state = decode (a .state .now); fits = roomy-buffer (eventsFit (length (a .events .now))) (leb (a .clock) clockLimit) (a .state .now) (a .events .now) (k .checked .result) (k .checked .ensures) (e .if1 .left) (expire-room (a .state .now) (a .events .now) (k .checked .result) (a .clock) (k .checked .ensures) (e .if1 .left)) }
 
 -- src/lib.rt:33:1
 same-length-2 : tie.Need-same-length-2
