@@ -10,14 +10,14 @@ use lib.Dec.{eqb}
 use lib.ListN.{length, getD, getElem?}
 use borrow.Author.Tests.{eq-eqb, ne-eqb}
 use Rattle.lists.specs.Lists.{Row, any, first}
-use Rattle.lists.specs.All.{cond-case}
+use Rattle.lists.specs.Bools.{cond-case}
 use Rattle.lists.specs.Place.{placeOf, first-at, nothing-from, something-at}
-use Rattle.layout.specs.Request.{fitAddV4, replaceAsked, upAtAddV4}
+use Rattle.layout.specs.Request.{replaceAsked, upAtAddV4}
 use Rattle.definition.specs.State.{State, Out, stays}
 use Rattle.definition.specs.Words.{fitState}
 use Rattle.definition.specs.Reference.Addresses.{Outcome, goes, refused, step, sameAddress, newAddress, changeV4, addedOver, addV4, loopback}
-use Rattle.definition.specs.Kept.Keeps.{Keeps, Kept, KeptOutcome, stays-keeps}
-use Rattle.definition.specs.Kept.Addresses.{addV4-keeps}
+use Rattle.definition.specs.Kept.Keeps.{Keeps}
+use Rattle.definition.specs.Kept.Addresses.{addV4-keeps, step-kept, loopback-fit}
 use Rattle.placing.specs.Rows.{freshRow}
 use Rattle.state.specs.Holds.{Holds}
 use Rattle.steps.specs.Adds.{Adds}
@@ -79,14 +79,6 @@ pub added-step : (q : Row) (clock : ℕ) (st : State) {w₀ w ev₀ ev : List �
 unfolding addV4
 added-step q clock st t e h c =
     comes-step (addedOver q clock (first (sameAddress q) (st .addresses)) st) st (refused-same q clock (first (sameAddress q) (st .addresses)) st) t e h c
-
-step-kept : (o : Outcome) → KeptOutcome o → Kept (step o)
-step-kept (goes o) k = k
-step-kept (refused n st) f = stays-keeps .kept st f
-
-pub loopback-fit : fitAddV4 loopback ≡ true
-unfolding fitAddV4
-loopback-fit = refl
 
 pub loopback-keeps : (clock : ℕ) → Keeps (λ st. step (addV4 loopback clock st))
 loopback-keeps clock = record { kept = λ st f. step-kept (addV4 loopback clock st) ((addV4-keeps loopback clock refl loopback-fit) .kept st f) }

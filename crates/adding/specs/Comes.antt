@@ -6,13 +6,13 @@ use mathlib.Core.Path.{_≡_, refl, sym, ap, subst, _∙_}
 use mathlib.Core.Bool.{Bool, true, false, cond}
 use mathlib.Core.List.{List, []}
 use lib.ListN.{length, take, drop}
-use Rattle.lists.specs.All.{test-case, true-false}
+use Rattle.lists.specs.Bools.{test-case, true-false}
 use Rattle.lists.specs.Lists.{put, flat}
 use Rattle.definition.specs.State.{State, Out, stays}
 use Rattle.definition.specs.Words.{within}
 use Rattle.definition.specs.Reference.Addresses.{Outcome, goes, refused, step}
 use Rattle.state.specs.Holds.{Holds}
-use Rattle.steps.specs.Does.{Does}
+use Rattle.events.specs.Does.{Does}
 use Rattle.steps.specs.Adds.{Adds, rowsOf, adds-none}
 use Rattle.steps.specs.declared.Told.{Told}
 use Rattle.steps.specs.declared.Told.the-variants as Tell

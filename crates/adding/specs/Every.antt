@@ -13,24 +13,23 @@ use Rattle.view.specs.Parts.{addressPart, of-addresses}
 use Rattle.lists.specs.Pass.{part}
 use Rattle.layout.specs.Address.{fitAddress}
 use Rattle.layout.specs.Route.{fitRoute}
-use Rattle.definition.specs.State.{State, Out, sizes, also, through}
-use Rattle.definition.specs.Words.{within, fitState, addressCount}
+use Rattle.definition.specs.State.{State, Out, through}
+use Rattle.definition.specs.Words.{fitState, addressCount}
 use Rattle.definition.specs.Reference.Insert.{kernelAdd4}
 use Rattle.definition.specs.Reference.Addresses.{candidates, bring, addV4, step, loopback, up}
-use Rattle.definition.specs.Kept.Fit.{fields-address, fit-state}
+use Rattle.definition.specs.Kept.Fit.{fields-address}
 use Rattle.definition.specs.Kept.Keeps.{Keeps, through-keeps, keeps-fit}
 use Rattle.definition.specs.Kept.Rows.{candidates-fit}
 use Rattle.definition.specs.Kept.Addresses.{bring-keeps}
 use Rattle.definition.specs.Kept.Growing as Growing
-use Rattle.state.specs.Holds.{Holds, Valid, count-addresses}
-use Rattle.events.specs.Step.{rest}
-use Rattle.steps.specs.Does.{does-length}
+use Rattle.state.specs.Holds.{Holds, Valid, count-addresses, Sound, sound-valid}
+use Rattle.events.specs.Does.{does-length, rest}
 use Rattle.steps.specs.Adds.{Adds, joined, holds-within, adds-rows, adds-also, adds-stop}
 use Rattle.steps.specs.Through.{Covered, covered-through, adds-start, adds-next, adds-full-end, adds-end}
 use Rattle.steps.specs.declared.Told.{Told}
 use Rattle.steps.specs.declared.Told.the-variants.{Rows, Full}
 use Rattle.kernel.specs.Add.{kernelAdd4-covered}
-use Rattle.bring.specs.Sound.{Sound, AddsFrom, Leaves, sound-valid, adds-holds, adds-sound, through-leaves, kernelAdd4-leaves}
+use Rattle.bring.specs.Sound.{AddsFrom, Leaves, adds-holds, adds-sound, through-leaves, kernelAdd4-leaves}
 use Rattle.bring.specs.Bring.{block-rows, block-ready}
 use Rattle.adding.specs.Added.{loopback-keeps}
 
@@ -78,9 +77,6 @@ module _ {w : List ℕ} (i : ℕ) (b : i < addressCount w) (st : State) (h : Hol
       (d (candidates (st .addresses) true (part 20 p i)) (block-rows (candidates (st .addresses) true (part 20 p i)) (turn-fit (st .addresses) (part 20 p i) mine) k (c .0) o (c .1)) st h f)
 
 -- ---- the first i addresses' routes are brought
-abbrev firsts : ℕ → State → Out
-firsts i st = through (turn (st .addresses)) (take i (st .addresses)) st
-
 pub record Sofar (s₀ ev₀ : List ℕ) (i : ℕ) (s ev : List ℕ) (t : ℕ) : Type 0 where
   pub adds : AddsFrom (λ st. through (turn (st .addresses)) (take i (st .addresses)) st) s₀ s ev₀ ev (Rows t)
 

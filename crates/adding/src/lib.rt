@@ -11,9 +11,9 @@ ghost use Rattle.layout.specs.Request.{fitAddV4};
 ghost use Rattle.definition.specs.State.{State};
 ghost use Rattle.definition.specs.Words.{fitState, addressCount};
 ghost use Rattle.definition.specs.Reference.Addresses.{addV4, up};
-ghost use Rattle.state.specs.Holds.{Holds};
+ghost use Rattle.state.specs.Holds.{Holds, Sound};
 ghost use Rattle.steps.specs.Adds.{rowsOf};
-ghost use Rattle.bring.specs.Sound.{Sound, AddsFrom};
+ghost use Rattle.bring.specs.Sound.{AddsFrom};
 ghost use Rattle.adding.specs.Comes.{Comes, doneRows, doneOf, toldOf};
 ghost use Rattle.adding.specs.Every.{every, turnAt};
 

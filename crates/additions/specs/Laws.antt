@@ -14,17 +14,17 @@ use Rattle.definition.specs.Reference.Addresses.{Outcome, goes, refused, up}
 use Rattle.definition.specs.Kept.Numbers.{Numbered}
 use Rattle.definition.specs.Laws.Refusals.{Leaves}
 use Rattle.definition.specs.Kept.Encode.{Good, good-decode}
-use Rattle.steps.specs.Does.{Does}
+use Rattle.events.specs.Does.{Does}
 use Rattle.steps.specs.Adds.{Adds}
 use Rattle.steps.specs.declared.Told as Told
 use Rattle.adding.specs.declared.Done as adding
 use Rattle.adding.specs.Comes.{Comes}
-use Rattle.bring.specs.Sound.{Sound}
-use Rattle.interface.specs.Laws.{checked, passed, held}
+use Rattle.interface.specs.Laws.{checked, passed}
 use Rattle.changes.specs.declared.Done.{Done}
 use Rattle.changes.specs.declared.Done.the-variants.{Refused, Rows}
-use Rattle.changes.specs.Laws.{Answers, answers-refused, change-refused, change-made, kept}
+use Rattle.changes.specs.Laws.{Answers, answers-refused, change-refused, change-made}
 use Rattle.changes.specs.Requests.{answers-by}
+use Rattle.lists.specs.Put.{put-no-rows}
 
 abbrev pub cameOf : adding.Done → Done
 cameOf (adding.the-variants.Rows k) = Rows k
@@ -41,10 +41,6 @@ good-passed buffers request w n c z =
     let p = passed buffers true request w n c z in
     good-decode w (p .long) (p .formed)
 
-pub bring-sound : (buffers request : Bool) (w : List ℕ) (n : ℕ) → n ≡ checked buffers true request w → n ≡ 0 → Sound w
-bring-sound buffers request w n c z =
-    record { state = decode w; holds = held buffers true request w n c z; fits = good-passed buffers request w n c z .fits }
-
 -- ---- a step that adds, by whether the lists keep to their limits
 module _ (w w′ ev ev′ : List ℕ) where
   goes-case : (x : Result) (o : Out) (r : Done) (b : Bool) → within (o .peak) ≡ b → x ≡ cond b (record { reply = written (o .told); words = encode (o .state) }) (record { reply = refusal 203; words = w })
@@ -52,7 +48,7 @@ module _ (w w′ ev ev′ : List ℕ) where
   goes-case x o r true e p q d f =
       answers-by x (record { reply = written (o .told); words = encode (o .state) }) w′ ev ev′ r p q (d refl .holds .words) (d refl .words)
   goes-case x o r false e p q d f =
-      answers-by x (record { reply = refusal 203; words = w }) w′ ev ev′ r p q (f refl .0) (f refl .1 ∙ kept ev)
+      answers-by x (record { reply = refusal 203; words = w }) w′ ev ev′ r p q (f refl .0) (f refl .1 ∙ put-no-rows ev)
 
   came-cond : (b : Bool) (k : ℕ) → cameOf (cond b (adding.the-variants.Rows k) adding.the-variants.Full) ≡ cond b (Rows k) (Refused 203)
   came-cond true k = refl
@@ -72,7 +68,7 @@ module _ (w w′ ev ev′ : List ℕ) where
       (e ∙ ap (λ (b : Bool). cond b (record { reply = refusal n; words = encode later }) (record { reply = refusal 203; words = w })) (ap (λ (s : State). within (sizes s)) l ∙ g .limits))
       (ap cameOf (c .answer) ∙ rw (ne-eqb n 0 (λ z. omega (arith, m .positive))) refl)
       (c .does .0 ∙ sym (ap encode l ∙ same))
-      (c .does .1 ∙ kept ev)
+      (c .does .1 ∙ put-no-rows ev)
 
   pub adds-answers : (x : Result) (o : Out) (r : Told.Told) → x ≡ outcome (goes o) w → Adds o w′ ev ev′ r → (r ≡ Told.the-variants.Full → (w′ ≡ w) × (ev′ ≡ ev)) → Answers x w′ ev ev′ (toldOf r)
   adds-answers x o r e a f =

@@ -3,28 +3,19 @@
 use changes::Done;
 use life::Nanoseconds;
 ghost use mathlib.Core.Path.{_≡_};
-ghost use mathlib.Core.Bool.{_&&_};
 ghost use lib.ListN.{length};
 ghost use Rattle.lists.specs.Lists.{flat, put};
-ghost use Rattle.layout.specs.Request.{fitAddV4, addV4Size};
-ghost use Rattle.definition.specs.Step.{upCall, addV4Call, requestIs};
-ghost use Rattle.changes.specs.Answer.{doneOf};
-
-fn fit_add_v4(q: &[u32]) -> bool
-    ensures { λ r. ⌜ r ≡ (requestIs addV4Size (now (q .entry)) && fitAddV4 (now (q .entry))) ⌝ }
-{
-    if q.len() != 18 {
-        return false;
-    }
-    fit::fit_add_v4(q)
-}
+ghost use Rattle.definition.specs.Step.{upCall, addV4Call};
+ghost use Rattle.interface.specs.Answer.{numbers};
+ghost use Rattle.changes.specs.Answer.{doneBy, doneOf};
 
 pub fn add_v4(state: &mut [u32], q: &[u32], events: &mut [u32], clock: u64) -> Done
+    ensures { λ r. ⌜ doneBy r ≡ numbers (addV4Call (now (q .entry)) (length (now (events .entry))) clock (now (state .entry)) .reply) ⌝ }
     ensures { λ r. ⌜ r ≡ doneOf (addV4Call (now (q .entry)) (length (now (events .entry))) clock (now (state .entry)) .reply) ⌝ }
     ensures { λ _. ⌜ now (state .exit) ≡ addV4Call (now (q .entry)) (length (now (events .entry))) clock (now (state .entry)) .words ⌝ }
     ensures { λ _. ⌜ now (events .exit) ≡ put 0 (flat (addV4Call (now (q .entry)) (length (now (events .entry))) clock (now (state .entry)) .reply .rows)) (now (events .entry)) ⌝ }
 {
-    let fit = fit_add_v4(q);
+    let fit = fit::fit_add_v4(q);
     let n = interface::checked(state, (q.len() == 18) & (13056 <= events.len()), true, fit);
     if n != 0 {
         return Done::Refused(n);
@@ -38,6 +29,7 @@ pub fn add_v4(state: &mut [u32], q: &[u32], events: &mut [u32], clock: u64) -> D
 }
 
 pub fn up(state: &mut [u32], events: &mut [u32], clock: u64) -> Done
+    ensures { λ r. ⌜ doneBy r ≡ numbers (upCall (length (now (events .entry))) clock (now (state .entry)) .reply) ⌝ }
     ensures { λ r. ⌜ r ≡ doneOf (upCall (length (now (events .entry))) clock (now (state .entry)) .reply) ⌝ }
     ensures { λ _. ⌜ now (state .exit) ≡ upCall (length (now (events .entry))) clock (now (state .entry)) .words ⌝ }
     ensures { λ _. ⌜ now (events .exit) ≡ put 0 (flat (upCall (length (now (events .entry))) clock (now (state .entry)) .reply .rows)) (now (events .entry)) ⌝ }

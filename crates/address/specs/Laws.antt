@@ -1,14 +1,15 @@
 -- What the record's methods say is what the reference says of the row.
 -- Assumes nothing.
 use mathlib.Core.Path.{_≡_, refl, ap, _∙_}
-use mathlib.Core.Bool.{Bool, true, false, _&&_}
+use mathlib.Core.Bool.{Bool, true, false, _||_, _&&_}
 use mathlib.Core.List.{[], _∷_}
-use Prim.Native.Nat.{ℕ, _≤_}
+use Prim.Native.Nat.{ℕ, zero, suc, _≤_}
 use native.Mathlib.Omega.{arith}
+use lib.Dec.{eqb}
 use lib.ListN.{length}
-use borrow.Author.Tests.{eqb-true}
+use borrow.Author.Tests.{ne-eqb, lt-leb}
 use Rattle.lists.specs.Lists.{Row}
-use Rattle.layout.specs.Address.{created, secondary, permanent, fitAddress}
+use Rattle.layout.specs.Address.{optional, created, secondary, permanent, fitAddress}
 use Rattle.definition.specs.Reference.Addresses.{covers, rewritten, setLife}
 use Rattle.definition.specs.Reference.Source.{left}
 use Rattle.definition.specs.Step.{leftCall}
@@ -20,14 +21,11 @@ use Rattle.life.specs.declared.Left.{Left as BothLeft}
 use Rattle.address.specs.V4.{v4Of, secondaryV4, coversV4, setLifeV4, leftV4}
 use Rattle.address.specs.Row.{leftReply, replyOf}
 
-and-left : (a b : Bool) → a && b ≡ true → a ≡ true
-and-left true b e = refl
-and-left false b e = e
-
--- a row that could stand in a well-formed state has 20 words
-pub fit-length : (a : Row) → fitAddress a ≡ true → length a ≡ 20
-unfolding fitAddress
-fit-length a e = eqb-true (length a) 20 (and-left _ _ (and-left _ _ (and-left _ _ (and-left _ _ (and-left _ _ e)))))
+-- a mark of 0 and its value are tested together
+pub mark-tests : (m v : ℕ) → (eqb m 1 || (eqb m 0 && eqb v 0)) ≡ optional m v
+mark-tests zero v = refl
+mark-tests (suc zero) v = refl
+mark-tests (suc (suc m)) v = rw (ne-eqb (suc (suc m)) 1 (λ q. omega arith), ne-eqb (suc (suc m)) 0 (λ q. omega arith), lt-leb (suc (suc m)) 1 (omega arith))
 
 pub covers-v4 : (a : Row) (ip : ℕ) → coversV4 (v4Of a) ip ≡ covers a ip
 unfolding covers

@@ -10,7 +10,7 @@ use lib.ListN.{length, getD, drop, drop-of-length-le}
 use lib.Seq.{drop-cons}
 use borrow.Author.Tests.{eqb-true, eqb-false, leb-true}
 use Rattle.lists.specs.Lists.{Row}
-use Rattle.lists.specs.All.{test-case, and-left, and-right, or-case, true-false}
+use Rattle.lists.specs.Bools.{test-case, and-left, and-right, or-case, true-false}
 use Rattle.life.specs.Life.{lowWord, highWord}
 use Rattle.life.specs.Laws.{low-clock, high-clock, clock-words}
 use Rattle.layout.specs.Address.{optional, broadcastPresent, broadcast, fitAddress}

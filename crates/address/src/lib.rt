@@ -256,11 +256,11 @@ pub fn fit_label(n: u32, a: u32, b: u32, c: u32, d: u32) -> bool
     (n <= 15) & ends(a, n, 0) & ends(b, n, 4) & ends(c, n, 8) & ends(d, n, 12)
 }
 
-// Whether a value may stand beside its mark: the mark is 0 or 1, and an absent value is 0.
+// Whether a value may stand beside its mark: any beside 1, only 0 beside 0.
 pub fn fit_optional(present: u32, value: u32) -> bool
     ensures { λ r. ⌜ r ≡ optional present value ⌝ }
 {
-    (present <= 1) & ((present == 1) | (value == 0))
+    (present == 1) | ((present == 0) & (value == 0))
 }
 
 // Whether a row could stand in a well-formed state.

@@ -20,15 +20,14 @@ use Rattle.definition.specs.Reference.Addresses.{bring}
 use Rattle.definition.specs.Kept.Fit.{sized-routes}
 use Rattle.definition.specs.Kept.Keeps.{Keeps, through-keeps, keeps-fit}
 use Rattle.definition.specs.Kept.Addresses.{kernelAdd4-keeps}
-use Rattle.state.specs.Holds.{Holds, Valid}
-use Rattle.events.specs.Step.{rest}
-use Rattle.steps.specs.Does.{does-length}
+use Rattle.state.specs.Holds.{Holds, Valid, Sound, sound-valid}
+use Rattle.events.specs.Does.{does-length, rest}
 use Rattle.steps.specs.Adds.{Adds, joined, holds-within, adds-rows}
 use Rattle.steps.specs.Through.{adds-start, adds-next, adds-full-end, adds-end}
 use Rattle.steps.specs.declared.Told.{Told}
 use Rattle.steps.specs.declared.Told.the-variants.{Rows, Full}
 use Rattle.kernel.specs.Add.{kernelAdd4-covered}
-use Rattle.bring.specs.Sound.{Sound, AddsFrom, sound-valid, adds-holds, adds-sound}
+use Rattle.bring.specs.Sound.{AddsFrom, adds-holds, adds-sound}
 
 -- ---- rows written from the start of a block on, as they are lent
 module _ (rows : List Row) (f : all fitRoute rows ≡ true) (k : ℕ) (e : k ≡ length rows) (o : List ℕ) {x : List ℕ} (h : x ≡ put 0 (flat rows) o) where

@@ -10,7 +10,8 @@ use lib.ListN.{length, getD, set, take, drop, length-take}
 use Rattle.lists.specs.Lists.{Row, put, span, replaceFirst}
 use Rattle.lists.specs.Place.{placeOf, replace-at}
 use Rattle.lists.specs.At.{all-at}
-use Rattle.lists.specs.All.{cond-case, true-false}
+use Rattle.lists.specs.Bools.{cond-case, true-false}
+use Rattle.lists.specs.Put.{put-whole}
 use Rattle.layout.specs.Address as Address
 use Rattle.layout.specs.Address.{fitAddress, prefix, local}
 use Rattle.layout.specs.Route.{fitRoute}
@@ -28,15 +29,13 @@ use Rattle.definition.specs.Kept.Shrinking.{kernelDel4-away}
 use Rattle.definition.specs.Kept.Peaks.{kernelDel4-under}
 use Rattle.definition.specs.Kept.Step.{covered}
 use Rattle.candidates.specs.Rows.{subnetRoute}
-use Rattle.placing.specs.Rows.{put-whole}
-use Rattle.state.specs.Holds.{Holds, Valid, count-addresses}
+use Rattle.state.specs.Holds.{Holds, Valid, count-addresses, Sound, sound-valid}
 use Rattle.state.specs.Change.{address-at}
-use Rattle.events.specs.Step.{rest}
-use Rattle.steps.specs.Does.{Does, does-one}
+use Rattle.events.specs.Does.{Does, does-one, rest}
 use Rattle.steps.specs.Adds.{Adds, joined, holds-within, does-adds, full-adds, adds-none, adds-also, adds-stop, adds-rows}
 use Rattle.steps.specs.declared.Told.{Told}
 use Rattle.steps.specs.declared.Told.the-variants.{Rows, Full}
-use Rattle.bring.specs.Sound.{Sound, AddsFrom, Leaves, sound-valid, adds-holds, adds-sound, stays-leaves, also-leaves, kernelAdd4-leaves}
+use Rattle.bring.specs.Sound.{AddsFrom, Leaves, adds-holds, adds-sound, stays-leaves, also-leaves, kernelAdd4-leaves}
 use Rattle.bring.specs.New.{length-told}
 
 -- ---- the prefix route that an address gets, as it is written into a block of its size

@@ -23,13 +23,12 @@ use Rattle.definition.specs.Kept.Keeps.{fit-addresses}
 use Rattle.definition.specs.Kept.Rows.{candidates-fit}
 use Rattle.definition.specs.Kept.Addresses.{place4-fit}
 use Rattle.definition.specs.Kept.Growing.{length-place4}
-use Rattle.state.specs.Holds.{Holds, Valid, count-addresses}
-use Rattle.events.specs.Step.{rest}
-use Rattle.steps.specs.Does.{does-one}
+use Rattle.state.specs.Holds.{Holds, Valid, count-addresses, Sound}
+use Rattle.events.specs.Does.{does-one, rest}
 use Rattle.steps.specs.Adds.{Adds, joined, holds-within, does-adds, full-adds, adds-also, adds-stop}
 use Rattle.steps.specs.declared.Told.{Told}
 use Rattle.steps.specs.declared.Told.the-variants.{Rows, Full}
-use Rattle.bring.specs.Sound.{Sound, AddsFrom}
+use Rattle.bring.specs.Sound.{AddsFrom}
 use Rattle.bring.specs.Bring.{block-rows, block-ready}
 
 pub length-told : (a : Row) → length a ≡ 20 → length (newAddr4 a) ≡ 34

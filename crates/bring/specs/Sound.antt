@@ -1,38 +1,24 @@
--- Words that hold a fit state, and adding steps from whatever fit state they hold.
+-- Adding steps from whatever fit state the words hold.
 -- Assumes nothing.
 use Prim.Native.Nat.{ℕ, _+_, _-_, _*_, _≤_}
 use lib.ListN.{length, take, drop, length-drop}
 use lib.Seq.{length-take-le}
-use Rattle.events.specs.Step.{rest}
+use Rattle.events.specs.Does.{rest}
 use native.Mathlib.Omega.{arith}
 use mathlib.Core.Path.{_≡_, refl, sym, ap, _∙_}
 use mathlib.Core.Bool.{true}
 use mathlib.Core.List.{List, [], _∷_}
 use Rattle.lists.specs.Lists.{Row}
 use Rattle.definition.specs.State.{State, Out, stays, also, through}
-use Rattle.definition.specs.Words.{fitState, addressCount}
+use Rattle.definition.specs.Words.{fitState}
 use Rattle.definition.specs.Reference.Insert as Insert
 use Rattle.definition.specs.Reference.Insert.{create4, insert4, inserted, kernelAdd4}
 use Rattle.definition.specs.Kept.Keeps.{Keeps, keeps-fit}
-use Rattle.state.specs.Holds.{Holds, Valid, holds-long, sizes-of}
+use Rattle.state.specs.Holds.{Holds, Sound}
 use Rattle.steps.specs.Adds.{Adds, rowsOf, joined, adds-rows}
 use Rattle.steps.specs.declared.Told.{Told}
 use Rattle.steps.specs.declared.Told.the-variants.{Rows, Full}
 use Rattle.layout.specs.Route.{table}
-
-pub record Sound (w : List ℕ) : Type 0 where
-  pub state : State
-  pub holds : Holds w state
-  pub fits : fitState state ≡ true
-
-pub sound-valid : {w : List ℕ} → Sound w → Valid w
-sound-valid s = record { state = s .state; holds = s .holds }
-
-pub sound-long : {w : List ℕ} → Sound w → length w ≡ 9507
-sound-long s = holds-long (s .holds)
-
-pub sound-few : {w : List ℕ} → Sound w → addressCount w ≤ 64
-sound-few s = (sizes-of (s .holds)) .addresses
 
 -- what is left of a buffer
 pub rest-room : (t n : ℕ) (ev : List ℕ) → 34 * t + n ≤ length ev → n ≤ length (rest t ev)

@@ -15,9 +15,9 @@ ghost use Rattle.layout.specs.Request.{fitAddV4};
 ghost use Rattle.definition.specs.State.{State};
 ghost use Rattle.definition.specs.Words.{fitState, addressCount};
 ghost use Rattle.definition.specs.Reference.Addresses.{bring, newAddress, moved, changeV4, sameAddress};
-ghost use Rattle.state.specs.Holds.{Holds};
+ghost use Rattle.state.specs.Holds.{Holds, Sound};
 ghost use Rattle.steps.specs.Adds.{Adds, rowsOf, joined};
-ghost use Rattle.bring.specs.Sound.{Sound, AddsFrom};
+ghost use Rattle.bring.specs.Sound.{AddsFrom};
 
 // The answer of one step after another that told k rows.
 pub fn joined(k: usize, told: Told) -> Told

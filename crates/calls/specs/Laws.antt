@@ -8,7 +8,7 @@ use mathlib.Core.Option.{Option, none, some}
 use lib.Dec.{eqb, leb, ltb}
 use borrow.Author.Tests.{ne-eqb}
 use Rattle.lists.specs.Lists.{Row, flat, put}
-use Rattle.lists.specs.All.{cond-case, cond-true, cond-false}
+use Rattle.lists.specs.Bools.{cond-case, cond-true, cond-false}
 use Rattle.lists.specs.Put.{put-none}
 use Rattle.layout.specs.Address.{optional, fitAddress}
 use Rattle.layout.specs.Route.{fitRoute}
@@ -23,8 +23,8 @@ use Rattle.changes.specs.Laws.{Answers}
 use Rattle.changes.specs.declared.Done.{Done}
 use Rattle.reply.specs.declared.Reply as Rep
 use Rattle.reply.specs.Answer.{replyFrom, replyOf}
-use Rattle.reply.specs.Reading.{reads}
-use Rattle.reply.specs.Told.{Told, up-told, down-told, add-v4-told, del-v4-told, expire-told, add-route4-told, del-route4-told}
+use Rattle.interface.specs.Numbers.{reads}
+use Rattle.changes.specs.Told.{Told, up-told, down-told, add-v4-told, del-v4-told, expire-told, add-route4-told, del-route4-told}
 use Rattle.calls.specs.Numbered.{clockOf, changeBy, readBy, callBy, Did}
 
 -- ---- a call that changes

@@ -1,13 +1,13 @@
 -- A changing call's result, by what its checks and the reference come to.
 use Prim.Native.Nat.{ℕ}
 use mathlib.Core.Path.{_≡_, refl, sym, ap, _∙_}
-use mathlib.Core.Bool.{Bool, true, false, cond, _&&_}
+use mathlib.Core.Bool.{Bool, true, cond, _&&_, and-true}
 use mathlib.Core.List.{List, []}
 use lib.Dec.{eqb}
 use lib.ListN.{length}
 use borrow.Author.Tests.{eq-eqb, ne-eqb}
 use Rattle.lists.specs.Lists.{flat, put}
-use Rattle.lists.specs.Put.{put-none}
+use Rattle.lists.specs.Put.{put-no-rows}
 use Rattle.definition.specs.State.{State, Out}
 use Rattle.definition.specs.Words.{within, stateSize, encode, decode, wellFormed}
 use Rattle.definition.specs.Call.{refusal, written}
@@ -19,10 +19,6 @@ use Rattle.state.specs.Holds.{Holds}
 use Rattle.interface.specs.Laws.{checked, passed}
 use Rattle.changes.specs.declared.Done.the-variants.{Refused, Rows}
 use Rattle.changes.specs.Answer.{doneOf}
-
-and-true : (b : Bool) → (b && true) ≡ b
-and-true true = refl
-and-true false = refl
 
 module _ (buffers request : Bool) (f : State → Outcome) (w : List ℕ) (n : ℕ) (c : n ≡ checked buffers true request w) where
   same : n ≡ checks (eqb (length w) stateSize && buffers) (wellFormed w) request
@@ -36,11 +32,6 @@ module _ (buffers request : Bool) (f : State → Outcome) (w : List ℕ) (n : �
   unfolding changing
   change-made h = rw (← same, eq-eqb n 0 h)
 
--- no row leaves a buffer as it was
-pub kept : (ev : List ℕ) → ev ≡ put 0 (flat []) ev
-unfolding flat
-kept ev = put-none 0 ev
-
 -- what a public call promises of a result
 pub record Answers (x : Result) (w′ ev ev′ : List ℕ) (r : Rattle.changes.specs.declared.Done.Done) : Type 0 where
   pub answer : r ≡ doneOf (x .reply)
@@ -52,7 +43,7 @@ answers-refused x w ev n h e =
     record {
       answer = rw (e, ne-eqb n 0 h);
       words = ap (λ (y : Result). y .words) (sym e);
-      events = kept ev ∙ ap (λ (y : Result). put 0 (flat (y .reply .rows)) ev) (sym e);
+      events = put-no-rows ev ∙ ap (λ (y : Result). put 0 (flat (y .reply .rows)) ev) (sym e);
     }
 
 -- a step within the limits that tells these rows
@@ -75,5 +66,5 @@ module _ (w ev : List ℕ) (n : ℕ) (c : n ≡ checked (eventsFit (length ev)) 
       record {
         answer = rw e refl;
         words = h .words ∙ ap (λ (y : Result). y .words) (sym e);
-        events = kept ev ∙ ap (λ (y : Result). put 0 (flat (y .reply .rows)) ev) (sym e);
+        events = put-no-rows ev ∙ ap (λ (y : Result). put 0 (flat (y .reply .rows)) ev) (sym e);
       }

@@ -7,17 +7,18 @@ use mathlib.Core.List.{List, []}
 use lib.Dec.{eqb}
 use lib.ListN.{length}
 use borrow.Author.Tests.{ne-eqb, eqb-true, leb-true}
-use Rattle.lists.specs.All.{and-left, and-right}
+use Rattle.lists.specs.Bools.{and-left, and-right}
 use Rattle.lists.specs.Lists.{Row, flat, put}
 use Rattle.definition.specs.State.{State, Out, sizes}
-use Rattle.definition.specs.Words.{within, stateSize, encode, decode, wellFormed, fitState}
+use Rattle.definition.specs.Words.{within, stateSize, encode, decode, wellFormed}
 use Rattle.definition.specs.Call.{refusal, written}
 use Rattle.definition.specs.Step.{Result, checks, changing, outcome, requestIs, eventsFit}
-use Rattle.definition.specs.Kept.Encode.{good-decode, encode-decode}
+use Rattle.definition.specs.Kept.Encode.{good-decode, encode-decode, Good}
 use Rattle.definition.specs.Reference.Addresses.{Outcome, goes, refused}
 use Rattle.definition.specs.Kept.Numbers.{Numbered}
+use Rattle.state.specs.Holds.{Sound, Holds}
 use Rattle.request.specs.declared.Done as request
-use Rattle.request.specs.Done.{Requested, Sound}
+use Rattle.request.specs.Done.{Requested}
 use Rattle.interface.specs.Laws.{checked, passed, held}
 use Rattle.changes.specs.declared.Done.{Done}
 use Rattle.changes.specs.declared.Done.the-variants.{Refused, Rows}
@@ -59,26 +60,30 @@ pub sized-first : (sized room fit : Bool) (w : List ℕ) → checked (sized && r
 sized-first true room fit w = refl
 sized-first false room fit w = no-room (eqb (length w) stateSize) (wellFormed w && true) false fit
 
--- words that passed the checks hold a fit state, and are what they encode
+-- words that passed the checks hold a fit state
 pub sound : (buffers request : Bool) (w : List ℕ) (n : ℕ) → n ≡ checked buffers true request w → n ≡ 0 → Sound w
 sound buffers request w n c z =
     let p = passed buffers true request w n c z in
-    record { state = decode w; holding = held buffers true request w n c z; fits = good-decode w (p .long) (p .formed) .fits }
+    record { state = decode w; holds = held buffers true request w n c z; fits = good-decode w (p .long) (p .formed) .fits }
 
-pub fit-decoded : (buffers request : Bool) (w : List ℕ) (n : ℕ) → n ≡ checked buffers true request w → n ≡ 0 → fitState (decode w) ≡ true
-fit-decoded buffers request w n c z =
-    let p = passed buffers true request w n c z in
-    good-decode w (p .long) (p .formed) .fits
+-- what a request that passed the checks finds: it has its words and is fit, there is room for all that a call tells, and the
+-- words are those of a good state, on which the call is the reference
+pub record Asked (size : ℕ) (fitted : Bool) (f : State → Outcome) (q w ev : List ℕ) : Type 0 where
+  pub long : length q ≡ size
+  pub fit : fitted ≡ true
+  pub room : 13056 ≤ length ev
+  pub good : Good (decode w)
+  pub holds : Holds w (decode w)
+  pub same : encode (decode w) ≡ w
+  pub made : changing (requestIs size q && eventsFit (length ev)) fitted f w ≡ outcome (f (decode w)) w
 
-pub encoded : (buffers request : Bool) (w : List ℕ) (n : ℕ) → n ≡ checked buffers true request w → n ≡ 0 → encode (decode w) ≡ w
-encoded buffers request w n c z =
-    let p = passed buffers true request w n c z in
-    encode-decode w (p .long) (p .formed)
+pub asked-sound : {size : ℕ} {fitted : Bool} {f : State → Outcome} {q w ev : List ℕ} → Asked size fitted f q w ev → Sound w
+asked-sound {w = w} p = record { state = decode w; holds = p .holds; fits = p .good .fits }
 
 -- a request of its words and fit, by the flag that the code computed
 module _ (q w ev : List ℕ) (n size : ℕ) (fitted flag : Bool) (f : State → Outcome)
     (k : flag ≡ (requestIs size q && fitted)) (c : n ≡ checked (requestIs size q && eventsFit (length ev)) true flag w) where
-  pub by-fit : n ≡ checked (requestIs size q && eventsFit (length ev)) true fitted w
+  by-fit : n ≡ checked (requestIs size q && eventsFit (length ev)) true fitted w
   by-fit = c ∙ ap (λ (b : Bool). checked (requestIs size q && eventsFit (length ev)) true b w) k ∙ sized-first (requestIs size q) (eventsFit (length ev)) fitted w
 
   pub request-no : (n ≡ 0 → ⊥) → Answers (changing (requestIs size q && eventsFit (length ev)) fitted f w) w ev ev (Refused n)
@@ -86,16 +91,20 @@ module _ (q w ev : List ℕ) (n size : ℕ) (fitted flag : Bool) (f : State → 
       answers-refused (changing (requestIs size q && eventsFit (length ev)) fitted f w) w ev n h
       (change-refused (requestIs size q && eventsFit (length ev)) fitted f w n by-fit h)
 
-  pub request-fits : n ≡ 0 → (length q ≡ size) × (fitted ≡ true) × (13056 ≤ length ev)
-  request-fits z =
-      let p = passed (requestIs size q && eventsFit (length ev)) true fitted w n by-fit z in (
-        eqb-true (length q) size (and-left (requestIs size q) (eventsFit (length ev)) (p .room)),
-        p .asked,
-        leb-true 13056 (length ev) (and-right (requestIs size q) (eventsFit (length ev)) (p .room)),
-      )
+  pub request-asked : n ≡ 0 → Asked size fitted f q w ev
+  request-asked z =
+      let p = passed (requestIs size q && eventsFit (length ev)) true fitted w n by-fit z in
+      record {
+        long = eqb-true (length q) size (and-left (requestIs size q) (eventsFit (length ev)) (p .room));
+        fit = p .asked;
+        room = leb-true 13056 (length ev) (and-right (requestIs size q) (eventsFit (length ev)) (p .room));
+        good = good-decode w (p .long) (p .formed);
+        holds = held (requestIs size q && eventsFit (length ev)) true fitted w n by-fit z;
+        same = encode-decode w (p .long) (p .formed);
+        made = change-made (requestIs size q && eventsFit (length ev)) fitted f w n by-fit z;
+      }
 
-  pub request-yes : (w′ ev′ : List ℕ) (r : request.Done) → n ≡ 0 → Numbered (f (decode w)) → Requested (f (decode w)) (decode w) w′ ev ev′ r → Answers (changing (requestIs size q && eventsFit (length ev)) fitted f w) w′ ev ev′ (publicOf r)
-  request-yes w′ ev′ r z m d =
-      request-answers w w′ ev ev′ (encoded (requestIs size q && eventsFit (length ev)) fitted w n by-fit z) r
-      (changing (requestIs size q && eventsFit (length ev)) fitted f w) (f (decode w))
-      (change-made (requestIs size q && eventsFit (length ev)) fitted f w n by-fit z) m d
+pub request-yes : {size : ℕ} {fitted : Bool} {f : State → Outcome} {q w ev : List ℕ} → Asked size fitted f q w ev → (w′ ev′ : List ℕ) (r : request.Done) → Numbered (f (decode w))
+    → Requested (f (decode w)) (decode w) w′ ev ev′ r → Answers (changing (requestIs size q && eventsFit (length ev)) fitted f w) w′ ev ev′ (publicOf r)
+request-yes {size} {fitted} {f} {q} {w} {ev} p w′ ev′ r m d =
+    request-answers w w′ ev ev′ (p .same) r (changing (requestIs size q && eventsFit (length ev)) fitted f w) (f (decode w)) (p .made) m d

@@ -9,7 +9,8 @@ use lib.ListN.{length}
 use borrow.Author.Tests.{leb-true}
 use Rattle.lists.specs.Lists.{flat, put}
 use Rattle.lists.specs.Count.{count-most}
-use Rattle.lists.specs.All.{and-iff}
+use Rattle.lists.specs.Bools.{and-iff}
+use Rattle.lists.specs.Put.{put-no-rows}
 use Rattle.life.specs.Life.{allowance}
 use Rattle.definition.specs.State.{State, Out}
 use Rattle.definition.specs.Words.{within, encode, decode}
@@ -22,15 +23,15 @@ use Rattle.definition.specs.Kept.Shrinking.{weight, live}
 use Rattle.definition.specs.Kept.Peaks.{expire-roomy, delV4-roomy}
 use Rattle.definition.specs.Kept.Encode.{Good, good-decode}
 use Rattle.state.specs.Holds.{Holds}
-use Rattle.events.specs.Step.{Fits, Ready, Step}
+use Rattle.events.specs.Step.{Fits, Step}
 use Rattle.interface.specs.Laws.{checked, passed, held}
 use Rattle.changes.specs.declared.Done.the-variants.{Refused, Rows}
 use Rattle.delv4.specs.declared.Deleted as Deleted
 use Rattle.delv4.specs.declared.Deleted.{Deleted}
 use Rattle.delv4.specs.Asked.{Deletes}
 use Rattle.changes.specs.Answer.{deletedOf}
-use Rattle.changes.specs.Laws.{Answers, answers-refused, change-refused, change-made, kept}
-use Rattle.changes.specs.Requests.{answers-by, by-fit}
+use Rattle.changes.specs.Laws.{Answers, answers-refused, change-refused, change-made}
+use Rattle.changes.specs.Requests.{answers-by, Asked}
 
 -- 384 rows suffice
 weight-few : (st : State) → Good st → weight st ≤ 384
@@ -38,14 +39,15 @@ weight-few st g =
     let k = simp and-iff at (g .limits) in
     omega (arith, leb-true (length (st .addresses)) 64 (k .0 .0), leb-true (length (st .routes)) 256 (k .0 .1), count-most live (st .addresses))
 
--- words that passed the checks, with a buffer of 384 rows
+-- a good state's words, with a buffer of 384 rows
+pub roomy-held : (w ev : List ℕ) → Good (decode w) → Holds w (decode w) → 13056 ≤ length ev → Fits weight (decode w) w ev
+roomy-held w ev g h room = record { holds = h; room = omega (arith, weight-few (decode w) g) }
+
+-- words that passed the checks are such
 pub roomy-buffer : (buffers request : Bool) (w ev : List ℕ) (n : ℕ) → n ≡ checked buffers true request w → n ≡ 0 → 13056 ≤ length ev → Fits weight (decode w) w ev
 roomy-buffer buffers request w ev n c z room =
     let p = passed buffers true request w n c z in
-    record { holds = held buffers true request w n c z; room = omega (arith, weight-few (decode w) (good-decode w (p .long) (p .formed))) }
-
-pub ready-buffer : (buffers request : Bool) (w ev : List ℕ) (n : ℕ) → n ≡ checked buffers true request w → n ≡ 0 → 13056 ≤ length ev → Ready weight w ev
-ready-buffer buffers request w ev n c z room = record { state = decode w; fits = roomy-buffer buffers request w ev n c z room }
+    roomy-held w ev (good-decode w (p .long) (p .formed)) (held buffers true request w n c z) room
 
 made : (o : Out) (w : List ℕ) → within (o .peak) ≡ true → outcome (goes o) w ≡ record { reply = written (o .told); words = encode (o .state) }
 made o w h = rw h
@@ -74,24 +76,12 @@ module _ (w ev : List ℕ) (n clock : ℕ) (c : n ≡ checked (eventsFit (length
       (expire-roomy allowance clock (decode w) (good-decode w (p .long) (p .formed))) t
 
 -- a deletion of an address: by what it comes to
-module _ (q w ev : List ℕ) (n : ℕ) (fitted flag : Bool) (k : flag ≡ (requestIs delV4Size q && fitted)) (fq : fitted ≡ fitDelV4 q)
-    (c : n ≡ checked (requestIs delV4Size q && eventsFit (length ev)) true flag w) (z : n ≡ 0) where
-  passing : n ≡ checked (requestIs delV4Size q && eventsFit (length ev)) true fitted w
-  passing = by-fit q w ev n delV4Size fitted flag (delV4 q) k c
-
-  asks : changing (requestIs delV4Size q && eventsFit (length ev)) fitted (delV4 q) w ≡ outcome (delV4 q (decode w)) w
-  asks = change-made (requestIs delV4Size q && eventsFit (length ev)) fitted (delV4 q) w n passing z
-
-  good : Good (decode w)
-  good =
-      let p = passed (requestIs delV4Size q && eventsFit (length ev)) true fitted w n passing z in
-      good-decode w (p .long) (p .formed)
-
-  pub deletes-answers : (w′ ev′ : List ℕ) (d : Deleted) → Deletes q (decode w) w′ ev ev′ d → Answers (changing (requestIs delV4Size q && eventsFit (length ev)) fitted (delV4 q) w) w′ ev ev′ (deletedOf d)
+module _ (q w ev : List ℕ) (p : Asked delV4Size (fitDelV4 q) (delV4 q) q w ev) where
+  pub deletes-answers : (w′ ev′ : List ℕ) (d : Deleted) → Deletes q (decode w) w′ ev ev′ d → Answers (changing (requestIs delV4Size q && eventsFit (length ev)) (fitDelV4 q) (delV4 q) w) w′ ev ev′ (deletedOf d)
   deletes-answers w′ ev′ (Deleted.the-variants.Rows r) t =
-      let roomy-here : within (t .out .peak) ≡ true = rw (t .is) at (delV4-roomy q (decode w) good) in
-      step-answers (changing (requestIs delV4Size q && eventsFit (length ev)) fitted (delV4 q) w) (decode w) (t .out) w w′ ev ev′ r
-      (asks ∙ ap (λ (o : Outcome). outcome o w) (t .is)) roomy-here (t .step)
+      let roomy-here : within (t .out .peak) ≡ true = rw (t .is) at (delV4-roomy q (decode w) (p .good)) in
+      step-answers (changing (requestIs delV4Size q && eventsFit (length ev)) (fitDelV4 q) (delV4 q) w) (decode w) (t .out) w w′ ev ev′ r
+      (p .made ∙ ap (λ (o : Outcome). outcome o w) (t .is)) roomy-here (t .step)
   deletes-answers w′ ev′ Deleted.the-variants.Nothing t =
-      answers-by (changing (requestIs delV4Size q && eventsFit (length ev)) fitted (delV4 q) w) (record { reply = refusal 99; words = encode (decode w) }) w′ ev ev′ (Refused 99)
-      (asks ∙ ap (λ (o : Outcome). outcome o w) (t .0) ∙ rw (good .limits) refl) refl (t .1 .words) (t .2 ∙ kept ev)
+      answers-by (changing (requestIs delV4Size q && eventsFit (length ev)) (fitDelV4 q) (delV4 q) w) (record { reply = refusal 99; words = encode (decode w) }) w′ ev ev′ (Refused 99)
+      (p .made ∙ ap (λ (o : Outcome). outcome o w) (t .0) ∙ rw (p .good .limits) refl) refl (t .1 .words) (t .2 ∙ put-no-rows ev)

@@ -3,10 +3,9 @@ use life::Nanoseconds;
 ghost use mathlib.Core.Path.{_≡_};
 ghost use lib.ListN.{length};
 ghost use Rattle.lists.specs.Lists.{flat, put};
-ghost use mathlib.Core.Bool.{_&&_};
-ghost use Rattle.layout.specs.Request.{fitAddRoute4, fitDelRoute4, fitDelV4, addRoute4Size, delRoute4Size, delV4Size};
-ghost use Rattle.definition.specs.Step.{downCall, expireCall, delV4Call, addRoute4Call, delRoute4Call, requestIs};
-ghost use Rattle.changes.specs.Answer.{doneOf, publicOf};
+ghost use Rattle.definition.specs.Step.{downCall, expireCall, delV4Call, addRoute4Call, delRoute4Call};
+ghost use Rattle.interface.specs.Answer.{numbers};
+ghost use Rattle.changes.specs.Answer.{doneBy, doneOf, publicOf};
 
 // What a changing call answers: a refusal's number, or how many event rows it wrote.
 pub enum Done {
@@ -15,6 +14,7 @@ pub enum Done {
 }
 
 pub fn down(state: &mut [u32], events: &mut [u32]) -> Done
+    ensures { λ r. ⌜ doneBy r ≡ numbers (downCall (length (now (events .entry))) (now (state .entry)) .reply) ⌝ }
     ensures { λ r. ⌜ r ≡ doneOf (downCall (length (now (events .entry))) (now (state .entry)) .reply) ⌝ }
     ensures { λ _. ⌜ now (state .exit) ≡ downCall (length (now (events .entry))) (now (state .entry)) .words ⌝ }
     ensures { λ _. ⌜ now (events .exit) ≡ put 0 (flat (downCall (length (now (events .entry))) (now (state .entry)) .reply .rows)) (now (events .entry)) ⌝ }
@@ -31,6 +31,7 @@ pub fn down(state: &mut [u32], events: &mut [u32]) -> Done
 const CLOCK_LIMIT: u64 = 18446744073689551615;
 
 pub fn expire(state: &mut [u32], events: &mut [u32], clock: u64) -> Done
+    ensures { λ r. ⌜ doneBy r ≡ numbers (expireCall (length (now (events .entry))) clock (now (state .entry)) .reply) ⌝ }
     ensures { λ r. ⌜ r ≡ doneOf (expireCall (length (now (events .entry))) clock (now (state .entry)) .reply) ⌝ }
     ensures { λ _. ⌜ now (state .exit) ≡ expireCall (length (now (events .entry))) clock (now (state .entry)) .words ⌝ }
     ensures { λ _. ⌜ now (events .exit) ≡ put 0 (flat (expireCall (length (now (events .entry))) clock (now (state .entry)) .reply .rows)) (now (events .entry)) ⌝ }
@@ -40,34 +41,6 @@ pub fn expire(state: &mut [u32], events: &mut [u32], clock: u64) -> Done
         return Done::Refused(n);
     }
     Done::Rows(expiry::expire(state, events, life::FUZZ, Nanoseconds(clock)))
-}
-
-// A request of its words that is fit.
-fn fit_add_route4(q: &[u32]) -> bool
-    ensures { λ r. ⌜ r ≡ (requestIs addRoute4Size (now (q .entry)) && fitAddRoute4 (now (q .entry))) ⌝ }
-{
-    if q.len() != 34 {
-        return false;
-    }
-    fit::fit_add_route4(q)
-}
-
-fn fit_del_route4(q: &[u32]) -> bool
-    ensures { λ r. ⌜ r ≡ (requestIs delRoute4Size (now (q .entry)) && fitDelRoute4 (now (q .entry))) ⌝ }
-{
-    if q.len() != 49 {
-        return false;
-    }
-    fit::fit_del_route4(q)
-}
-
-fn fit_del_v4(q: &[u32]) -> bool
-    ensures { λ r. ⌜ r ≡ (requestIs delV4Size (now (q .entry)) && fitDelV4 (now (q .entry))) ⌝ }
-{
-    if q.len() != 11 {
-        return false;
-    }
-    fit::fit_del_v4(q)
 }
 
 // 203 where a list would pass its limit.
@@ -82,11 +55,12 @@ fn public_of(d: request::Done) -> Done
 }
 
 pub fn add_route4(state: &mut [u32], q: &[u32], events: &mut [u32]) -> Done
+    ensures { λ r. ⌜ doneBy r ≡ numbers (addRoute4Call (now (q .entry)) (length (now (events .entry))) (now (state .entry)) .reply) ⌝ }
     ensures { λ r. ⌜ r ≡ doneOf (addRoute4Call (now (q .entry)) (length (now (events .entry))) (now (state .entry)) .reply) ⌝ }
     ensures { λ _. ⌜ now (state .exit) ≡ addRoute4Call (now (q .entry)) (length (now (events .entry))) (now (state .entry)) .words ⌝ }
     ensures { λ _. ⌜ now (events .exit) ≡ put 0 (flat (addRoute4Call (now (q .entry)) (length (now (events .entry))) (now (state .entry)) .reply .rows)) (now (events .entry)) ⌝ }
 {
-    let fit = fit_add_route4(q);
+    let fit = fit::fit_add_route4(q);
     let n = interface::checked(state, (q.len() == 34) & (13056 <= events.len()), true, fit);
     if n != 0 {
         return Done::Refused(n);
@@ -95,11 +69,12 @@ pub fn add_route4(state: &mut [u32], q: &[u32], events: &mut [u32]) -> Done
 }
 
 pub fn del_route4(state: &mut [u32], q: &[u32], events: &mut [u32]) -> Done
+    ensures { λ r. ⌜ doneBy r ≡ numbers (delRoute4Call (now (q .entry)) (length (now (events .entry))) (now (state .entry)) .reply) ⌝ }
     ensures { λ r. ⌜ r ≡ doneOf (delRoute4Call (now (q .entry)) (length (now (events .entry))) (now (state .entry)) .reply) ⌝ }
     ensures { λ _. ⌜ now (state .exit) ≡ delRoute4Call (now (q .entry)) (length (now (events .entry))) (now (state .entry)) .words ⌝ }
     ensures { λ _. ⌜ now (events .exit) ≡ put 0 (flat (delRoute4Call (now (q .entry)) (length (now (events .entry))) (now (state .entry)) .reply .rows)) (now (events .entry)) ⌝ }
 {
-    let fit = fit_del_route4(q);
+    let fit = fit::fit_del_route4(q);
     let n = interface::checked(state, (q.len() == 49) & (13056 <= events.len()), true, fit);
     if n != 0 {
         return Done::Refused(n);
@@ -108,11 +83,12 @@ pub fn del_route4(state: &mut [u32], q: &[u32], events: &mut [u32]) -> Done
 }
 
 pub fn del_v4(state: &mut [u32], q: &[u32], events: &mut [u32]) -> Done
+    ensures { λ r. ⌜ doneBy r ≡ numbers (delV4Call (now (q .entry)) (length (now (events .entry))) (now (state .entry)) .reply) ⌝ }
     ensures { λ r. ⌜ r ≡ doneOf (delV4Call (now (q .entry)) (length (now (events .entry))) (now (state .entry)) .reply) ⌝ }
     ensures { λ _. ⌜ now (state .exit) ≡ delV4Call (now (q .entry)) (length (now (events .entry))) (now (state .entry)) .words ⌝ }
     ensures { λ _. ⌜ now (events .exit) ≡ put 0 (flat (delV4Call (now (q .entry)) (length (now (events .entry))) (now (state .entry)) .reply .rows)) (now (events .entry)) ⌝ }
 {
-    let fit = fit_del_v4(q);
+    let fit = fit::fit_del_v4(q);
     let n = interface::checked(state, (q.len() == 11) & (13056 <= events.len()), true, fit);
     if n != 0 {
         return Done::Refused(n);

@@ -10,7 +10,7 @@ use native.Mathlib.Numerals.{add-one}
 use lib.ListN.{length, getD, take, drop}
 use lib.Seq.{take-at, drop-at, drop-cons, take-suc, length-take-le}
 use Rattle.lists.specs.Lists.{any, keep, first, removeFirst}
-use Rattle.lists.specs.All.{or-false}
+use Rattle.lists.specs.Bools.{or-false}
 use Rattle.lists.specs.At.{removeAt}
 
 module _ {A : Type 0} where

@@ -8,7 +8,8 @@ use mathlib.Core.List.{List, [], _∷_, _++_, map, append-assoc}
 use lib.Dec.{eqb}
 use borrow.Author.Tests.{eqb-true, eq-eqb}
 use Rattle.lists.specs.Lists.{Row, any, keep}
-use Rattle.lists.specs.All.{and-iff, any-none, test-case, or-right}
+use Rattle.lists.specs.Bools.{and-iff, test-case, or-right}
+use Rattle.lists.specs.All.{any-none}
 use Rattle.layout.specs.Route.{table, dst, len, tos, kind, scope, prefsrcPresent, prefsrc, proto, device, priority}
 use Rattle.layout.specs.Event.{delRoute4}
 use Rattle.definition.specs.State.{State, Out, becomes, also, through, withRoutes}

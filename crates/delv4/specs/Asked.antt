@@ -10,7 +10,8 @@ use lib.Dec.{eqb}
 use lib.ListN.{length, getD, getElem?}
 use borrow.Author.Tests.{eqb-true, eqb-false, eq-eqb, ne-eqb}
 use Rattle.lists.specs.Lists.{Row, any, first, eqRow}
-use Rattle.lists.specs.All.{and-iff, and-both, and-left, and-right, fails, true-false, eqRow-refl}
+use Rattle.lists.specs.Bools.{and-iff, and-both, and-left, and-right, fails, true-false}
+use Rattle.lists.specs.All.{eqRow-refl}
 use Rattle.lists.specs.Place.{placeOf, first-at, nothing-from, something-at}
 use Rattle.layout.specs.Address.{local, prefix, label, labelLength}
 use Rattle.layout.specs.Request.{localPresent, localGiven, addressPresent, addressGiven, prefixGiven, labelPresent, labelLengthGiven, labelGiven}

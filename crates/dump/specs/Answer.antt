@@ -2,12 +2,12 @@
 use Prim.Native.Nat.{ℕ, _≤_}
 use mathlib.Core.Path.{_≡_, refl, sym, ap, _∙_}
 use mathlib.Core.Bool.{Bool, true, cond}
-use mathlib.Core.List.{List, []}
+use mathlib.Core.List.{List}
 use lib.Dec.{eqb, leb}
 use lib.ListN.{length}
 use borrow.Author.Tests.{ne-eqb}
 use Rattle.lists.specs.Lists.{Row, flat, put}
-use Rattle.lists.specs.Put.{put-none}
+use Rattle.lists.specs.Put.{put-no-rows}
 use Rattle.definition.specs.Words.{decode}
 use Rattle.definition.specs.Call.{Reply, refusal, written}
 use Rattle.definition.specs.Step.{reading, dump4Call, listingRoom}
@@ -24,16 +24,12 @@ listedBy (Rows n) = valuing n
 abbrev pub listedOf : Reply → Listed
 listedOf r = cond (eqb (r .number) 0) (Rows (r .value)) (Refused (r .number))
 
-kept : (l : List ℕ) → l ≡ put 0 (flat []) l
-unfolding flat
-kept l = put-none 0 l
-
 module _ (w l : List ℕ) (n : ℕ) (c : n ≡ checked (leb listingRoom (length l)) true true w) where
   pub dump-no : (n ≡ 0 → ⊥) → (Refused n ≡ listedOf (dump4Call (length l) w .reply)) × (l ≡ put 0 (flat (dump4Call (length l) w .reply .rows)) l)
   unfolding dump4Call
   dump-no h =
       let e : dump4Call (length l) w .reply ≡ refusal n = read-refused (leb listingRoom (length l)) true true (λ st. written (dump4 st)) w n c h in
-      (rw (e, ne-eqb n 0 h), kept l ∙ ap (λ (r : Reply). put 0 (flat (r .rows)) l) (sym e))
+      (rw (e, ne-eqb n 0 h), put-no-rows l ∙ ap (λ (r : Reply). put 0 (flat (r .rows)) l) (sym e))
 
   pub dump-yes : (k : ℕ) (l′ : List ℕ) → n ≡ 0 → k ≡ length (dump4 (decode w)) → l′ ≡ put 0 (flat (dump4 (decode w))) l
       → (Rows k ≡ listedOf (dump4Call (length l) w .reply)) × (l′ ≡ put 0 (flat (dump4Call (length l) w .reply .rows)) l)

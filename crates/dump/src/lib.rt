@@ -3,7 +3,8 @@ ghost use mathlib.Core.Path.{_≡_};
 ghost use lib.ListN.{length};
 ghost use Rattle.lists.specs.Lists.{flat, put};
 ghost use Rattle.definition.specs.Step.{dump4Call};
-ghost use Rattle.dump.specs.Answer.{listedOf};
+ghost use Rattle.interface.specs.Answer.{numbers};
+ghost use Rattle.dump.specs.Answer.{listedBy, listedOf};
 
 // What a listing answers: a refusal's number, or how many rows it wrote.
 pub enum Listed {
@@ -12,6 +13,7 @@ pub enum Listed {
 }
 
 pub fn dump4(state: &[u32], listing: &mut [u32]) -> Listed
+    ensures { λ r. ⌜ listedBy r ≡ numbers (dump4Call (length (now (listing .entry))) (now (state .entry)) .reply) ⌝ }
     ensures { λ r. ⌜ r ≡ listedOf (dump4Call (length (now (listing .entry))) (now (state .entry)) .reply) ⌝ }
     ensures { λ _. ⌜ now (listing .exit) ≡ put 0 (flat (dump4Call (length (now (listing .entry))) (now (state .entry)) .reply .rows)) (now (listing .entry)) ⌝ }
 {

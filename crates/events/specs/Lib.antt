@@ -1,3 +1,4 @@
 pub mod Row
+pub mod Does
 pub mod Step
 pub mod Turns

@@ -7,7 +7,8 @@ use lib.ListN.{length, take, drop}
 use Rattle.lists.specs.Lists.{Row}
 use Rattle.definition.specs.State.{State, Out, stays, also, through}
 use Rattle.state.specs.Holds.{Holds}
-use Rattle.events.specs.Step.{Fits, Ready, Step, rest, step-same, step-none, rest-fits, step-also}
+use Rattle.events.specs.Step.{Fits, Ready, Step, step-same, step-none, rest-fits, step-also}
+use Rattle.events.specs.Does.{rest}
 
 -- ---- steps that show the same: the state that they leave and the rows that they tell
 pub record Like (o p : Out) : Type 0 where

@@ -10,7 +10,8 @@ use lib.Dec.{eqb, ltb}
 use lib.ListN.{length, getD, take, drop, set, length-append}
 use borrow.Author.Tests.{lt-ltb, le-ltb, ltb-true, ltb-false}
 use Rattle.lists.specs.Lists.{Row, all, any, eqRow, put, zeros}
-use Rattle.lists.specs.All.{cond-true, cond-false, test-case, eqRow-refl}
+use Rattle.lists.specs.Bools.{cond-true, cond-false, test-case}
+use Rattle.lists.specs.All.{eqRow-refl}
 use Rattle.lists.specs.At.{all-at}
 use Rattle.lists.specs.Rows.{length-zeros}
 use Rattle.life.specs.Life.{reached}
@@ -25,7 +26,8 @@ use Rattle.definition.specs.Kept.Fit.{length-address}
 use Rattle.definition.specs.Kept.Rows.{faded-fit}
 use Rattle.definition.specs.Kept.Shrinking.{weight}
 use Rattle.state.specs.Holds.{Holds, Valid, count-addresses, holds-long}
-use Rattle.events.specs.Step.{Fits, Ready, Step, rest, rest-fits, step-one, step-none, step-also}
+use Rattle.events.specs.Does.{rest}
+use Rattle.events.specs.Step.{Fits, Ready, Step, rest-fits, step-one, step-none, step-also}
 use Rattle.events.specs.Turns.{Like, like-refl, like-sym, like-trans, also-like, also-assoc, Going, going-start, going-end, going-fits}
 use Rattle.deletion.specs.Delete.{step-eq}
 use Rattle.leave.specs.Turns.{step-facts}

@@ -9,11 +9,12 @@ use mathlib.Core.Option.{Option, none, some}
 use native.Mathlib.Omega.{arith}
 use native.Mathlib.Numerals.{add-one}
 use lib.Dec.{eqb, ltb}
-use borrow.Author.Tests.{lt-ltb, le-ltb}
-use lib.ListN.{length, getD, take, drop, set, length-set, take-append-drop, length-append}
-use lib.Seq.{drop-cons, set-split, take-all, take-at, length-take-le}
+use borrow.Author.Tests.{lt-ltb, le-ltb, not-true}
+use lib.ListN.{length, getD, take, drop, set, length-set, length-append}
+use lib.Seq.{set-split, take-all, take-at, length-take-le, split-at}
 use Rattle.lists.specs.Lists.{Row, all, any, keep, first, until, onward, removeFirst, eqRow}
-use Rattle.lists.specs.All.{or-false, or-left, or-right, any-none, and-iff, test-case, cond-case, eqRow-refl, fails, true-false}
+use Rattle.lists.specs.Bools.{or-false, or-left, or-right, and-iff, test-case, cond-case, fails, true-false}
+use Rattle.lists.specs.All.{any-none, eqRow-refl}
 use Rattle.lists.specs.At.{all-at}
 use Rattle.lists.specs.Count.{tick, tick-one, tick-none, count, count-append, length-removeFirst, length-removeFirst-most}
 use Rattle.life.specs.Life.{reached, clock}
@@ -70,11 +71,7 @@ module _ (allowance now : ℕ) where
 
   fades-faded : (a : Row) → fitAddress a ≡ true → fades allowance now (faded a) ≡ false
   unfolding fades
-  fades-faded a h = fails _ (λ e. true-false (deprecated (faded a)) (faded-marked a h) (no-more (deprecated (faded a)) ((simp and-iff at e) .0 .1)))
-    where
-      no-more : (b : Bool) → not b ≡ true → b ≡ false
-      no-more true k = sym k
-      no-more false k = refl
+  fades-faded a h = fails _ (λ e. true-false (deprecated (faded a)) (faded-marked a h) (not-true (deprecated (faded a)) ((simp and-iff at e) .0 .1)))
 
   -- it is due or fades
   abbrev pub stirs : Row → Bool
@@ -112,17 +109,10 @@ module _ (allowance now : ℕ) where
       let j = or-false (due allowance now a) (fades allowance now a) (k .0) in
       rw (j .0) (first-behind l m (k .1))
 
-  fade-is : (st : State) → fade allowance now st ≡ becomes (withAddresses (fadedList (st .addresses)) st) (toldOf (st .addresses))
-  unfolding fade
-  fade-is st = refl
-
   -- nothing is marked
   fade-stays : (st : State) → fadedList (st .addresses) ≡ st .addresses → toldOf (st .addresses) ≡ [] → Like (fade allowance now st) (stays st)
   unfolding fade
   fade-stays st e f = record { leaves = ap (λ (l : List Row). withAddresses l st) e; tells = f }
-
-  cut : (l : List Row) (i : ℕ) → i < length l → take i l ++ (getD l i [] ∷ drop (suc i) l) ≡ l
-  cut l i b = rw (← (drop-cons l i [] b)) (take-append-drop i l)
 
   -- ---- the three cases at address i, behind a front of those that don't stir
   module _ (st : State) (i : ℕ) (clean : any stirs (take i (st .addresses)) ≡ false) where
@@ -142,8 +132,8 @@ module _ (allowance now : ℕ) where
           let here : fadedList (a ∷ rest) ≡ a ∷ rest = rw e in
           let none : toldOf (a ∷ rest) ≡ [] = rw e in
           fade-stays st
-          (ap fadedList (sym (cut l i b)) ∙ faded-front (take i l) (a ∷ rest) clean ∙ ap (λ (x : List Row). take i l ++ x) here ∙ cut l i b)
-          (ap toldOf (sym (cut l i b)) ∙ told-front (take i l) (a ∷ rest) clean ∙ none)
+          (ap fadedList (split-at l i [] b) ∙ faded-front (take i l) (a ∷ rest) clean ∙ ap (λ (x : List Row). take i l ++ x) here ∙ sym (split-at l i [] b))
+          (ap toldOf (split-at l i [] b) ∙ told-front (take i l) (a ∷ rest) clean ∙ none)
 
       pub expire-due : due allowance now a ≡ true → Like (expire allowance now st) (also (removeV4 a st) (expire allowance now))
       expire-due e =
@@ -164,7 +154,7 @@ module _ (allowance now : ℕ) where
         lists =
             let one : fadedList (a ∷ rest) ≡ faded a ∷ fadedList rest = rw (d, e) in
             let two : fadedList (faded a ∷ rest) ≡ faded a ∷ fadedList rest = rw (due-faded a f ∙ d, fades-faded a f) in
-            ap fadedList (sym (cut l i b)) ∙ faded-front (take i l) (a ∷ rest) clean
+            ap fadedList (split-at l i [] b) ∙ faded-front (take i l) (a ∷ rest) clean
             ∙ ap (λ (x : List Row). take i l ++ x) (one ∙ sym two)
             ∙ sym (ap fadedList split ∙ faded-front (take i l) (faded a ∷ rest) clean)
 
@@ -172,7 +162,7 @@ module _ (allowance now : ℕ) where
         tolds =
             let one : toldOf (a ∷ rest) ≡ newAddr4 (faded a) ∷ toldOf rest = rw (d, e) in
             let two : toldOf (faded a ∷ rest) ≡ toldOf rest = rw (due-faded a f ∙ d, fades-faded a f) in
-            ap toldOf (sym (cut l i b)) ∙ told-front (take i l) (a ∷ rest) clean ∙ one
+            ap toldOf (split-at l i [] b) ∙ told-front (take i l) (a ∷ rest) clean ∙ one
             ∙ ap (λ (x : List Row). newAddr4 (faded a) ∷ x) (sym (ap toldOf split ∙ told-front (take i l) (faded a ∷ rest) clean ∙ two))
 
         abbrev marks : Out
@@ -186,7 +176,7 @@ module _ (allowance now : ℕ) where
         same-first =
             let one : first (due allowance now) (a ∷ rest) ≡ first (due allowance now) rest = rw d in
             let two : first (due allowance now) (faded a ∷ rest) ≡ first (due allowance now) rest = rw (due-faded a f ∙ d) in
-            ap (first (due allowance now)) (sym (cut l i b)) ∙ first-behind (take i l) (a ∷ rest) clean
+            ap (first (due allowance now)) (split-at l i [] b) ∙ first-behind (take i l) (a ∷ rest) clean
             ∙ one ∙ sym (ap (first (due allowance now)) split ∙ first-behind (take i l) (faded a ∷ rest) clean ∙ two)
 
         pub expire-fades : Like (expire allowance now st) (also marks (expire allowance now))
@@ -297,7 +287,7 @@ live-lighter allowance now st i b f e =
     let rest = drop (suc i) l in
     let alive : live a ≡ true = (simp and-iff at e) .0 .1 in
     let dead : live (faded a) ≡ false = ap not (faded-marked a f) in
-    let one : count live l ≡ count live (take i l) + count live (a ∷ rest) = ap (count live) (sym (cut allowance now l i b)) ∙ count-append live (take i l) (a ∷ rest) in
+    let one : count live l ≡ count live (take i l) + count live (a ∷ rest) = ap (count live) (split-at l i [] b) ∙ count-append live (take i l) (a ∷ rest) in
     let two : count live (set l i (faded a)) ≡ count live (take i l) + count live (faded a ∷ rest) = ap (count live) (set-split l i (faded a) b) ∙ count-append live (take i l) (faded a ∷ rest) in
     omega (arith, one, two, tick-one (live a) alive, tick-none (live (faded a)) dead, length-set l i (faded a))
 

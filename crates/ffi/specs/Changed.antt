@@ -13,15 +13,15 @@ use borrow.Author.Tests.{eqb-true, leb-true}
 use Rattle.lists.specs.Lists.{Row, flat, put}
 use Rattle.lists.specs.Put.{put-whole}
 use Rattle.lists.specs.Rows.{length-flat}
-use Rattle.lists.specs.All.{cond-true, cond-false, and-left, and-right}
+use Rattle.lists.specs.Bools.{cond-true, cond-false, and-left, and-right}
 use Rattle.definition.specs.Call as Call
 use Rattle.definition.specs.Step.{Result}
 use Rattle.endian.specs.Endian.{bytesOf}
 use Rattle.endian.specs.Laws.{length-bytesOf, bytes-none}
 use Rattle.reply.specs.declared.Reply.{Reply}
 use Rattle.reply.specs.Answer.{replyOf}
-use Rattle.reply.specs.Told.{Told}
-use Rattle.reply.specs.Listing.{Lists}
+use Rattle.changes.specs.Told.{Told}
+use Rattle.dump.specs.Listing.{Lists}
 use Rattle.ffi.specs.Answer.{onBytes, stateFits, roomFits, changeFits, requestFits, stateOn}
 use Rattle.ffi.specs.Rows.{OneRow}
 

@@ -8,7 +8,7 @@ use mathlib.Core.List.{List, [], _∷_, _++_, map}
 use mathlib.Core.Option.{Option, none, some}
 use lib.ListN.{length, length-append, length-map}
 use Rattle.lists.specs.Lists.{Row, keep, first, until, onward}
-use Rattle.lists.specs.All.{cond-case, test-case}
+use Rattle.lists.specs.Bools.{test-case, cond-case}
 use Rattle.lists.specs.Count.{until-onward}
 use Rattle.life.specs.Life.{allowance}
 use Rattle.layout.specs.Address.{secondary}

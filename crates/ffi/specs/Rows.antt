@@ -20,7 +20,7 @@ use Rattle.definition.specs.Kept.Encode.{Good}
 use Rattle.definition.specs.Kept.Numbers.{OfFound, lookup-number}
 use Rattle.definition.specs.Kept.Reading.{FoundIn, lookup-fit}
 use Rattle.layout.specs.Route.{fitRoute}
-use Rattle.reply.specs.Reading.{reads}
+use Rattle.interface.specs.Numbers.{reads}
 
 abbrev pub OneRow : Reply → Type 0
 OneRow r = length (flat (r .rows)) ≡ 32 * boolByte (eqb (r .number) 0)

@@ -8,7 +8,7 @@ use native.Mathlib.Omega.{arith}
 use lib.Dec.{leb, lit<}
 use lib.ListN.{length, getD, take, drop}
 use borrow.Author.Tests.{le-leb, lt-leb}
-use Rattle.lists.specs.Lists.{Row, all, chop}
+use Rattle.lists.specs.Lists.{Row, all}
 use Rattle.lists.specs.Chop.{chopFrom, chop-start, pass-all, pass-all-end, chop-word-from}
 use Rattle.layout.specs.Address.{optional}
 use Rattle.layout.specs.Request.{pairIndex, pairCount, pairs, fitPairs, fitRouteWords, fitDelRoute4, listPresent}

@@ -1,13 +1,18 @@
-// Which requests are fit: every field within its width, and what is absent 0.
+// Which requests are fit: of their words, every field within its width, and what is absent 0.
 ghost use mathlib.Core.Path.{_≡_};
+ghost use mathlib.Core.Bool.{_&&_};
 ghost use Prim.Native.Nat.{_≤_};
 ghost use lib.ListN.{length};
 ghost use Rattle.layout.specs.Request.{fitAddV4, fitDelV4, fitRouteWords, fitPairs, pairCount, fitAddRoute4, fitDelRoute4};
+ghost use Rattle.layout.specs.Request.{addV4Size, delV4Size, addRoute4Size, delRoute4Size};
+ghost use Rattle.definition.specs.Step.{requestIs};
 
 pub fn fit_add_v4(q: &[u32]) -> bool
-    requires { ⌜ length (now q) ≡ 18 ⌝ }
-    ensures { λ r. ⌜ r ≡ fitAddV4 (now (q .entry)) ⌝ }
+    ensures { λ r. ⌜ r ≡ (requestIs addV4Size (now (q .entry)) && fitAddV4 (now (q .entry))) ⌝ }
 {
+    if q.len() != 18 {
+        return false;
+    }
     (q[2] <= 32)
         & address::fit_optional(q[3], q[4])
         & (q[5] < 256)
@@ -18,9 +23,11 @@ pub fn fit_add_v4(q: &[u32]) -> bool
 }
 
 pub fn fit_del_v4(q: &[u32]) -> bool
-    requires { ⌜ length (now q) ≡ 11 ⌝ }
-    ensures { λ r. ⌜ r ≡ fitDelV4 (now (q .entry)) ⌝ }
+    ensures { λ r. ⌜ r ≡ (requestIs delV4Size (now (q .entry)) && fitDelV4 (now (q .entry))) ⌝ }
 {
+    if q.len() != 11 {
+        return false;
+    }
     (q[4] <= 32)
         & address::fit_optional(q[0], q[1])
         & address::fit_optional(q[2], q[3])
@@ -46,9 +53,11 @@ fn fit_route_words(q: &[u32]) -> bool
 const GREATEST_ERRNO: u32 = 133;
 
 pub fn fit_add_route4(q: &[u32]) -> bool
-    requires { ⌜ length (now q) ≡ 34 ⌝ }
-    ensures { λ r. ⌜ r ≡ fitAddRoute4 (now (q .entry)) ⌝ }
+    ensures { λ r. ⌜ r ≡ (requestIs addRoute4Size (now (q .entry)) && fitAddRoute4 (now (q .entry))) ⌝ }
 {
+    if q.len() != 34 {
+        return false;
+    }
     fit_route_words(q) & (q[14] < 65536) & (q[15] <= GREATEST_ERRNO) & (q[33] <= 1)
 }
 
@@ -75,9 +84,11 @@ fn wide(n: u32) -> usize
 
 // The count is looked at before the pairs that it counts.
 pub fn fit_del_route4(q: &[u32]) -> bool
-    requires { ⌜ length (now q) ≡ 49 ⌝ }
-    ensures { λ r. ⌜ r ≡ fitDelRoute4 (now (q .entry)) ⌝ }
+    ensures { λ r. ⌜ r ≡ (requestIs delRoute4Size (now (q .entry)) && fitDelRoute4 (now (q .entry))) ⌝ }
 {
+    if q.len() != 49 {
+        return false;
+    }
     let fields = fit_route_words(q) & address::fit_optional(q[13], q[14]);
     if 17 < q[14] {
         return false;

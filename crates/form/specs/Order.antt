@@ -2,7 +2,7 @@
 -- Assumes nothing.
 use Prim.Native.Nat.{ℕ, suc, _+_, _-_, _*_, _≤_, _<_}
 use mathlib.Core.Path.{_≡_, refl, sym, ap, _∙_}
-use mathlib.Core.Bool.{Bool, true, false, not, _&&_}
+use mathlib.Core.Bool.{Bool, true, false, not, _&&_, and-false}
 use mathlib.Core.List.{List, [], _∷_}
 use native.Mathlib.Numerals.{add-one}
 use native.Mathlib.Omega.{arith}
@@ -11,10 +11,14 @@ use lib.Seq.{drop-cons, drop-drop}
 use borrow.Author.Tests.{not-true}
 use Rattle.lists.specs.Lists.{Row, all, pairwise, eqRow, chop}
 use Rattle.lists.specs.Rows.{length-chop}
-use Rattle.lists.specs.All.{and-both, all-mono, all-cons, pairwise-head, eqRow-true, fails, false-not, not-so}
+use Rattle.lists.specs.Bools.{and-both, fails, false-not, not-so}
+use Rattle.lists.specs.All.{all-mono, all-cons, pairwise-head, eqRow-true}
+use Rattle.lists.specs.Next.{all-next, pairwise-next, pairwise-end}
+use Rattle.lists.specs.Split.{pairwise-drop}
+use Rattle.lists.specs.Pass.{part-chop}
 use Rattle.layout.specs.Route.{before}
 use Rattle.definition.specs.Words.{ordered, distinct}
-use Rattle.form.specs.Look.{row-of, row-next, all-next, pairwise-next, pairwise-end, pairwise-drop}
+use Rattle.form.specs.Look.{row-next}
 use Rattle.definition.specs.Kept.Order.{before-never, before-after, before-alike, level-alike}
 
 -- not before: the relation of the order
@@ -33,22 +37,15 @@ next : (a b : Row) (l : List Row) → before b a ≡ false → ordered (a ∷ b 
 unfolding ordered
 next a b l h = go (ordered (b ∷ l)) refl
   where
-    le : Row → Row → Bool
-    le = λ x y. not (before y x)
-
     rest : pairwise (λ x y. not (before y x)) (b ∷ l) ≡ true → all (λ y. not (before y a)) (b ∷ l) ≡ true
     rest e =
         all-cons (λ y. not (before y a)) b l (false-not (before b a) h)
         (all-mono (λ y. not (before y b)) (λ y. not (before y a)) l (λ y f. false-not (before y a) (le-trans a b y h (not-true (before y b) f)))
         (pairwise-head (λ x y. not (before y x)) b l e))
 
-    none : (t : Bool) → t && false ≡ false
-    none true = refl
-    none false = refl
-
     go : (t : Bool) → pairwise (λ x y. not (before y x)) (b ∷ l) ≡ t → all (λ y. not (before y a)) (b ∷ l) && pairwise (λ x y. not (before y x)) (b ∷ l) ≡ pairwise (λ x y. not (before y x)) (b ∷ l)
     go true e = and-both (all (λ y. not (before y a)) (b ∷ l)) (pairwise (λ x y. not (before y x)) (b ∷ l)) (rest e) e ∙ sym e
-    go false e = rw e (none (all (λ y. not (before y a)) (b ∷ l)))
+    go false e = rw e (and-false (all (λ y. not (before y a)) (b ∷ l)))
 
 broken : (a b : Row) (l : List Row) → before b a ≡ true → ordered (a ∷ b ∷ l) ≡ false
 unfolding ordered
@@ -83,7 +80,7 @@ pub ordered-later : (l : List Row) (i j : ℕ) → i ≤ j → ordered (drop i l
 unfolding ordered
 ordered-later l i j h o =
     let both : i + (j - i) ≡ j = omega arith in
-    rw (drop-drop (j - i) i l, both) at (pairwise-drop (λ x y. not (before y x)) (drop i l) (j - i) o)
+    rw (drop-drop (j - i) i l, both) at (pairwise-drop (λ x y. not (before y x)) (j - i) (drop i l) o)
 
 pub past-run : (rows : List Row) (a : Row) (j : ℕ) → ordered (drop j rows) ≡ true → j < length rows → before a (getD rows j []) ≡ true
     → all (λ x. not (eqRow a x)) (drop j rows) ≡ true
@@ -97,17 +94,17 @@ past-run rows a j o h e =
     (all-cons (λ x. not (before x b)) b tail (not-so (before b b) (λ g. before-never b b g g)) (pairwise-head (λ x y. not (before y x)) b tail f)))
 
 -- ---- the rows as parts of words
-module _ (n : ℕ) (p : List ℕ) (i : ℕ) (e : length p ≡ 32 * n) where
+module _ (n : ℕ) (p : List ℕ) (i : ℕ) where
   pub order-turn : {b : Bool} (t : Bool) → i + 1 < n → b ≡ before (take (32 * i + 32 + 32 - (32 * i + 32)) (drop (32 * i + 32) p)) (take (32 * i + 32 - 32 * i) (drop (32 * i) p)) → b ≡ t
       → before (getD (chop 32 n p) (i + 1) []) (getD (chop 32 n p) i []) ≡ t
-  order-turn t h eb et = sym (rw (row-next 32 n p i e h, row-of 32 n p i e (omega arith)) at eb) ∙ et
+  order-turn t h eb et = sym (rw (row-next 32 n p i h, part-chop 32 n p i (omega arith)) at eb) ∙ et
 
   module _ (j : ℕ) (h : i < n) (k : j < n) where
     pub two-before : {b : Bool} (t : Bool) → b ≡ before (take (32 * i + 32 - 32 * i) (drop (32 * i) p)) (take (32 * j + 32 - 32 * j) (drop (32 * j) p)) → b ≡ t
         → before (getD (chop 32 n p) i []) (getD (chop 32 n p) j []) ≡ t
     two-before t eb et =
-        ap (λ (r : Row). before r (getD (chop 32 n p) j [])) (sym (row-of 32 n p i e h))
-        ∙ ap (before (take (32 * i + 32 - 32 * i) (drop (32 * i) p))) (sym (row-of 32 n p j e k))
+        ap (λ (r : Row). before r (getD (chop 32 n p) j [])) (sym (part-chop 32 n p i h))
+        ∙ ap (before (take (32 * i + 32 - 32 * i) (drop (32 * i) p))) (sym (part-chop 32 n p j k))
         ∙ sym eb
         ∙ et
 
@@ -115,8 +112,8 @@ module _ (n : ℕ) (p : List ℕ) (i : ℕ) (e : length p ≡ 32 * n) where
         → all (λ (x : Row). not (eqRow (getD (chop 32 n p) i []) x)) (drop j (chop 32 n p)) ≡ not t && all (λ (x : Row). not (eqRow (getD (chop 32 n p) i []) x)) (drop (j + 1) (chop 32 n p))
     two-same t eb et =
         let same : eqRow (getD (chop 32 n p) i []) (getD (chop 32 n p) j []) ≡ t =
-        ap (λ (r : Row). eqRow r (getD (chop 32 n p) j [])) (sym (row-of 32 n p i e h))
-        ∙ ap (eqRow (take (32 * i + 32 - 32 * i) (drop (32 * i) p))) (sym (row-of 32 n p j e k))
+        ap (λ (r : Row). eqRow r (getD (chop 32 n p) j [])) (sym (part-chop 32 n p i h))
+        ∙ ap (eqRow (take (32 * i + 32 - 32 * i) (drop (32 * i) p))) (sym (part-chop 32 n p j k))
         ∙ sym eb
         ∙ et
         in

@@ -2,26 +2,23 @@
 -- Assumes nothing.
 use Prim.Native.Nat.{ℕ, _+_, _-_, _*_, _≤_, _<_}
 use mathlib.Core.Path.{_≡_, refl, sym, _∙_}
-use mathlib.Core.Bool.{Bool, true, false, not, _&&_, and-assoc}
+use mathlib.Core.Bool.{Bool, true, false, not, _&&_, and-assoc, and-false}
 use mathlib.Core.List.{List, []}
 use native.Mathlib.Omega.{arith}
 use lib.ListN.{length, getD, take, drop}
 use Rattle.lists.specs.Lists.{Row, all, eqRow, chop}
 use Rattle.lists.specs.Rows.{length-chop}
-use Rattle.lists.specs.All.{fails, test-case}
+use Rattle.lists.specs.Bools.{fails, test-case}
+use Rattle.lists.specs.Pass.{part-chop}
 use Rattle.layout.specs.Route.{fitRoute, before}
 use Rattle.definition.specs.Words.{ordered, distinct}
 use Rattle.definition.specs.Kept.Order.{before-never}
-use Rattle.form.specs.Look.{row-of, row-next}
+use Rattle.form.specs.Look.{row-next}
 use Rattle.form.specs.Order.{order-next, order-broken, order-end, past-run, ordered-later, distinct-turn, distinct-end}
 
 -- the rows are in order, and no two are the same
 unfoldable pub inPlace : List Row → Bool
 inPlace l = ordered l && distinct l
-
-none : (b d : Bool) → b && (false && d) ≡ false
-none true d = refl
-none false d = refl
 
 module _ (rows : List Row) (i : ℕ) (h : i + 1 < length rows) where
   pub place-broken : before (getD rows (i + 1) []) (getD rows i []) ≡ true → inPlace (drop i rows) ≡ false
@@ -36,7 +33,7 @@ module _ (rows : List Row) (i : ℕ) (h : i + 1 < length rows) where
       let on : ordered (drop i rows) ≡ ordered (drop (i + 1) rows) = order-next rows i h e in
       test-case (ordered (drop (i + 1) rows))
       (λ o. rw (on, o) (distinct-turn rows i b (omega arith) (f (on ∙ o)) refl))
-      (λ o. rw (on, o) (sym (none b (distinct (drop (i + 1) rows)))))
+      (λ o. rw (on, o) (sym (and-false b)))
 
   pub place-rise : before (getD rows i []) (getD rows (i + 1) []) ≡ true → inPlace (drop i rows) ≡ inPlace (drop (i + 1) rows)
   place-rise first =
@@ -54,8 +51,8 @@ unfolding inPlace
 routes-tests rows ef eo = rw (ef, eo) (sym (and-assoc (all fitRoute rows) (ordered rows) (distinct rows)))
 
 -- the rows as parts of words
-pub rise-turn : (n : ℕ) (p : List ℕ) (i : ℕ) → length p ≡ 32 * n → i + 1 < n → {b : Bool}
+pub rise-turn : (n : ℕ) (p : List ℕ) (i : ℕ) → i + 1 < n → {b : Bool}
     → b ≡ before (take (32 * i + 32 - 32 * i) (drop (32 * i) p)) (take (32 * i + 32 + 32 - (32 * i + 32)) (drop (32 * i + 32) p)) → b ≡ true
     → inPlace (drop i (chop 32 n p)) ≡ inPlace (drop (i + 1) (chop 32 n p))
-rise-turn n p i e h eb et =
-    place-rise (chop 32 n p) i (omega (arith, length-chop 32 n p)) (sym (rw (row-next 32 n p i e h, row-of 32 n p i e (omega arith)) at eb) ∙ et)
+rise-turn n p i h eb et =
+    place-rise (chop 32 n p) i (omega (arith, length-chop 32 n p)) (sym (rw (row-next 32 n p i h, part-chop 32 n p i (omega arith)) at eb) ∙ et)

@@ -12,9 +12,11 @@ use lib.Pow.{shl-exact, shl-shr}
 use lib.Seq.{drop-cons, take-all}
 use borrow.Author.Tests.{eq-eqb, eqb-true}
 use Rattle.lists.specs.Lists.{all, among, pairwise}
-use Rattle.lists.specs.All.{and-left, and-right, fails, true-false, all-mono, all-cons}
+use Rattle.lists.specs.Bools.{and-left, and-right, fails, true-false}
+use Rattle.lists.specs.All.{all-mono, all-cons}
+use Rattle.lists.specs.Next.{all-end, pairwise-end}
+use Rattle.lists.specs.Split.{all-other, pairwise-drop}
 use Rattle.definition.specs.Words.{noneTwice}
-use Rattle.form.specs.Look.{all-other, all-end, pairwise-end, pairwise-drop}
 
 -- the bit that a number sets, named by its low six bits
 abbrev pub bitOf : ℕ → ℕ
@@ -96,7 +98,7 @@ bit-test s k e =
 -- two that are the same among the last are so among all
 pub twice-later : (l : List ℕ) (i : ℕ) → noneTwice (drop i l) ≡ false → noneTwice l ≡ false
 unfolding noneTwice
-twice-later l i e = fails (noneTwice l) (λ q. true-false (noneTwice (drop i l)) (pairwise-drop (λ a b. not (eqb a b)) l i q) e)
+twice-later l i e = fails (noneTwice l) (λ q. true-false (noneTwice (drop i l)) (pairwise-drop (λ a b. not (eqb a b)) i l q) e)
 
 -- none is looked at
 pub marked-end : (s : ℕ) (l : List ℕ) → marked s (drop (length l) l) ≡ true

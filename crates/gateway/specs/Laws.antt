@@ -2,7 +2,7 @@
 -- Assumes nothing.
 use Prim.Native.Nat.{ℕ, _+_, _*_, _≤_, _<_, max}
 use mathlib.Core.Path.{_≡_, refl, sym, ap, _∙_, fun-ext}
-use mathlib.Core.Bool.{Bool, true, false, cond, not, _&&_, _||_}
+use mathlib.Core.Bool.{Bool, true, false, cond, not, _&&_, _||_, or-self, Bool·not-not}
 use mathlib.Core.List.{List, [], _∷_}
 use mathlib.Core.Option.{Option, none, some}
 use native.Mathlib.Omega.{arith}
@@ -19,9 +19,9 @@ use Rattle.definition.specs.Reference.Addresses.{linkScope, hostScope}
 use Rattle.definition.specs.Reference.Routes as Routes
 use Rattle.definition.specs.Reference.Routes.{by, refused, tableNamed, onlinkFlag, then, refuse, toGateway, usable, foundOr, reachedBy, plain}
 use Rattle.lookup.specs.AddrType.{typeRows}
-use Rattle.lookup.specs.Answer.{lookupRows, foundBy, placed}
+use Rattle.lookup.specs.Answer.{lookupRows, foundBy}
 use Rattle.lists.specs.Place.{nothing-from, something-at}
-use Rattle.lookup.specs.Pass.{laid-count}
+use Rattle.lists.specs.Pass.{laid-rows}
 use Rattle.lookup.specs.declared.Looked.{Looked}
 use Rattle.lookup.specs.declared.Looked.the-variants.{At, Refused}
 use Rattle.gateway.specs.Rows.{settled, onlinkNumber, onlinkRows, gatewayRows, rowReached, gateway4Rows, reachRows}
@@ -31,13 +31,9 @@ upper-set : (t : ℕ) → (eqb t localTable || eqb t mainTable) ≡ true → tog
 unfolding together
 upper-set t e = fun-ext (λ u. rw e)
 
-or-same : (b : Bool) → (b || b) ≡ b
-or-same true = refl
-or-same false = refl
-
 lower-set : (t : ℕ) → (eqb t localTable || eqb t mainTable) ≡ false → t ≡ 253 → together t ≡ (λ u. eqb u 253 || eqb u 253)
 unfolding together
-lower-set t e d = fun-ext (λ u. rw (e, eq-eqb t 253 d) (sym (or-same (eqb u 253))))
+lower-set t e d = fun-ext (λ u. rw (e, eq-eqb t 253 d) (sym (or-self (eqb u 253))))
 
 no-set : (t : ℕ) → (eqb t localTable || eqb t mainTable) ≡ false → (t ≡ 253 → ⊥) → together t ≡ (λ (u : ℕ). false)
 unfolding together
@@ -60,20 +56,16 @@ module _ (t : ℕ) (f : Flow) (l : List Row) where
       ap (λ (s : ℕ → Bool). answer s f l) (no-set t e d) ∙ ap longest (none-kept f l) ∙ sym (nothing-from l n (omega arith))
 
 -- ---- the row at a place
-not-not : (b : Bool) → b ≡ not (not b)
-not-not true = refl
-not-not false = refl
-
 module _ (w : List ℕ) (n : ℕ) (long : length w ≡ 32 * n) (l : List Row) (h : Laid 32 fitRoute w l) (place : ℕ) where
   pub unusable : n ≤ place → false ≡ usable (getElem? l place)
-  unusable b = rw (nothing-from l place (omega (arith, laid-count w n long l h)))
+  unusable b = rw (nothing-from l place (omega (arith, laid-rows w n (lit< tt) long l h)))
 
   module _ (b : place < n) where
     within : place < length l
-    within = omega (arith, laid-count w n long l h)
+    within = omega (arith, laid-rows w n (lit< tt) long l h)
 
     pub usable-row : (e : ℕ) → e ≡ errorOf (getD w (32 * place + 5) 0) → eqb e 0 ≡ usable (getElem? l place)
-    usable-row e q = rw (something-at l place [] within, q, laid-word h place 5 within (lit< tt)) (not-not (eqb (errorOf (kind (getD l place []))) 0))
+    usable-row e q = rw (something-at l place [] within, q, laid-word h place 5 within (lit< tt)) (sym (Bool·not-not (eqb (errorOf (kind (getD l place []))) 0)))
 
     pub reached-row : (q : Row) → rowReached (getD w (32 * place + 5) 0) (getD w (32 * place + 7) 0) (upAtAddRoute4 q) ≡ reachedBy q (route (getD l place []))
     reached-row q = rw (laid-word h place 5 within (lit< tt), laid-word h place 7 within (lit< tt))
@@ -110,10 +102,6 @@ gateway-found q a b l f e t g k r h = rw (← e, t, ← k) h
 
 pub flow-says : (q : Row) (s : ℕ) → s ≡ max (scope q + 1) linkScope → _≡_ {A = Flow} (record { ip = gateway q; tos = 0; scope = s; oif = oif q }) (toGateway q)
 flow-says q s e = ap (λ (n : ℕ). record { ip = gateway q; tos = 0; scope = n; oif = oif q }) e
-
--- a lookup's answer, whose place is one of the rows
-pub placed-at : (n : ℕ) (f : Looked) (i : ℕ) → f ≡ At i → placed n f → i < n
-placed-at n f i e h = rw e at h
 
 pub reached-found : (q : Row) (l : List Row) (f : Looked) (i : ℕ) → f ≡ At i → (r : Routes.Reached) → r ≡ reachedBy q (route (getD l i [])) → r ≡ reachedBy q (foundBy l f)
 reached-found q l f i e r h = rw e h

@@ -19,12 +19,10 @@ use Rattle.layout.specs.Route.{alike}
 use Rattle.definition.specs.State.{State, withRoutes}
 use Rattle.definition.specs.Words.{ordered, fitState}
 use Rattle.definition.specs.Kept.Fit.{fit-state}
-use Rattle.state.specs.Holds.{Holds, Valid, count-routes}
-use Rattle.definition.specs.Words.{routeCount}
-use Rattle.lists.specs.Laid.{Laid, Lays}
+use Rattle.state.specs.Holds.{Holds, count-routes}
+use Rattle.lists.specs.Laid.{Laid}
 use Rattle.layout.specs.Route.{fitRoute}
-use Rattle.view.specs.Parts.{routePart, laid-routes, lays-routes, length-routes}
-use Rattle.lists.specs.All.{cond-case}
+use Rattle.lists.specs.Bools.{cond-case}
 use Rattle.definition.specs.Reference.Insert as Insert
 use Rattle.definition.specs.Reference.Insert.{ahead, behind, insert4, isRow, exclFlag, replaceFlag, createFlag, appendFlag}
 use Rattle.insert.specs.Run.{Run, run-alike, run-within, run-ahead, run-behind, run-place}
@@ -174,10 +172,3 @@ add-place n p i told h q = rw q at h
 
 pub replace-place : (n : ℕ) (p : Plan) (i : ℕ) → placed n p → p ≡ Replace i → i < n
 replace-place n p i h q = rw q at h
-
--- ---- the rows as they are lent
-pub rows-ready : (w : List ℕ) {part : List ℕ} {n : ℕ} → Valid w → part ≡ routePart w → n ≡ routeCount w → (length part ≡ 32 * n) × Lays 32 fitRoute part
-rows-ready w v e g = (rw (e, g) (length-routes v), rw e (lays-routes v))
-
-pub rows-laid : {w : List ℕ} {part : List ℕ} (st : State) → Holds w st → part ≡ routePart w → Laid 32 fitRoute part (st .routes)
-rows-laid st h e = rw e (laid-routes h)

@@ -2,18 +2,18 @@
 -- Assumes nothing.
 use Prim.Native.Nat.{ℕ, zero, suc, _+_, _-_, _*_, _≤_, _<_}
 use mathlib.Core.Path.{_≡_, refl, sym, ap, _∙_}
-use mathlib.Core.Bool.{Bool, true, false, cond, not, _||_}
+use mathlib.Core.Bool.{Bool, true, false, cond, not, _||_, Bool·not-not, or-false}
 use mathlib.Core.List.{List, [], _∷_, _++_}
 use native.Mathlib.Omega.{arith}
 use lib.Dec.{ltb}
 use lib.ListN.{length, getD, set, take, drop, take-append-drop}
 use lib.Seq.{drop-cons, take-all, length-take-le}
-use Rattle.lists.specs.Lists.{Row, all, any, keep, first, replaceFirst, eqRow, pairwise}
-use Rattle.lists.specs.All.{test-case, fails, true-false, all-mono, all-cons, eqRow-true, eqRow-refl, pairwise-head, pairwise-tail, or-case, not-both, not-so, false-not}
+use Rattle.lists.specs.Lists.{Row, all, any, first, eqRow, pairwise}
+use Rattle.lists.specs.Bools.{test-case, fails, true-false, or-case, not-both, false-not}
+use Rattle.lists.specs.All.{all-mono, all-cons, eqRow-true, pairwise-head, pairwise-tail}
 use Rattle.lists.specs.At.{insertAt}
-use Rattle.lists.specs.Count.{tick, tick-one, tick-none, count, count-append, count-apart, count-most, count-one, count-none, count-mono}
-use Rattle.lists.specs.Keep.{not-not}
-use Rattle.lists.specs.Place.{placeOf, replace-at, first-at}
+use Rattle.lists.specs.Count.{tick, tick-one, tick-none, count, count-append, count-apart, count-most}
+use Rattle.lists.specs.Place.{placeOf}
 use Rattle.lists.specs.Split.{any-joined, pairwise-drop, count-all, count-sum, any-ltb, any-apart, count-more, all-more, any-more, around-at}
 use Rattle.layout.specs.Route.{before, alike}
 use Rattle.definition.specs.Words.{ordered}
@@ -112,12 +112,8 @@ module _ (new : Row) where
         record {
           begins = omega (arith, s .begins, sym (ap (count (λ r. before r new)) cut), count-append (λ r. before r new) (take i l) (drop i l), count-apart (before new) (λ r. before r new) (drop i l) after-not-before after);
           ends = omega (arith, sym (ap (count (λ r. not (before new r))) cut), count-append (λ r. not (before new r)) (take i l) (drop i l), count-all (λ r. not (before new r)) (take i l) (s .goes-on), count-apart (before new) (λ r. not (before new r)) (drop i l) (λ r f. ap not f) after);
-          is-there = s .is-there ∙ sym (sym (ap (any (eqRow new)) cut) ∙ any-joined (eqRow new) (take i l) (drop i l) ∙ either (any (eqRow new) (take i l)) (any (eqRow new) (drop i l)) none);
+          is-there = s .is-there ∙ sym (sym (ap (any (eqRow new)) cut) ∙ any-joined (eqRow new) (take i l) (drop i l) ∙ rw none (or-false (any (eqRow new) (take i l))));
         }
-      where
-        either : (a b : Bool) → b ≡ false → a || b ≡ a
-        either true b e = refl
-        either false b e = e
 
   -- ---- what a run says
   place-alike : (l : List Row) → ordered l ≡ true → any (alike new) l ≡ true → placeOf (alike new) l ≡ count (λ r. before r new) l
@@ -155,7 +151,7 @@ module _ (new : Row) where
 
       pub run-behind : insertAt end new l ≡ behind new l
       unfolding behind
-      run-behind = rw (s .ends) (simp not-not at (around-at (λ r. not (before new r)) new l (split-behind new l o)))
+      run-behind = rw (s .ends) (simp Bool·not-not at (around-at (λ r. not (before new r)) new l (split-behind new l o)))
 
       pub run-place : any (alike new) l ≡ true → placeOf (alike new) l ≡ start
       run-place h = place-alike l o h ∙ sym (s .begins)

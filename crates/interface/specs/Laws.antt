@@ -9,8 +9,8 @@ use lib.Dec.{eqb, leb, ltb}
 use lib.ListN.{length, getD, take, drop}
 use borrow.Author.Tests.{eq-eqb, ne-eqb, eqb-true}
 use Rattle.lists.specs.Lists.{Row, flat, put, span}
-use Rattle.lists.specs.Put.{put-none}
-use Rattle.lists.specs.All.{and-left, and-right}
+use Rattle.lists.specs.Put.{put-no-rows}
+use Rattle.lists.specs.Bools.{and-left, and-right}
 use Rattle.layout.specs.Address.{optional}
 use Rattle.layout.specs.Route.{fitRoute}
 use Rattle.definition.specs.State.{State}
@@ -160,11 +160,6 @@ module _ (w : List ℕ) (n dstPresent dst scope : ℕ) (fit : Bool) (f : fit ≡
       chosen-answer s (select4 (decode w .addresses) (present dstPresent dst) scope) e
       ∙ ap chosenOf (sym (read-answered true true (optional dstPresent dst && ltb scope 256) (λ st. optionally (select4 (st .addresses) (present dstPresent dst) scope)) w n (c ∙ ap (λ (b : Bool). checked true true (b && ltb scope 256) w) f) z))
 
--- no row leaves a buffer as it was
-kept : (row : List ℕ) → row ≡ put 0 (flat []) row
-unfolding flat
-kept row = put-none 0 row
-
 -- the row at a place, as the code lends it
 pub found-at : (w : List ℕ) (st : State) → Holds w st → (i : ℕ) → i < routeCount w → take (1283 + 32 * i + 32 - (1283 + 32 * i)) (drop (1283 + 32 * i) w) ≡ getD (st .routes) i []
 unfolding span
@@ -182,7 +177,7 @@ module _ (w row : List ℕ) (n : ℕ) (b : Bool) (f : Lookup.Flow) where
   look-no c h =
       let e : looking .reply ≡ refusal n = read-refused (leb 32 (length row)) true b (λ st. foundRow (lookupIn st f)) w n c h in (
         found-refused n h ∙ ap foundOf (sym e),
-        kept row ∙ ap (λ (r : Reply). put 0 (flat (r .rows)) row) (sym e),
+        put-no-rows row ∙ ap (λ (r : Reply). put 0 (flat (r .rows)) row) (sym e),
       )
 
   pub look-yes : (r : Found.Found) (row′ : List ℕ) → n ≡ checked (leb 32 (length row)) true b w → n ≡ 0 → r ≡ foundIn (lookupIn (decode w) f) → row′ ≡ put 0 (flat (rowsIn (lookupIn (decode w) f))) row → (r ≡ foundOf (looking .reply)) × (row′ ≡ put 0 (flat (looking .reply .rows)) row)
@@ -200,7 +195,7 @@ module _ (w : List ℕ) (st : State) (h : Holds w st) (f : Lookup.Flow) where
       (ap foundIn e, k ∙ ap (λ (x : List ℕ). put 0 x row) (q ∙ sym (append-nil (getD (st .routes) i []))) ∙ ap (λ (x : Lookup.Found). put 0 (flat (rowsIn x)) row) e)
 
   pub look-refused : (n : ℕ) (row : List ℕ) → lookup·foundBy (st .routes) (Looked.the-variants.Refused n) ≡ lookupIn st f → (Found.the-variants.Refused n ≡ foundIn (lookupIn st f)) × (row ≡ put 0 (flat (rowsIn (lookupIn st f))) row)
-  look-refused n row e = (ap foundIn e, kept row ∙ ap (λ (x : Lookup.Found). put 0 (flat (rowsIn x)) row) e)
+  look-refused n row e = (ap foundIn e, put-no-rows row ∙ ap (λ (x : Lookup.Found). put 0 (flat (rowsIn x)) row) e)
 
 -- words that passed the checks hold what they decode to
 pub held : (buffers row request : Bool) (w : List ℕ) (n : ℕ) → n ≡ checked buffers row request w → n ≡ 0 → Holds w (decode w)

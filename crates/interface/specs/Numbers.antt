@@ -9,7 +9,7 @@ use lib.Dec.{eqb, leb, ltb}
 use lib.ListN.{length}
 use borrow.Author.Tests.{eqb-true, eqb-false}
 use Rattle.lists.specs.Lists.{Row}
-use Rattle.lists.specs.All.{cond-case, test-case, and-left}
+use Rattle.lists.specs.Bools.{and-left, test-case, cond-case}
 use Rattle.layout.specs.Address.{optional}
 use Rattle.layout.specs.Route.{fitRoute}
 use Rattle.definition.specs.State.{State}
@@ -50,7 +50,7 @@ local-none n = test-case (eqb n 0) (λ e. rw (e, eqb-true n 0 e)) (λ e. rw e)
 chosen-none : (n : ℕ) → chosenBy (chosenOf (refusal n)) ≡ numbers (refusal n)
 chosen-none n = test-case (eqb n 0) (λ e. rw (e, eqb-true n 0 e)) (λ e. rw e)
 
-sourced-none : (n : ℕ) → sourcedBy (sourcedOf (refusal n)) ≡ numbers (refusal n)
+pub sourced-none : (n : ℕ) → sourcedBy (sourcedOf (refusal n)) ≡ numbers (refusal n)
 sourced-none n = test-case (eqb n 0) (λ e. rw (e, eqb-true n 0 e)) (λ e. rw e)
 
 -- ---- answers

@@ -9,7 +9,7 @@ use lib.Dec.{leb}
 use lib.ListN.{length}
 use borrow.Author.Tests.{lt-leb}
 use Rattle.lists.specs.Lists.{Row, put}
-use Rattle.lists.specs.All.{test-case}
+use Rattle.lists.specs.Bools.{test-case}
 use Rattle.layout.specs.Route.{table, fitRoute}
 use Rattle.layout.specs.Event.{newRoute4}
 use Rattle.definition.specs.State.{State, Out, sizes, withRoutes, withTables}
@@ -24,7 +24,7 @@ use Rattle.tables.specs.Listed.{tablesOf}
 use Rattle.insert.specs.Plan.{answerOf, rowsAfter, InsertedInto}
 use Rattle.insert.specs.declared.Inserted.{Inserted}
 use Rattle.insert.specs.declared.Inserted.the-variants.{Put, Nothing, Refused, Full}
-use Rattle.steps.specs.Does.{does-none, does-one}
+use Rattle.events.specs.Does.{does-none, does-one}
 use Rattle.steps.specs.Adds.{Adds, holds-within, does-adds, full-adds, adds-none}
 use Rattle.steps.specs.Through.{Covered}
 use Rattle.steps.specs.declared.Told.{Told}

@@ -14,7 +14,7 @@ ghost use Rattle.definition.specs.State.{State};
 ghost use Rattle.definition.specs.Words.{fitState};
 ghost use Rattle.definition.specs.Reference.Insert.{named, kernelAdd4, kernelDel4};
 ghost use Rattle.state.specs.Holds.{Holds, Valid};
-ghost use Rattle.steps.specs.Does.{Does};
+ghost use Rattle.events.specs.Does.{Does};
 ghost use Rattle.steps.specs.Adds.{Adds, rowsOf};
 
 const CREATE_APPEND: u32 = 0xc00;

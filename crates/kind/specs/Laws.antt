@@ -1,7 +1,7 @@
 -- A kind and its code say the same.
 -- Assumes nothing.
 use mathlib.Core.Path.{_≡_, refl, sym, ap, _∙_}
-use mathlib.Core.Bool.{Bool, true, false, cond, _||_}
+use mathlib.Core.Bool.{Bool, true, false, cond, _||_, or-false}
 use Prim.Native.Nat.{ℕ}
 use lib.Dec.{eqb}
 use borrow.Author.Tests.{eqb-true}
@@ -51,20 +51,6 @@ first : (b : Bool) (k : Kind) (rest : FoundKind) → isFound (cond b (Is k) rest
 first true k rest = refl
 first false k rest = refl
 
-none-found : (b : Bool) → b || false ≡ b
-none-found true = refl
-none-found false = refl
-
 pub is-kind-found : (n : ℕ) → isFound (kindOf n) ≡ isKind n
 unfolding kindOf isKind
-is-kind-found n = rw (first, found, found, found, found, found, found, none-found)
-
-pub code-is-kind : (k : Kind) → isKind (codeOf k) ≡ true
-unfolding isKind
-code-is-kind Unicast = refl
-code-is-kind Local = refl
-code-is-kind Broadcast = refl
-code-is-kind Blackhole = refl
-code-is-kind Unreachable = refl
-code-is-kind Prohibit = refl
-code-is-kind Throw = refl
+is-kind-found n = rw (first, found, found, found, found, found, found, or-false)

@@ -10,7 +10,7 @@ use lib.Dec.{eqb}
 use lib.ListN.{length, getD, take, drop, drop-of-length-le, length-append}
 use lib.Seq.{drop-cons}
 use Rattle.lists.specs.Lists.{Row, any, keep, removeFirst, eqRow}
-use Rattle.lists.specs.All.{test-case, cond-case}
+use Rattle.lists.specs.Bools.{test-case, cond-case}
 use Rattle.lists.specs.Count.{count, length-removeFirst, count-removeFirst}
 use Rattle.layout.specs.Address.{local}
 use Rattle.layout.specs.Route as Route
@@ -21,7 +21,8 @@ use Rattle.definition.specs.Reference.Insert.{kernelDel4}
 use Rattle.definition.specs.Reference.Removal.{wanted, leaving, unwanted, ofKind, straysFrom, fall, disable, removeOne}
 use Rattle.definition.specs.Kept.Shrinking.{weight, live, kernelDel4-away, through-away, disable-away}
 use Rattle.state.specs.Holds.{Holds}
-use Rattle.events.specs.Step.{Fits, Step, rest, step-same, step-one, step-rows}
+use Rattle.events.specs.Does.{rest}
+use Rattle.events.specs.Step.{Fits, Step, step-same, step-one, step-rows}
 use Rattle.events.specs.Turns.{Like, like-refl, like-sym, like-trans, like-eq, stays-also, also-like}
 
 -- ---- routes that none wants

@@ -2,13 +2,13 @@
 -- Assumes nothing.
 use Prim.Native.Nat.{ℕ, zero, suc, _+_, _-_, _*_, _≤_, _<_}
 use mathlib.Core.Path.{_≡_, refl, sym, ap, subst, _∙_}
-use mathlib.Core.Bool.{Bool, true, false, cond, not, _&&_, _||_}
+use mathlib.Core.Bool.{Bool, true, false, cond, not, _&&_, _||_, and-true, and-false}
 use mathlib.Core.List.{List, [], _∷_, _++_}
 use native.Mathlib.Omega.{arith}
 use lib.Dec.{eqb, lit<}
 use lib.ListN.{length, getD, take, drop}
 use Rattle.lists.specs.Lists.{Row, any, keep}
-use Rattle.lists.specs.All.{cond-true, cond-false, cond-case}
+use Rattle.lists.specs.Bools.{cond-true, cond-false, cond-case}
 use Rattle.lists.specs.Count.{count-most}
 use Rattle.lists.specs.Keep.{keep-nothing}
 use Rattle.lists.specs.Laid.{Laid, Lays, laid-part}
@@ -22,7 +22,8 @@ use Rattle.definition.specs.Reference.Removal.{wanted, straysFrom, disable}
 use Rattle.definition.specs.Kept.Shrinking.{weight, live, kernelDel4-away, through-away, stays-away, Away}
 use Rattle.state.specs.Holds.{Holds, Valid, holds-long}
 use Rattle.view.specs.Parts.{addressPart}
-use Rattle.events.specs.Step.{Fits, Ready, Step, rest, rest-fits, step-none, step-length, step-rows, step-also}
+use Rattle.events.specs.Does.{rest}
+use Rattle.events.specs.Step.{Fits, Ready, Step, rest-fits, step-none, step-length, step-rows, step-also}
 use Rattle.events.specs.Turns.{Going, like-refl, like-eq, going-start, going-turn, going-end}
 use Rattle.deletion.specs.Strays.{straysGo}
 use Rattle.deletion.specs.Delete.{step-eq}
@@ -90,18 +91,10 @@ module _ {st : State} (l : List Row) (j : ℕ) {k : ℕ} {s ev₀ ev : List ℕ}
 
 -- ---- a /32 of a local route that none wants
 pub lost-not : (left : List Row) (r : Row) (b : Bool) → b ≡ false → false ≡ (not (wanted left r) && b)
-lost-not left r b e = sym (rw e (no-more (not (wanted left r))))
-  where
-    no-more : (t : Bool) → t && false ≡ false
-    no-more true = refl
-    no-more false = refl
+lost-not left r b e = sym (rw e (and-false (not (wanted left r))))
 
 pub lost-so : (left : List Row) (r : Row) (w b : Bool) → w ≡ wanted left r → b ≡ true → not w ≡ (not (wanted left r) && b)
-lost-so left r w b q e = rw (q, e) (sym (as-is (not (wanted left r))))
-  where
-    as-is : (t : Bool) → t && true ≡ t
-    as-is true = refl
-    as-is false = refl
+lost-so left r w b q e = rw (q, e) (sym (and-true (not (wanted left r))))
 
 -- ---- what falls
 module _ {st : State} {s ev : List ℕ} (ip : ℕ) (f : Fits weight st s ev) where
@@ -113,11 +106,7 @@ module _ {st : State} {s ev : List ℕ} (ip : ℕ) (f : Fits weight st s ev) whe
   fall-kept lost e = fall-none lost (rw e)
 
   pub fall-local : (lost b : Bool) → b ≡ local4 st ip → b ≡ true → Step weight st (fallFrom ip lost st) s ev ev 0
-  fall-local lost b q e = fall-none lost (rw (sym q ∙ e) (no-more lost))
-    where
-      no-more : (t : Bool) → t && false ≡ false
-      no-more true = refl
-      no-more false = refl
+  fall-local lost b q e = fall-none lost (rw (sym q ∙ e) (and-false lost))
 
   -- where no row has the source, whatever else is so
   pub fall-strayless : (lost b : Bool) → b ≡ any (straysFrom ip) (st .routes) → b ≡ false → Step weight st (fallFrom ip lost st) s ev ev 0

@@ -1,7 +1,7 @@
 -- The clock and its two words say the same.
 -- Assumes nothing.
 use mathlib.Core.Path.{_≡_}
-use Prim.Native.Nat.{ℕ, _-_, _^_, _<_}
+use Prim.Native.Nat.{ℕ, _^_, _<_}
 use native.Mathlib.Omega.{arith}
 use Rattle.life.specs.Life.{clock, lowWord, highWord}
 
@@ -13,12 +13,3 @@ low-clock low high h = omega arith
 
 pub high-clock : (low high : ℕ) → low < 2 ^ 32 → highWord (clock low high) ≡ high
 high-clock low high h = omega arith
-
-pub clock-fits : (low high : ℕ) → low < 2 ^ 32 → high < 2 ^ 32 → clock low high < 2 ^ 64
-clock-fits low high h k = omega arith
-
-pub low-fits : (n : ℕ) → lowWord n < 2 ^ 32
-low-fits n = omega arith
-
-pub high-fits : (n : ℕ) → n < 2 ^ 64 → highWord n < 2 ^ 32
-high-fits n h = omega arith

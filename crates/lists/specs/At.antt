@@ -3,7 +3,7 @@
 use Prim.Native.Nat.{ℕ, suc, _+_, _-_, _*_, _≤_, _<_}
 use mathlib.Core.Path.{_≡_, refl, sym, ap, _∙_}
 use mathlib.Core.Bool.{Bool, true}
-use mathlib.Core.List.{List, [], _∷_, _++_, append-assoc}
+use mathlib.Core.List.{List, [], _∷_, _++_, append-assoc, append-nil}
 use native.Mathlib.Omega.{arith}
 use lib.Dec.{eqb}
 use lib.ListN.{length, getD, set, take, drop, length-append, length-take, length-drop, take-append-drop}
@@ -60,6 +60,10 @@ flat-append (r ∷ a) b = ap (λ (x : List ℕ). r ++ x) (flat-append a b) ∙ s
 pub flat-cons : (r : Row) (l : List Row) → flat (r ∷ l) ≡ r ++ flat l
 unfolding flat
 flat-cons r l = refl
+
+pub flat-one : (r : Row) → flat (r ∷ []) ≡ r
+unfolding flat
+flat-one r = append-nil r
 
 pub sized-at : (k : ℕ) (rows : List Row) (i : ℕ) → i < length rows → sized k rows ≡ true → length (getD rows i []) ≡ k
 sized-at k rows i h s = eqb-true (length (getD rows i [])) k (all-at (λ r. eqb (length r) k) i rows [] h s)

@@ -7,10 +7,8 @@ use mathlib.Core.Bool.{Bool, true}
 use mathlib.Core.List.{List, [], _++_, append-assoc}
 use lib.ListN.{length, getD, take, drop}
 use lib.Seq.{take-at}
-use Rattle.lists.specs.Lists.{Row, all, flat, put, span}
+use Rattle.lists.specs.Lists.{Row, all, flat, put}
 use Rattle.lists.specs.Rows.{sized, length-flat}
-use Rattle.lists.specs.Put.{span-at}
-use Rattle.lists.specs.At.{sized-at, length-flat-take, flat-cut-at}
 use Rattle.lists.specs.Laid.{Laid}
 
 module _ (k : ℕ) (rows : List Row) (s : sized k rows ≡ true) (o : List ℕ) where
@@ -20,19 +18,3 @@ module _ (k : ℕ) (rows : List Row) (s : sized k rows ≡ true) (o : List ℕ) 
   block-laid fit n f e =
       let long : length (flat rows) ≡ k * n - 0 = rw e (omega (arith, length-flat k rows s)) in
       record { words = take-at (flat rows) (drop (0 + length (flat rows)) o) (k * n - 0) long; width = s; fitting = f }
-
-  -- `&block[k * i..k * i + k]`
-  pub block-part : (i : ℕ) → i < length rows → take (k * i + k - k * i) (drop (k * i) (put 0 (flat rows) o)) ≡ getD rows i []
-  unfolding put span
-  block-part i b =
-      let p = flat (take i rows) in
-      let r = getD rows i [] in
-      let q = flat (drop (suc i) rows) in
-      let rest = drop (0 + length (flat rows)) o in
-      let whole : k * i + k - k * i ≡ k = omega arith in
-      let cut : flat rows ++ rest ≡ p ++ (r ++ (q ++ rest)) =
-      ap (λ (x : List ℕ). x ++ rest) (flat-cut-at k rows i s b) ∙ append-assoc p (r ++ q) rest ∙ ap (λ (x : List ℕ). p ++ x) (append-assoc r q rest)
-      in
-      rw whole
-      (ap (λ (x : List ℕ). take k (drop (k * i) x)) cut
-      ∙ span-at p r (q ++ rest) (k * i) k (length-flat-take k rows i s (omega arith)) (sized-at k rows i b s))

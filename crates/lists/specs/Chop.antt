@@ -2,13 +2,13 @@
 -- Assumes nothing.
 use Prim.Native.Nat.{ℕ, zero, suc, _+_, _-_, _*_, _≤_, _<_}
 use mathlib.Core.Path.{_≡_, refl, sym, ap, _∙_}
-use mathlib.Core.Bool.{Bool, true, _&&_, and-assoc}
-use mathlib.Core.List.{List, [], _∷_}
+use mathlib.Core.Bool.{Bool, true, _&&_, and-assoc, and-true}
+use mathlib.Core.List.{List, [], _∷_, _++_}
 use native.Mathlib.Nat.{mul-zero, mul-suc, not-suc-le-zero, le-of-suc-le-suc}
 use native.Mathlib.Omega.{arith}
 use lib.ListN.{getD, take, drop}
 use lib.Seq.{getD-take, getD-drop, drop-drop}
-use Rattle.lists.specs.Lists.{Row, all, chop}
+use Rattle.lists.specs.Lists.{Row, all, chop, span}
 
 module _ (k n : ℕ) (l : List ℕ) where
   -- the rows from row i on
@@ -39,11 +39,7 @@ module _ (k n : ℕ) (l : List ℕ) where
     pass-all b i h = ap (λ (x : List Row). b && all p x) (chop-next i h) ∙ sym (and-assoc b (p (take k (drop (k * i) l))) (all p (chopFrom (i + 1))))
 
     pub pass-all-end : (b : Bool) (i : ℕ) → n ≤ i → (b && all p (chopFrom i)) ≡ b
-    pass-all-end b i h = ap (λ (x : List Row). b && all p x) (chop-end i h) ∙ go b
-      where
-        go : (b : Bool) → (b && true) ≡ b
-        go Bool.true = refl
-        go Bool.false = refl
+    pass-all-end b i h = ap (λ (x : List Row). b && all p x) (chop-end i h) ∙ and-true b
 
 -- word j of row i, where the rows start at m
 pub chop-word-from : (k m : ℕ) (l : List ℕ) (i j : ℕ) → j < k → getD (take k (drop (k * i) (drop m l))) j 0 ≡ getD l (m + (k * i + j)) 0
@@ -57,3 +53,13 @@ chop-at k (suc n) l zero h = rw mul-zero
 chop-at k (suc n) l (suc i) h =
     let on : k * suc i ≡ k + k * i = rw mul-suc (omega arith) in
     rw (on, ← drop-drop (k * i) k l) (chop-at k n (drop k l) i (le-of-suc-le-suc h))
+
+-- one row more
+pub chop-more : (k i : ℕ) (l : List ℕ) → chop k (suc i) l ≡ chop k i l ++ (span (k * i) k l ∷ [])
+unfolding chop span
+chop-more k zero l = ap (λ (n : ℕ). take k (drop n l) ∷ []) (sym (mul-zero k))
+chop-more k (suc i) l =
+    let on : k + k * i ≡ k * suc i = rw mul-suc (omega arith) in
+    ap (λ (x : List Row). take k l ∷ x)
+    (chop-more k i (drop k l)
+    ∙ ap (λ (x : List ℕ). chop k i (drop k l) ++ (take k x ∷ [])) (drop-drop (k * i) k l ∙ ap (λ (n : ℕ). drop n l) on))

@@ -10,7 +10,8 @@ use lib.Dec.{eqb}
 use borrow.Author.Tests.{eqb-true, eq-eqb}
 use lib.ListN.{length, length-append}
 use Rattle.lists.specs.Lists.{Row, all, any, keep, first, until, onward, removeFirst, replaceFirst, behindLast, pairwise, each, eqRow}
-use Rattle.lists.specs.All.{all-append, not-both, pairwise-head, pairwise-tail, all-kept, fails, cond-case, test-case, true-false, or-case, or-false, or-left, or-right, all-head, all-tail, eqRow-true, eq-eqRow, eqRow-refl}
+use Rattle.lists.specs.Bools.{not-both, fails, cond-case, test-case, true-false, or-case, or-false, or-left, or-right}
+use Rattle.lists.specs.All.{all-append, pairwise-head, pairwise-tail, all-kept, all-head, all-tail, eqRow-true, eq-eqRow, eqRow-refl}
 
 -- 1 where a test passes
 abbrev pub tick : Bool → ℕ
@@ -46,6 +47,9 @@ module _ {A : Type 0} where
   count-most p [] = omega arith
   count-most p (x ∷ l) = omega (arith, count-most p l, tick-most (p x))
 
+  pub length-keep-most : (p : A → Bool) (l : List A) → length (keep p l) ≤ length l
+  length-keep-most p l = omega (arith, length-keep p l, count-most p l)
+
   pub count-append : (p : A → Bool) (l m : List A) → count p (l ++ m) ≡ count p l + count p m
   count-append p [] m = omega arith
   count-append p (x ∷ l) m = omega (arith, count-append p l m)
@@ -67,13 +71,6 @@ module _ {A : Type 0} where
   any-count p [] h = let z : _≡_ {A = ℕ} 0 1 = cc in omega arith
   any-count p (x ∷ l) h =
       or-case (p x) (any p l) h (λ e. omega (arith, tick-one (p x) e)) (λ e. omega (arith, any-count p l e))
-
-  -- what passes no more tests than another passes
-  pub count-mono : (p q : A → Bool) (l : List A) → ((x : A) → p x ≡ true → q x ≡ true) → count p l ≤ count q l
-  count-mono p q [] f = omega arith
-  count-mono p q (x ∷ l) f =
-      test-case (p x) (λ e. omega (arith, count-mono p q l f, tick-one (p x) e, tick-one (q x) (f x e)))
-      (λ e. omega (arith, count-mono p q l f, tick-none (p x) e))
 
   pub count-zero : (p : A → Bool) (l : List A) → any p l ≡ false → count p l ≡ 0
   count-zero p [] h = refl

@@ -1,27 +1,10 @@
 -- What the tests on lists have to do with one another: a part of a list that a test keeps, and another test, or a search, on that part.
 use mathlib.Core.Path.{_≡_, refl, sym, _∙_, ap}
-use mathlib.Core.Bool.{Bool, true, false, cond, not, _&&_, true≢false}
-use mathlib.Core.List.{List, [], _∷_, _++_, reverse, reverseAux}
+use mathlib.Core.Bool.{Bool, true, false, not, _&&_, true≢false}
+use mathlib.Core.List.{List, [], _∷_, _++_, reverse, reverseAux, append-assoc}
 use Rattle.lists.specs.Lists.{all, any, keep, first, removeFirst, replaceFirst, pairwise, each}
-use Rattle.lists.specs.All.{and-left, and-right, test-case}
-
--- ---- tests
--- what follows from a test that holds doesn't hold where the test fails
-pub contrary : (a b : Bool) → (a ≡ true → b ≡ true) → b ≡ false → a ≡ false
-contrary true b f h = absurd (true≢false (sym (f refl) ∙ h))
-contrary false b f h = refl
-
-pub not-not : (b : Bool) → not (not b) ≡ b
-not-not true = refl
-not-not false = refl
-
-pub cond-map : {A B : Type 0} (f : A → B) (b : Bool) (x y : A) → f (cond b x y) ≡ cond b (f x) (f y)
-cond-map f true x y = refl
-cond-map f false x y = refl
-
-pub cond-same : {A : Type 0} (b : Bool) (x : A) → cond b x x ≡ x
-cond-same true x = refl
-cond-same false x = refl
+use Rattle.lists.specs.Bools.{and-left, and-right, test-case, contrary}
+use Rattle.lists.specs.All.{all-head, all-tail, all-cons}
 
 -- every element that passes p passes q
 abbrev pub Implies : {A : Type 0} → (A → Bool) → (A → Bool) → Type 0
@@ -47,6 +30,13 @@ module _ {A : Type 0} where
       go : (l m : List A) → keep p (reverseAux l m) ≡ reverseAux (keep p l) (keep p m)
       go [] m = refl
       go (x ∷ l) m = go l (x ∷ m) ∙ test-case (p x) (λ e. rw e) (λ e. rw e)
+
+  pub all-reverse : (p : A → Bool) (l : List A) → all p l ≡ true → all p (reverse l) ≡ true
+  all-reverse p l h = go l [] h refl
+    where
+      go : (l m : List A) → all p l ≡ true → all p m ≡ true → all p (reverseAux l m) ≡ true
+      go [] m h k = k
+      go (x ∷ l) m h k = go l (x ∷ m) (all-tail p x l h) (all-cons p x m (all-head p x l h) k)
 
   pub all-joined : (p : A → Bool) (l m : List A) → all p (l ++ m) ≡ (all p l && all p m)
   all-joined p [] m = refl
@@ -76,6 +66,15 @@ module _ {A : Type 0} where
   each-keep f q i [] = refl
   each-keep f q i (x ∷ l) =
       test-case (q x) (λ e. rw (e, each-keep f q i l)) (λ e. rw (e, i x e) (each-keep f q i l))
+
+  -- the same are kept by tests that agree
+  pub keep-same : (p q : A → Bool) (l : List A) → ((x : A) → p x ≡ q x) → keep p l ≡ keep q l
+  keep-same p q [] h = refl
+  keep-same p q (x ∷ l) h = rw (h x, keep-same p q l h)
+
+  pub each-append : {B : Type 0} (f : A → List B) (l m : List A) → each f (l ++ m) ≡ each f l ++ each f m
+  each-append f [] m = refl
+  each-append f (x ∷ l) m = ap (λ k. f x ++ k) (each-append f l m) ∙ sym (append-assoc (f x) (each f l) (each f m))
 
   pub each-same : {B : Type 0} (f g : A → List B) → ((x : A) → f x ≡ g x) → (l : List A) → each f l ≡ each g l
   each-same f g i [] = refl

@@ -10,7 +10,8 @@ use lib.ListN.{length, getD, take, drop}
 use lib.Seq.{getD-take, getD-drop}
 use Rattle.lists.specs.Lists.{Row, all, flat}
 use Rattle.lists.specs.Rows.{sized, length-flat}
-use Rattle.lists.specs.Parts.{part-row, all-at}
+use Rattle.lists.specs.Parts.{part-row}
+use Rattle.lists.specs.At.{all-at}
 
 -- the words are those of the rows l
 pub record Laid (k : ℕ) (fit : Row → Bool) (w : List ℕ) (l : List Row) : Type 0 where
@@ -31,7 +32,7 @@ module _ {k : ℕ} {fit : Row → Bool} {w : List ℕ} {l : List Row} (h : Laid 
   laid-row i b = rw (h .words) (part-row k l i (h .width) b)
 
   pub laid-fit : (i : ℕ) → i < length l → fit (getD l i []) ≡ true
-  laid-fit i b = all-at fit l i (h .fitting) b
+  laid-fit i b = all-at fit i l [] b (h .fitting)
 
   -- the part that code lends
   pub laid-part : (i : ℕ) → i < length l → take (k * i + k - k * i) (drop (k * i) w) ≡ getD l i []
@@ -40,7 +41,7 @@ module _ {k : ℕ} {fit : Row → Bool} {w : List ℕ} {l : List Row} (h : Laid 
       rw whole (laid-row i b)
 
   pub laid-width : (i : ℕ) → i < length l → length (getD l i []) ≡ k
-  laid-width i b = eqb-true (length (getD l i [])) k (all-at (λ r. eqb (length r) k) l i (h .width) b)
+  laid-width i b = eqb-true (length (getD l i [])) k (all-at (λ r. eqb (length r) k) i l [] b (h .width))
 
   -- word j of row i
   pub laid-word : (i j : ℕ) → i < length l → j < k → getD w (k * i + j) 0 ≡ getD (getD l i []) j 0

@@ -1,4 +1,5 @@
 pub mod Lists
+pub mod Bools
 pub mod All
 pub mod Rows
 pub mod Chop
@@ -13,3 +14,6 @@ pub mod At
 pub mod Region
 pub mod Split
 pub mod Block
+pub mod Cut
+pub mod Mapped
+pub mod Next

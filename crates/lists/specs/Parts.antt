@@ -3,14 +3,14 @@ use Prim.Native.Nat.{ℕ, zero, suc, _+_, _-_, _*_, _≤_, _<_}
 use native.Mathlib.Nat.{mul-zero, mul-suc, add-comm, not-suc-le-zero, le-of-suc-le-suc}
 use native.Mathlib.Omega.{arith}
 use mathlib.Core.Path.{_≡_, refl, sym, ap, _∙_}
-use mathlib.Core.Bool.{Bool, true, false, _&&_}
+use mathlib.Core.Bool.{true}
 use mathlib.Core.List.{List, [], _∷_, _++_}
 use lib.Dec.{eqb}
 use lib.ListN.{length, getD, take, drop}
 use lib.Seq.{take-at, drop-append-add, drop-drop}
 use borrow.Author.Tests.{eqb-true}
-use Rattle.lists.specs.Lists.{Row, all, flat}
-use Rattle.lists.specs.All.{and-left, and-right}
+use Rattle.lists.specs.Lists.{Row, flat}
+use Rattle.lists.specs.Bools.{and-left, and-right}
 use Rattle.lists.specs.Rows.{sized}
 
 -- the row at place i, as the part that is lent
@@ -25,9 +25,3 @@ part-row k (r ∷ rows) (suc i) s h =
     let far : drop (length r + k * i) (r ++ flat rows) ≡ drop (k * i) (flat rows) = drop-append-add r (flat rows) (k * i) in
     let at : k * suc i ≡ length r + k * i = rw mul-suc (omega arith) in
     rw (at, far) (part-row k rows i (and-right (eqb (length r) k) (sized k rows) s) (le-of-suc-le-suc h))
-
--- what every row passes, row i does
-pub all-at : (p : Row → Bool) (rows : List Row) (i : ℕ) → all p rows ≡ true → i < length rows → p (getD rows i []) ≡ true
-all-at p [] i a h = absurd (not-suc-le-zero h)
-all-at p (r ∷ rows) zero a h = and-left (p r) (all p rows) a
-all-at p (r ∷ rows) (suc i) a h = all-at p rows i (and-right (p r) (all p rows) a) (le-of-suc-le-suc h)

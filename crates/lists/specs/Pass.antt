@@ -9,13 +9,20 @@ use mathlib.Core.Bool.{Bool, true, false, _||_}
 use mathlib.Core.List.{List, []}
 use lib.ListN.{length, getD, take, drop, drop-of-length-le}
 use lib.Seq.{drop-cons}
-use Rattle.lists.specs.Lists.{Row, any}
+use Rattle.lists.specs.Lists.{Row, any, chop}
 use Rattle.lists.specs.Place.{placeOf, place-here, place-past}
 use Rattle.lists.specs.Laid.{Laid, Lays, laid-length, laid-part, laid-fit, laid-width}
+use Rattle.lists.specs.Chop.{chop-at}
 
 -- the row at place i, as it is lent
 abbrev pub part : ℕ → List ℕ → ℕ → List ℕ
 part k w i = take (k * i + k - k * i) (drop (k * i) w)
+
+-- it is the row of those chopped off
+pub part-chop : (k n : ℕ) (w : List ℕ) (i : ℕ) → i < n → part k w i ≡ getD (chop k n w) i []
+part-chop k n w i h =
+    let size : k * i + k - k * i ≡ k = omega arith in
+    ap (λ (m : ℕ). take m (drop (k * i) w)) size ∙ chop-at k n w i h
 
 module _ {k : ℕ} {fit : Row → Bool} (w : List ℕ) (n : ℕ) (some : 0 < k) (long : length w ≡ k * n) where
   pub laid-rows : (l : List Row) → Laid k fit w l → length l ≡ n

@@ -4,12 +4,12 @@ use native.Mathlib.Nat.{suc-add, add-zero, zero-add, not-suc-le-zero, le-of-suc-
 use native.Mathlib.Numerals.{add-one}
 use native.Mathlib.Omega.{arith}
 use mathlib.Core.Path.{_≡_, refl, sym, ap, _∙_}
-use mathlib.Core.Bool.{Bool, true, false, cond, _||_, true≢false, false≢true}
+use mathlib.Core.Bool.{Bool, true, false, cond, _||_, false≢true}
 use mathlib.Core.List.{List, [], _∷_, _++_}
 use mathlib.Core.Option.{Option, none, some}
 use lib.ListN.{length, getD, take, drop, set, getElem?}
 use lib.Seq.{drop-cons}
-use Rattle.lists.specs.Lists.{Row, any, first, removeFirst, replaceFirst}
+use Rattle.lists.specs.Lists.{any, first, removeFirst, replaceFirst}
 
 module _ {A : Type 0} (p : A → Bool) where
   -- the place of the first element that passes, the length where none does
@@ -59,14 +59,6 @@ module _ {A : Type 0} (p : A → Bool) where
       go false e h =
           let k = h e in
           omega arith
-
-  pub none-at : (l : List A) → any p l ≡ false → placeOf l ≡ length l
-  none-at [] e = refl
-  none-at (x ∷ l) e = go (p x) e (none-at l)
-    where
-      go : (b : Bool) → (b || any p l) ≡ false → (any p l ≡ false → placeOf l ≡ length l) → cond b 0 (suc (placeOf l)) ≡ suc (length l)
-      go true e h = absurd (true≢false e)
-      go false e h = ap suc (h e)
 
   -- a search: the place is i on from the place in what is left
   pub place-here : (l : List A) (i : ℕ) (d : A) → i < length l → p (getD l i d) ≡ true → placeOf (drop i l) ≡ 0

@@ -8,7 +8,7 @@ use native.Mathlib.Numerals.{add-one}
 use native.Mathlib.Omega.{arith}
 use lib.ListN.{length, getD, set, take, drop, length-append, length-drop, take-append-drop, List·getD-append, drop-of-length-le}
 use lib.Seq.{length-take-le, take-at, drop-at, set-at, drop-cons, take-suc, set-split, drop-append-add, drop-drop, take-add, take-take, getD-take, getD-drop, getD-append-add}
-use Rattle.lists.specs.Lists.{zeros, span, put}
+use Rattle.lists.specs.Lists.{zeros, span, put, flat}
 use Rattle.lists.specs.Rows.{length-zeros, length-span}
 
 -- ---- a list cut in three: what is before, the run, what is behind
@@ -33,18 +33,6 @@ cut at n l = sym (rw (← drop-drop n at l, take-append-drop n (drop at l), take
 module _ (at : ℕ) (vs l : List ℕ) (h : at + length vs ≤ length l) where
   before-put : length (take at l) ≡ at
   before-put = length-take-le at l (omega arith)
-
-  -- what was put is there
-  pub span-put : span at (length vs) (put at vs l) ≡ vs
-  unfolding put
-  span-put = span-at (take at l) vs (drop (at + length vs) l) at (length vs) before-put refl
-
-  -- a run in place of one as long
-  pub put-over : (ws : List ℕ) → length ws ≡ length vs → put at ws (put at vs l) ≡ put at ws l
-  unfolding put
-  put-over ws e =
-      put-at (take at l) vs (drop (at + length vs) l) ws at before-put (sym e)
-      ∙ ap (λ (n : ℕ). take at l ++ (ws ++ drop (at + n) l)) (sym e)
 
   -- a run behind a run is one run, and so is a run ahead of one
   pub put-behind : (ws : List ℕ) → at + length vs + length ws ≤ length l → put (at + length vs) ws (put at vs l) ≡ put at (vs ++ ws) l
@@ -110,18 +98,15 @@ module _ (at : ℕ) (vs l : List ℕ) (h : at + length vs ≤ length l) where
   unfolding span
   span-put-behind b n k = ap (take n) (drop-put-behind b k)
 
-  -- words of the run are its
-  pub getD-put-in : (i d : ℕ) → i < length vs → getD (put at vs l) (at + i) d ≡ getD vs i d
-  unfolding put
-  getD-put-in i d k =
-      ap (λ (n : ℕ). getD (put at vs l) (n + i) d) (sym before-put)
-      ∙ getD-append-add (take at l) (vs ++ drop (at + length vs) l) i d
-      ∙ List·getD-append vs (drop (at + length vs) l) d i k
-
 -- ---- runs that grow by a word
 pub put-none : (at : ℕ) (l : List ℕ) → l ≡ put at [] l
 unfolding put
 put-none at l = sym (rw (add-zero at, take-append-drop at l))
+
+-- no rows
+pub put-no-rows : (l : List ℕ) → l ≡ put 0 (flat []) l
+unfolding flat
+put-no-rows l = put-none 0 l
 
 pub put-more : (at : ℕ) (vs : List ℕ) (v : ℕ) (l : List ℕ) → at + length vs < length l → set (put at vs l) (at + length vs) v ≡ put at (vs ++ (v ∷ [])) l
 unfolding put

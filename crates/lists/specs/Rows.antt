@@ -3,7 +3,7 @@
 use Prim.Native.Nat.{ℕ, zero, suc, _+_, _-_, _*_, _≤_}
 use mathlib.Core.Path.{_≡_, refl, sym, ap, _∙_}
 use mathlib.Core.Bool.{Bool, true}
-use mathlib.Core.List.{List, [], _∷_, _++_, append-assoc}
+use mathlib.Core.List.{List, [], _∷_, _++_, append-assoc, append-nil}
 use native.Mathlib.Nat.{mul-zero, mul-suc, add-comm, zero-add, suc-add, sub-zero}
 use native.Mathlib.Omega.{arith}
 use lib.Dec.{eqb}
@@ -11,7 +11,7 @@ use lib.ListN.{length, take, drop, length-append, length-take, length-drop}
 use lib.Seq.{take-at, drop-at, take-add, length-take-le, drop-drop}
 use borrow.Author.Tests.{eqb-true, eq-eqb}
 use Rattle.lists.specs.Lists.{Row, all, allZero, flat, zeros, pad, span, put, chop}
-use Rattle.lists.specs.All.{and-left, and-right, and-both}
+use Rattle.lists.specs.Bools.{and-left, and-right, and-both}
 
 -- the rows have k words each
 abbrev pub sized : ℕ → List Row → Bool
@@ -105,6 +105,17 @@ flat-chop k (suc n) l =
     ap (λ (r : List ℕ). take k l ++ r) (flat-chop k n (drop k l))
     ∙ sym (take-add k (k * n) l)
     ∙ ap (λ (i : ℕ). take i l) (add-comm k (k * n) ∙ sym (mul-suc k n))
+
+-- the rows of a part
+pub chop-part : (base k n : ℕ) (w : List ℕ) → base + k * n ≤ length w → chop k n (span base (k * n) w) ≡ chop k n (drop base w)
+unfolding span
+chop-part base k n w h =
+    let rows = chop k n (drop base w) in
+    let long : length rows ≡ n = length-chop k n (drop base w) in
+    let there : take (k * n) (drop base w) ≡ flat rows ++ [] = sym (append-nil (flat rows) ∙ flat-chop k n (drop base w)) in
+    ap (chop k n) there
+    ∙ ap (λ (m : ℕ). chop k m (flat rows ++ [])) (sym long)
+    ∙ chop-flat k rows [] (sized-chop k n (drop base w) (rw length-drop (omega arith)))
 
 -- the rows in use and the zeros behind them
 pub pad-chop : (size k n : ℕ) (l : List ℕ) → k * n ≤ size → size ≤ length l → allZero (span (k * n) (size - k * n) l) ≡ true

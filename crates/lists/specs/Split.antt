@@ -1,17 +1,18 @@
 -- A list cut where a test stops passing, and what tests say of a part and of the whole.
 -- Assumes nothing.
-use Prim.Native.Nat.{ℕ, zero, suc, _+_, _<_}
+use Prim.Native.Nat.{ℕ, zero, suc, _+_, _<_, _≤_}
 use mathlib.Core.Path.{_≡_, refl, sym, ap, _∙_}
-use mathlib.Core.Bool.{Bool, true, false, not, _||_}
+use mathlib.Core.Bool.{Bool, true, false, not, _||_, or-false, _&&_}
 use mathlib.Core.List.{List, [], _∷_, _++_}
 use native.Mathlib.Omega.{arith}
 use native.Mathlib.Numerals.{add-one}
 use lib.ListN.{length, getD, take, drop, take-append-drop}
 use lib.Seq.{take-at, drop-at, take-suc}
 use borrow.Author.Tests.{lt-ltb, le-ltb}
-use lib.Dec.{ltb}
-use Rattle.lists.specs.Lists.{all, any, keep, pairwise}
-use Rattle.lists.specs.All.{all-append, all-cons, pairwise-tail, test-case, fails}
+use lib.Dec.{ltb, eqb}
+use Rattle.lists.specs.Lists.{all, any, keep, pairwise, among}
+use Rattle.lists.specs.Bools.{test-case, fails}
+use Rattle.lists.specs.All.{all-append, all-cons, pairwise-tail}
 use Rattle.lists.specs.At.{insertAt}
 use Rattle.lists.specs.Count.{tick, count, count-append, count-pair, count-apart, length-keep, any-count, count-zero}
 
@@ -28,6 +29,16 @@ module _ {A : Type 0} where
   -- ---- counts
   pub count-all : (p : A → Bool) (l : List A) → all p l ≡ true → count p l ≡ length l
   count-all p l h = omega (arith, count-pair p l, count-apart p (λ x. not (p x)) l (λ x e. ap not e) h)
+
+  pub count-cut : (p : A → Bool) (l : List A) (i : ℕ) → count p l ≡ count p (take i l) + count p (drop i l)
+  count-cut p l i = ap (count p) (sym (take-append-drop i l)) ∙ count-append p (take i l) (drop i l)
+
+  pub count-part : (p : A → Bool) (l : List A) (i : ℕ) → count p (take i l) ≤ count p l
+  count-part p l i = omega (arith, count-cut p l i)
+
+  pub count-insertAt : (p : A → Bool) (i : ℕ) (x : A) (l : List A) → count p (insertAt i x l) ≡ count p l + tick (p x)
+  unfolding insertAt
+  count-insertAt p i x l = omega (arith, count-cut p l i, count-append p (take i l) (x ∷ drop i l))
 
   -- a test that is one of two, never both
   pub count-sum : (p q r : A → Bool) (l : List A) → ((x : A) → tick (r x) ≡ tick (p x) + tick (q x)) → count r l ≡ count p l + count q l
@@ -66,3 +77,16 @@ module _ {A : Type 0} where
       let front : take (count p l) l ≡ keep p l = ap (take (count p l)) (sym h) ∙ take-at (keep p l) (keep (λ x. not (p x)) l) (count p l) long in
       let back : drop (count p l) l ≡ keep (λ x. not (p x)) l = ap (drop (count p l)) (sym h) ∙ drop-at (keep p l) (keep (λ x. not (p x)) l) (count p l) long in
       rw (front, back)
+
+-- a number more at the end
+pub among-more : (n t : ℕ) (l : List ℕ) → among n (l ++ (t ∷ [])) ≡ (among n l || eqb n t)
+among-more n t l = any-joined (eqb n) l (t ∷ []) ∙ ap (λ (b : Bool). among n l || b) (or-false (eqb n t))
+
+-- none is x where x is not among them
+pub all-other : (x : ℕ) (l : List ℕ) → all (λ b. not (eqb x b)) l ≡ not (among x l)
+all-other x [] = refl
+all-other x (y ∷ l) = ap (λ (b : Bool). not (eqb x y) && b) (all-other x l) ∙ either (eqb x y) (among x l)
+  where
+    either : (a b : Bool) → not a && not b ≡ not (a || b)
+    either true b = refl
+    either false b = refl

@@ -2,7 +2,7 @@
 use Prim.Native.Nat.{ℕ, zero, suc, _+_, _*_, _≤_, _<_}
 use native.Mathlib.Omega.{arith}
 use mathlib.Core.Path.{_≡_, refl, sym, ap, _∙_, fun-ext}
-use mathlib.Core.Bool.{Bool, true, false, cond, not, _&&_, _||_}
+use mathlib.Core.Bool.{Bool, true, false, cond, not, _&&_, _||_, or-self}
 use mathlib.Core.List.{List, [], _∷_}
 use mathlib.Core.Option.{Option, none, some}
 use lib.Dec.{eqb, lit<}
@@ -16,7 +16,7 @@ use Rattle.definition.specs.State.{State}
 use Rattle.definition.specs.Reference.Lookup as Lookup
 use Rattle.definition.specs.Reference.Lookup.{Flow, Found, route, refused, answer, together, typeSet, settled, ruling, lookupIn, kindFound, listed, fits, mainTable, localTable, defaultTable, netUnreachable, again}
 use Rattle.lists.specs.Place.{nothing-from, something-at}
-use Rattle.lookup.specs.Pass.{laid-count}
+use Rattle.lists.specs.Pass.{laid-rows}
 use Rattle.lookup.specs.declared.Ruling.{Ruling}
 use Rattle.lookup.specs.declared.Ruling.the-variants.{Route, Refuse, Again}
 use Rattle.lookup.specs.declared.Looked.{Looked}
@@ -41,12 +41,12 @@ placed n (Refused k) = Unit {0}
 -- ---- judging the row at a place
 module _ (w : List ℕ) (n : ℕ) (long : length w ≡ 32 * n) (l : List Row) (h : Laid 32 fitRoute w l) (place : ℕ) where
   pub judge-none : n ≤ place → Again ≡ rulingOf (getElem? l place)
-  judge-none b = rw (nothing-from l place (omega (arith, laid-count w n long l h)))
+  judge-none b = rw (nothing-from l place (omega (arith, laid-rows w n (lit< tt) long l h)))
 
   module _ (e : ℕ) (b : place < n) (q : e ≡ errorOf (getD w (32 * place + 5) 0)) where
     there : (getElem? l place ≡ some (getD l place [])) × (e ≡ errorOf (kind (getD l place [])))
     there =
-        let b′ : place < length l = omega (arith, laid-count w n long l h) in
+        let b′ : place < length l = omega (arith, laid-rows w n (lit< tt) long l h) in
         (something-at l place [] b′, q ∙ ap errorOf (laid-word h place 5 b′ (lit< tt)))
 
     pub judge-route : e ≡ 0 → Route ≡ rulingOf (getElem? l place)
@@ -135,13 +135,9 @@ upper-set : (f : Flow) (l : List Row) → answer (λ u. eqb u 255 || eqb u 254) 
 unfolding together
 upper-set f l = refl
 
-or-same : (b : Bool) → (b || b) ≡ b
-or-same true = refl
-or-same false = refl
-
 lower-set : (f : Flow) (l : List Row) → answer (λ u. eqb u 253 || eqb u 253) f l ≡ answer (together defaultTable) f l
 unfolding together
-lower-set f l = ap (λ (p : ℕ → Bool). answer p f l) (fun-ext (λ u. or-same (eqb u 253)))
+lower-set f l = ap (λ (p : ℕ → Bool). answer p f l) (fun-ext (λ u. or-self (eqb u 253)))
 
 module _ (l : List Row) (f : Flow) (b : Bool) (u : ℕ) (upper : answer (λ v. eqb v 255 || eqb v 254) f l ≡ getElem? l u) where
   at-upper : answer (together mainTable) f l ≡ getElem? l u
@@ -177,3 +173,7 @@ module _ (l : List Row) (f : Flow) (b : Bool) (u : ℕ) (upper : answer (λ v. e
     pub lower-last : Again ≡ rulingOf (getElem? l v) → refused netUnreachable ≡ lookupRows b l f
     lower-last e =
         rw (at-upper, ruled-again (getElem? l u) (sym past), on, at-lower, ruled-again (getElem? l v) (sym e))
+
+-- a place that is answered is one of the rows
+pub place-within : (n : ℕ) (found : Looked) (i : ℕ) → found ≡ At i → placed n found → i < n
+place-within n found i e p = rw e at p

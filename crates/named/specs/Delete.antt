@@ -10,7 +10,7 @@ use lib.ListN.{length, getD, getElem?, take, drop, length-drop}
 use lib.Seq.{length-take-le}
 use borrow.Author.Tests.{eqb-true}
 use Rattle.lists.specs.Lists.{Row, span, put, first, removeFirst}
-use Rattle.lists.specs.All.{fails, and-iff}
+use Rattle.lists.specs.Bools.{fails, and-iff}
 use Rattle.lists.specs.Count.{count}
 use Rattle.lists.specs.At.{removeAt, sized-at}
 use Rattle.lists.specs.Place.{placeOf, first-at, remove-at, nothing-from, something-at}
@@ -22,8 +22,8 @@ use Rattle.definition.specs.Reference.Insert.{named, kernelDel4}
 use Rattle.definition.specs.Kept.Shrinking.{weight, live, kernelDel4-away}
 use Rattle.state.specs.Holds.{Holds, Valid, sizedR, count-routes}
 use Rattle.state.specs.Change.{route-at}
-use Rattle.steps.specs.Does.{Does, does-none, does-one, does-step}
-use Rattle.events.specs.Step.{Fits, Ready, Step}
+use Rattle.events.specs.Does.{Does, does-none, does-one}
+use Rattle.events.specs.Step.{Fits, Ready, Step, does-step}
 
 -- ---- the row that a deletion names
 pub named-far : (p r : Row) → (dst p ≡ dst r → ⊥) → false ≡ named p r

@@ -11,7 +11,7 @@ ghost use Rattle.definition.specs.State.{State};
 ghost use Rattle.definition.specs.Words.{routeCount};
 ghost use Rattle.definition.specs.Reference.Insert.{named, kernelDel4};
 ghost use Rattle.state.specs.Holds.{Holds, Valid};
-ghost use Rattle.steps.specs.Does.{Does};
+ghost use Rattle.events.specs.Does.{Does};
 
 // Whether the deletion of p names r. Most rows are to other destinations, so that is asked first.
 fn named(p: &[u32], r: &[u32]) -> bool

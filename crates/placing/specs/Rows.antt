@@ -12,6 +12,7 @@ use Rattle.lists.specs.Lists.{Row, any, put}
 use Rattle.lists.specs.At.{insertAt}
 use Rattle.lists.specs.Laid.{Laid, Lays, laid-part}
 use Rattle.lists.specs.Pass.{part, laid-rows}
+use Rattle.lists.specs.Put.{put-whole}
 use Rattle.layout.specs.Address.{secondary, fitAddress}
 use Rattle.layout.specs.Request.{fitAddV4}
 use Rattle.definition.specs.Reference.Addresses.{yields, place4, sameSubnet, asked, asSecondary}
@@ -57,12 +58,6 @@ module _ (w : List ℕ) (n : ℕ) (long : length w ≡ 20 * n) (new : Row) (l : 
 -- ---- the row that a request becomes among the addresses that are there
 abbrev pub freshRow : List Row → Row → ℕ → Row
 freshRow l q now = cond (any (λ old. sameSubnet old q) l) (asSecondary (asked q now)) (asked q now)
-
-pub put-whole : (v o : List ℕ) → length v ≡ length o → put 0 v o ≡ v
-unfolding put
-put-whole v o e =
-    let none : drop (0 + length v) o ≡ [] = drop-of-length-le o {i = 0 + length v} (omega arith) in
-    ap (λ (m : List ℕ). v ++ m) none ∙ append-nil v
 
 module _ (q : Row) (now : ℕ) (long : length q ≡ 18) (f : fitAddV4 q ≡ true) where
   fit-asked : fitAddress (asked q now) ≡ true

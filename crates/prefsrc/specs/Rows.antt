@@ -2,7 +2,7 @@
 -- Assumes nothing.
 use Prim.Native.Nat.{ℕ}
 use mathlib.Core.Path.{_≡_, refl, sym, ap, _∙_, fun-ext}
-use mathlib.Core.Bool.{Bool, true, false, cond, not, _&&_, _||_}
+use mathlib.Core.Bool.{Bool, true, false, cond, not, _&&_, _||_, or-self}
 use mathlib.Core.List.{List}
 use lib.Dec.{eqb}
 use Rattle.lists.specs.Lists.{Row}
@@ -32,13 +32,9 @@ pub set-pair : (t u : ℕ) → (eqb t localTable || eqb t mainTable) ≡ true �
 unfolding typeSet
 set-pair t u e = rw e
 
-or-same : (b : Bool) → (b || b) ≡ b
-or-same true = refl
-or-same false = refl
-
 pub set-alone : (t u : ℕ) → (eqb t localTable || eqb t mainTable) ≡ false → (eqb u t || eqb u t) ≡ typeSet t u
 unfolding typeSet
-set-alone t u e = rw e (or-same (eqb u t))
+set-alone t u e = rw e (or-self (eqb u t))
 
 pub type-by : (b : Bool) (s : Tables) (t : ℕ) (l : List Row) (ip : ℕ) → ((u : ℕ) → setOf s u ≡ typeSet t u) → typeRows b (setOf s) l ip ≡ typeRows b (typeSet t) l ip
 type-by b s t l ip h = ap (λ (p : ℕ → Bool). typeRows b p l ip) (fun-ext h)

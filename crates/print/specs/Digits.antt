@@ -61,9 +61,6 @@ count-one n h = rw (digits-one n h)
 pub count-more : (n : ℕ) → 10 ≤ n → length (digits n) ≡ length (digits (n / 10)) + 1
 count-more n h = rw (digits-more n h, length-append (digits (n / 10)) (digit n ∷ []))
 
-pub count-least : (n : ℕ) → 1 ≤ length (digits n)
-count-least n = tens n (λ s. omega (arith, count-one n s)) (λ b. omega (arith, count-more n b))
-
 -- a number below 256 has at most three, a word at most ten
 pub count-byte : (n : ℕ) → n < 256 → length (digits n) ≤ 3
 count-byte n h =

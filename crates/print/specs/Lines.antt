@@ -2,35 +2,24 @@
 -- Assumes nothing.
 use Prim.Native.Nat.{ℕ, _+_, _-_, _*_, _≤_, _<_}
 use mathlib.Core.Path.{_≡_, refl, sym, ap, _∙_}
-use mathlib.Core.List.{List, [], _∷_, _++_, append-assoc, append-nil}
+use mathlib.Core.List.{List, [], _∷_, _++_, append-nil}
 use native.Mathlib.Nat.{zero-add}
 use native.Mathlib.Numerals.{add-one}
 use native.Mathlib.Omega.{arith}
 use lib.ListN.{length, getD, take, drop}
 use lib.Seq.{take-suc, take-all}
-use Rattle.lists.specs.Lists.{Row, put, chop, flat, each}
-use Rattle.lists.specs.Rows.{sized-chop, length-chop, flat-chop}
-use Rattle.lists.specs.Parts.{part-row}
+use Rattle.lists.specs.Lists.{Row, put, chop, each}
+use Rattle.lists.specs.Rows.{length-chop}
+use Rattle.lists.specs.Keep.{each-append}
+use Rattle.lists.specs.Pass.{part-chop}
 use Rattle.print.specs.Print.{line, countLine, render}
 use Rattle.print.specs.Wrote.{Wrote, wrote, then, same}
 
-each-append : {A B : Type 0} (f : A → List B) (a b : List A) → each f (a ++ b) ≡ each f a ++ each f b
-each-append f [] b = refl
-each-append f (x ∷ a) b = ap (λ l. f x ++ l) (each-append f a b) ∙ sym (append-assoc (f x) (each f a) (each f b))
-
-module _ (n : ℕ) (w : List ℕ) (h : length w ≡ 32 * n) (i : ℕ) (k : i < n) where
-  -- the part that is lent is the row
-  part-is : take (32 * i + 32 - 32 * i) (drop (32 * i) w) ≡ getD (chop 32 n w) i []
-  part-is =
-      let whole : 32 * i + 32 - 32 * i ≡ 32 = omega arith in
-      let all : flat (chop 32 n w) ≡ w = flat-chop 32 n w ∙ take-all (32 * n) w (omega arith) in
-      let many : i < length (chop 32 n w) = rw (length-chop 32 n w) k in
-      rw whole (rw all at (part-row 32 (chop 32 n w) i (sized-chop 32 n w (omega arith)) many))
-
+module _ (n : ℕ) (w : List ℕ) (i : ℕ) (k : i < n) where
   each-more : each line (take (i + 1) (chop 32 n w)) ≡ each line (take i (chop 32 n w)) ++ line (take (32 * i + 32 - 32 * i) (drop (32 * i) w))
   each-more =
       let many : i < length (chop 32 n w) = rw (length-chop 32 n w) k in
-      rw (add-one, take-suc (chop 32 n w) i [] many, ← part-is)
+      rw (add-one, take-suc (chop 32 n w) i [] many, ← (part-chop 32 n w i k))
       (each-append line (take i (chop 32 n w)) (take (32 * i + 32 - 32 * i) (drop (32 * i) w) ∷ [])
       ∙ ap (λ (x : List ℕ). each line (take i (chop 32 n w)) ++ x) (append-nil (line (take (32 * i + 32 - 32 * i) (drop (32 * i) w)))))
 

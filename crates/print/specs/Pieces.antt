@@ -27,9 +27,6 @@ length-dotted ip =
     simp length-append
     (omega (arith, count-byte (ip / 16777216 % 256) (omega arith), count-byte (ip / 65536 % 256) (omega arith), count-byte (ip / 256 % 256) (omega arith), count-byte (ip % 256) (omega arith)))
 
-pub length-bracketed : (ip n : ℕ) → n < 4294967296 → length (bracketed ip n) ≤ 28
-length-bracketed ip n h = simp length-append (omega (arith, length-dotted ip, count-word n h))
-
 pub length-destination : (ip n : ℕ) → length (bracketed ip n) ≡ length (dotted ip) + length (digits n) + 3
 length-destination ip n = simp length-append (omega arith)
 

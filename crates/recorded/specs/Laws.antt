@@ -11,7 +11,7 @@ use lib.ListN.{length, getD, set, take, drop, length-set, drop-of-length-le}
 use lib.Seq.{drop-cons, length-take-le}
 use borrow.Author.Tests.{leb-true, le-leb}
 use Rattle.lists.specs.Lists.{Row, flat, put, zeros, eqRow}
-use Rattle.lists.specs.All.{and-left, and-right, cond-case, cond-true, cond-false}
+use Rattle.lists.specs.Bools.{and-left, and-right, cond-case, cond-true, cond-false}
 use Rattle.lists.specs.Rows.{length-put, length-zeros}
 use Rattle.definition.specs.Step.{Result}
 use Rattle.reply.specs.declared.Reply.{Reply}

@@ -6,7 +6,7 @@ use mathlib.Core.Bool.{Bool, not, cond, _&&_}
 use mathlib.Core.List.{List, [], _∷_, map}
 use mathlib.Core.Option.{Option, none, some}
 use Rattle.lists.specs.Lists.{Row, first}
-use Rattle.lists.specs.All.{test-case}
+use Rattle.lists.specs.Bools.{test-case}
 use Rattle.layout.specs.Address.{local, secondary}
 use Rattle.definition.specs.Reference.Addresses.{covers, sameSubnet, localOr, primaryOf}
 use Rattle.definition.specs.Reference.Source.{eligible, reaches, select4, localOf, orElse}

@@ -12,7 +12,7 @@ use lib.ListN.{length, getD, take, set}
 use lib.Seq.{take-suc, take-suc-set}
 use borrow.Author.Tests.{le-ltb}
 use Rattle.lists.specs.Lists.{Row, first}
-use Rattle.lists.specs.All.{test-case, and-left, and-right, and-rest}
+use Rattle.lists.specs.Bools.{test-case, and-left, and-right, and-rest}
 use Rattle.layout.specs.Address.{local, secondary, fitAddress}
 use Rattle.definition.specs.State.{State}
 use Rattle.definition.specs.Words.{addressCount, decode}
@@ -25,8 +25,10 @@ use Rattle.address.specs.Words.{rowOf}
 use Rattle.source.specs.Selected.{wanted, localIn}
 use Rattle.source.specs.Laws.{reaches-test}
 use Rattle.state.specs.Holds.{Valid, sizes-valid}
+use Rattle.interface.specs.declared.Sourced.{Sourced}
 use Rattle.interface.specs.declared.Sourced.the-variants.{Refused, Address}
-use Rattle.interface.specs.Answer.{sourcedOf}
+use Rattle.interface.specs.Answer.{numbers, sourcedBy, sourcedOf}
+use Rattle.interface.specs.Numbers.{reads, sourced-none}
 use Rattle.interface.specs.Laws.{checked, read-refused, read-answered, sourced-refused}
 use Rattle.records.specs.declared.Best.{Best}
 use Rattle.records.specs.Call.{primaryOfCall}
@@ -189,3 +191,9 @@ module _ (w : List ℕ) (row : Row) (n : ℕ) (fit : Bool) (f : fit ≡ fitAddre
   pub primary-yes : (a : ℕ) → n ≡ checked true fit true w → n ≡ 0 → a ≡ primaryOf (decode w .addresses) row → Address a ≡ sourcedOf (primaryOfCall row w .reply)
   unfolding primaryOfCall
   primary-yes a c z e = ap (λ (v : ℕ). sourcedOf (valued v)) e ∙ ap sourcedOf (sym (read-answered true (fitAddress row) true reply w n (same c) z))
+
+pub primary-says : (w : List ℕ) (row : Row) {r : Sourced} → r ≡ sourcedOf (primaryOfCall row w .reply) → sourcedBy r ≡ numbers (primaryOfCall row w .reply)
+unfolding primaryOfCall
+primary-says w row e =
+    ap sourcedBy e
+    ∙ reads (λ (r : Reply). sourcedBy (sourcedOf r) ≡ numbers r) true (fitAddress row) true (λ st. valued (primaryOf (st .addresses) row)) w (λ n h. sourced-none n) (λ g. refl)

@@ -19,7 +19,7 @@ ghost use Rattle.definition.specs.Words.{addressCount};
 ghost use Rattle.definition.specs.Step.{select4Call};
 ghost use Rattle.source.specs.Selected.{wanted, localIn};
 ghost use Rattle.state.specs.Holds.{Holds, Valid};
-ghost use Rattle.interface.specs.Answer.{chosenOf, sourcedOf};
+ghost use Rattle.interface.specs.Answer.{numbers, chosenBy, sourcedBy, chosenOf, sourcedOf};
 ghost use Rattle.records.specs.Best.{better, selectRank, selectedOf, primaryRank, primaryIn};
 ghost use Rattle.records.specs.Call.{primaryOfCall};
 
@@ -176,6 +176,7 @@ fn primary_of_in(s: &[u32], row: &[u32]) -> u32
 
 // The call on the words of a state.
 pub fn select4_words(state: &[u32], dst_present: u32, dst: u32, scope: u32) -> Chosen
+    ensures { λ r. ⌜ chosenBy r ≡ numbers (select4Call «dst_present» dst scope (now (state .entry)) .reply) ⌝ }
     ensures { λ r. ⌜ r ≡ chosenOf (select4Call «dst_present» dst scope (now (state .entry)) .reply) ⌝ }
 {
     let n = interface::checked(
@@ -196,6 +197,7 @@ pub fn select4_words(state: &[u32], dst_present: u32, dst: u32, scope: u32) -> C
 
 // By the words of a state, the local address of the primary whose subnet an address is in, handed over as any row of words.
 pub fn primary_of_words(state: &[u32], row: &[u32]) -> Sourced
+    ensures { λ r. ⌜ sourcedBy r ≡ numbers (primaryOfCall (now (row .entry)) (now (state .entry)) .reply) ⌝ }
     ensures { λ r. ⌜ r ≡ sourcedOf (primaryOfCall (now (row .entry)) (now (state .entry)) .reply) ⌝ }
 {
     let n = interface::checked(state, true, address::fit_address(row), true);

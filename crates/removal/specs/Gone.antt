@@ -8,7 +8,8 @@ use mathlib.Core.List.{List, [], _∷_, _++_}
 use native.Mathlib.Omega.{arith}
 use lib.ListN.{length, getD, take, drop, drop-of-length-le}
 use Rattle.lists.specs.Lists.{Row, all, any, keep, removeFirst, eqRow}
-use Rattle.lists.specs.All.{any-none, fails, true-false, test-case, or-left, or-right, eqRow-refl, eqRow-true, all-head, all-tail, all-mono, all-kept, not-so}
+use Rattle.lists.specs.Bools.{fails, true-false, test-case, or-left, or-right, not-so}
+use Rattle.lists.specs.All.{any-none, eqRow-refl, eqRow-true, all-head, all-tail, all-mono, all-kept}
 use Rattle.lists.specs.At.{removeAt, length-removeAt}
 use Rattle.lists.specs.Count.{any-count, count-any, times, times-less, tick-none}
 use Rattle.layout.specs.Address.{secondary}

@@ -10,7 +10,8 @@ use borrow.Author.Tests.{eq-eqb}
 use lib.ListN.{length, getD, take, drop, drop-of-length-le, length-append}
 use lib.Seq.{take-at, drop-at}
 use Rattle.lists.specs.Lists.{Row, any, all, keep, removeFirst, eqRow, put, flat, zeros, span}
-use Rattle.lists.specs.All.{all-first, eqRow-true, eqRow-refl, or-case, all-head, all-tail, cond-true, cond-false, and-both, all-append, all-map, all-keep}
+use Rattle.lists.specs.Bools.{or-case, cond-true, cond-false, and-both}
+use Rattle.lists.specs.All.{all-first, eqRow-true, eqRow-refl, all-head, all-tail, all-append, all-map, all-keep}
 use Rattle.lists.specs.At.{removeAt}
 use Rattle.lists.specs.Rows.{length-zeros, sized, length-flat}
 use Rattle.lists.specs.Count.{count, length-removeFirst, count-removeFirst}
@@ -31,7 +32,8 @@ use Rattle.definition.specs.Kept.Fit.{length-address}
 use Rattle.definition.specs.Kept.Shrinking.{weight, live}
 use Rattle.state.specs.Holds.{Holds, Valid, holds-long, count-addresses}
 use Rattle.state.specs.Change.{address-at, fit-address-at}
-use Rattle.events.specs.Step.{Fits, Ready, Step, rest, rest-fits, step-same, step-one, step-also, step-none, step-length, step-rows}
+use Rattle.events.specs.Does.{rest}
+use Rattle.events.specs.Step.{Fits, Ready, Step, rest-fits, step-same, step-one, step-also, step-none, step-length, step-rows}
 use Rattle.events.specs.Turns.{Like, like-refl, like-sym, like-trans, like-eq, also-like, also-assoc, Going, going-start, going-turn, going-end}
 use Rattle.candidates.specs.Laws.{route-long}
 use Rattle.deletion.specs.Delete.{step-eq}

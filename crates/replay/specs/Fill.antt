@@ -8,7 +8,7 @@ use lib.Dec.{eqb}
 use lib.ListN.{length, getD, set}
 use lib.Seq.{getD-set-same, getD-set-other}
 use borrow.Author.Tests.{eqb-true, eqb-false}
-use Rattle.lists.specs.All.{test-case}
+use Rattle.lists.specs.Bools.{test-case}
 
 -- the words below i and the one at i
 pub filled : (l : List ℕ) (i : ℕ) → i < length l → ((k : ℕ) → k < i → getD l k 0 ≡ 2779054080 + k)

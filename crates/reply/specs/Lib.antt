@@ -1,4 +1,2 @@
 pub mod Answer
 pub mod Reading
-pub mod Listing
-pub mod Told

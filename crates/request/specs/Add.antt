@@ -1,15 +1,16 @@
 -- The ways out of an addition.
 -- Assumes nothing.
-use Prim.Native.Nat.{ℕ, _+_, _≤_, _<_}
-use mathlib.Core.Path.{_≡_, refl, sym, ap, _∙_}
+use Prim.Native.Nat.{ℕ, _≤_, _<_}
+use mathlib.Core.Path.{_≡_, sym, ap, _∙_}
 use mathlib.Core.Bool.{Bool, true, false, cond, _&&_, and-false}
-use mathlib.Core.List.{List, [], _∷_, append-nil}
+use mathlib.Core.List.{List, [], _∷_}
 use native.Mathlib.Omega.{arith}
 use lib.Dec.{eqb, leb}
-use lib.ListN.{length, drop, drop-of-length-le}
+use lib.ListN.{length}
 use borrow.Author.Tests.{lt-leb, eqb-true}
 use Rattle.lists.specs.Lists.{Row, flat, put}
-use Rattle.lists.specs.All.{test-case}
+use Rattle.lists.specs.Bools.{test-case}
+use Rattle.lists.specs.Put.{put-whole, put-no-rows}
 use Rattle.layout.specs.Route.{fitRoute}
 use Rattle.layout.specs.Request.{nlmFlags, fitAddRoute4}
 use Rattle.layout.specs.Event.{newRoute4}
@@ -22,7 +23,7 @@ use Rattle.definition.specs.Reference.Insert.{listTable, create4, insert4}
 use Rattle.definition.specs.Reference.Addresses.{Outcome}
 use Rattle.definition.specs.Reference.Routes as Routes
 use Rattle.definition.specs.Reference.Routes.{by, tableNamed, formCheck, insertedAs, askedRoute, addRoute4}
-use Rattle.state.specs.Holds.{Holds, Valid}
+use Rattle.state.specs.Holds.{Holds, Valid, Sound}
 use Rattle.state.specs.Change.{tables-at}
 use Rattle.tables.specs.Listed.{tablesOf}
 use Rattle.insert.specs.Plan.{answerOf, rowsAfter, InsertedInto}
@@ -32,7 +33,7 @@ use Rattle.gateway.specs.Rows.{reachedOf}
 use Rattle.gateway.specs.declared.Reached.{Reached}
 use Rattle.gateway.specs.declared.Reached.the-variants as Reached
 use Rattle.gateway.specs.declared.Reached.the-variants.{By}
-use Rattle.request.specs.Done.{doneOf, Requested, Sound, request-refused, request-goes, request-full, no-events, one-event}
+use Rattle.request.specs.Done.{doneOf, Requested, request-refused, request-goes, request-full, one-event}
 use Rattle.request.specs.Check.{checkAll, goesOn, add-goes}
 use Rattle.request.specs.declared.Done as Result
 use Rattle.request.specs.declared.Done.the-variants as Done
@@ -66,10 +67,6 @@ not-full i e f =
     let z : _≡_ {A = ℕ} 0 1 = cc in
     omega arith
 
-and-middle : (a b : Bool) → ((a && false) && b) ≡ false
-and-middle true b = refl
-and-middle false b = refl
-
 -- ---- an insertion, then its table listed
 module _ (new : Row) (t : ℕ) (st : State) {w : List ℕ} (ev : List ℕ) where
   pub added : (d : Insert.Inserted) (i : Inserted) {ev′ : List ℕ} {r : Result.Done} → i ≡ answerOf d → fullOf i ≡ false
@@ -89,7 +86,7 @@ module _ (new : Row) (t : ℕ) (st : State) {w : List ℕ} (ev : List ℕ) where
       rw says (request-goes st ev (create4 t st) [] h row)
   added (Insert.refused m) i {ev′} {r} a n h k =
       let says : r ≡ Done.Refused m = k .answer ∙ ap tellOf a in
-      let row : ev′ ≡ ev = k .events ∙ ap (λ (x : Inserted). put 0 (flat (toldOf new x)) ev) a ∙ sym (no-events ev) in
+      let row : ev′ ≡ ev = k .events ∙ ap (λ (x : Inserted). put 0 (flat (toldOf new x)) ev) a ∙ sym (put-no-rows ev) in
       rw (says, row) (request-refused st ev m (create4 t st) h)
 
   -- no room for the row
@@ -103,7 +100,7 @@ module _ (new : Row) (t : ℕ) (st : State) {w : List ℕ} (ev : List ℕ) where
       let z : _≡_ {A = ℕ} 0 1 = cc in
       absurd (omega arith))
       (λ e.
-      let past : within (sizes (withRoutes rows (create4 t st))) ≡ false = rw e (and-middle (leb (length (st .addresses)) 64) (leb (length (listTable t (st .tables))) 32)) in
+      let past : within (sizes (withRoutes rows (create4 t st))) ≡ false = rw (e, and-false (leb (length (st .addresses)) 64)) in
       request-full st ev (insertedAs new (Insert.put rows told) (create4 t st)) (rw past) (rw e at h))
   row-full Insert.nothing i a n h =
       let g : false ≡ true = sym (ap fullOf a) ∙ n in
@@ -143,13 +140,13 @@ module _ (new : Row) (i : Inserted) (ev : List ℕ) where
   tells-put told e k = record { answer = rw e; events = rw e (k ∙ one-event (newRoute4 new told) ev) }
 
   pub tells-nothing : i ≡ Nothing → Tells new i ev ev (Done.Rows 0)
-  tells-nothing e = record { answer = rw e; events = rw e (no-events ev) }
+  tells-nothing e = record { answer = rw e; events = rw e (put-no-rows ev) }
 
   pub tells-refused : (n : ℕ) → i ≡ Refused n → Tells new i ev ev (Done.Refused n)
-  tells-refused n e = record { answer = rw e; events = rw e (no-events ev) }
+  tells-refused n e = record { answer = rw e; events = rw e (put-no-rows ev) }
 
   pub tells-full : i ≡ Full → Tells new i ev ev Done.Full
-  tells-full e = record { answer = rw e; events = rw e (no-events ev) }
+  tells-full e = record { answer = rw e; events = rw e (put-no-rows ev) }
 
 -- ---- what the calls require
 pub check-formed : (q : Row) (made : State) (linked : Bool) → by linked ≡ checkAll q made → formCheck q ≡ 0
@@ -164,16 +161,11 @@ check-formed q made linked e =
 pub asked-fits : (q : Row) (made : State) (linked : Bool) → by linked ≡ checkAll q made → length q ≡ 34 → fitAddRoute4 q ≡ true → fitRoute (askedRoute q linked) ≡ true
 asked-fits q made linked e long fit = askedRoute-fit q linked long fit (check-formed q made linked e)
 
--- a row put over all of an array is what it holds
-pub put-all : (vs l : List ℕ) → length vs ≡ length l → put 0 vs l ≡ vs
-unfolding put
-put-all vs l e = rw (drop-of-length-le l {i = 0 + length vs} (omega arith)) (append-nil vs)
-
 pub room-kept : {w x : List ℕ} {st : State} (t : ℕ) (rows : List Row) → Holds w st → Holds x (withRoutes rows st) → length (listTable t (tablesOf w)) ≤ 32 → length (listTable t (tablesOf x)) ≤ 32
 room-kept t rows h k room = rw (tables-at k) (rw (tables-at h) at room)
 
 pub asked-new : (x r init : List ℕ) → x ≡ put 0 r init → fitRoute r ≡ true → length init ≡ 32 → x ≡ r
-asked-new x r init e f long = e ∙ put-all r init (length-route r f ∙ sym long)
+asked-new x r init e f long = e ∙ put-whole r init (length-route r f ∙ sym long)
 
 pub by-checked : (x : Reached) (linked : Bool) → x ≡ By linked → (r : Routes.Reached) → reachedOf x ≡ r → by linked ≡ r
 by-checked x linked e r h = sym (ap reachedOf e) ∙ h

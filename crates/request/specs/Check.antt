@@ -2,12 +2,13 @@
 -- Assumes nothing.
 use Prim.Native.Nat.{ℕ, _<_}
 use mathlib.Core.Path.{_≡_, refl, sym, ap, _∙_}
-use mathlib.Core.Bool.{Bool, true, false, cond, not, _&&_, _||_, or-assoc}
-use mathlib.Core.List.{List, [], _∷_, _++_}
+use mathlib.Core.Bool.{Bool, true, false, cond, not, _&&_, _||_, or-false, and-false}
+use mathlib.Core.List.{List}
 use lib.Dec.{eqb}
 use borrow.Author.Tests.{eq-eqb, ne-eqb, eqb-true, ltb-true}
 use Rattle.lists.specs.Lists.{Row, among, any}
-use Rattle.lists.specs.All.{test-case, and-iff}
+use Rattle.lists.specs.Bools.{test-case, and-iff}
+use Rattle.lists.specs.Split.{among-more}
 use Rattle.layout.specs.Route.{prefsrcPresent, scope}
 use Rattle.layout.specs.Request.{nlmFlags, fitAddRoute4}
 use Rattle.definition.specs.State.{State}
@@ -50,27 +51,11 @@ add-goes q st =
     test-case (eqb (formCheck q) 0) (λ e. rw e (routed-goes q (reachCheck q made) made)) (λ e. rw e)
 
 -- ---- what is listed once a table is
-among-end : (u t : ℕ) (l : List ℕ) → among u (l ++ (t ∷ [])) ≡ (among u l || eqb u t)
-among-end u t [] = or-false (eqb u t)
-  where
-    or-false : (b : Bool) → (b || false) ≡ b
-    or-false true = refl
-    or-false false = refl
-among-end u t (x ∷ l) = ap (λ (b : Bool). eqb u x || b) (among-end u t l) ∙ sym (or-assoc (eqb u x) (among u l) (eqb u t))
-
-or-true : (b : Bool) → (b || true) ≡ true
-or-true true = refl
-or-true false = refl
-
-or-none : (b : Bool) → (b || false) ≡ b
-or-none true = refl
-or-none false = refl
-
 among-add : (u t : ℕ) (l : List ℕ) → among u (addTable t l) ≡ (among u l || eqb u t)
 among-add u t l =
     test-case (among t l)
     (λ e. rw e (there e))
-    (λ e. rw e (among-end u t l))
+    (λ e. rw e (among-more u t l))
   where
     there : among t l ≡ true → among u l ≡ (among u l || eqb u t)
     there e =
@@ -79,7 +64,7 @@ among-add u t l =
         let same : u ≡ t = eqb-true u t f in
         let on : among u l ≡ true = ap (λ (n : ℕ). among n l) same ∙ e in
         rw on)
-        (λ f. rw f (sym (or-none (among u l))))
+        (λ f. rw f (sym (or-false (among u l))))
 
 -- 254 comes along with 255, so it is another that is asked for
 pub listed-made : (u t : ℕ) (st : State) → (eqb t localTable && eqb u mainTable) ≡ false → listed u (create4 t st) ≡ (listed u st || eqb u t)
@@ -88,7 +73,7 @@ listed-made u t st other =
     test-case (eqb t localTable)
     (λ e.
     let apart : eqb u mainTable ≡ false = rw e at other in
-    let same : (among u (st .tables) || eqb u mainTable) ≡ among u (st .tables) = rw apart (or-none (among u (st .tables))) in
+    let same : (among u (st .tables) || eqb u mainTable) ≡ among u (st .tables) = rw apart (or-false (among u (st .tables))) in
     rw e (among-add u t (addTable mainTable (st .tables)) ∙ ap (λ (b : Bool). b || eqb u t) (among-add u mainTable (st .tables) ∙ same)))
     (λ e. rw e (among-add u t (st .tables)))
 
@@ -101,10 +86,6 @@ pub own-listed : {w : List ℕ} {st : State} → Holds w st → (u t : ℕ) (b :
 own-listed {w} {st} h u t b e f = or-listed h u t b f ∙ ap (λ (x : ℕ). listed x st || eqb x t) e
 
 -- ---- the checks over the rows
-and-off : (b : Bool) → (b && false) ≡ false
-and-off true = refl
-and-off false = refl
-
 pub scope-fits : (q : Row) → fitAddRoute4 q ≡ true → scope q < 256
 unfolding fitAddRoute4
 scope-fits q h = ltb-true (scope q) 256 ((simp and-iff at h) .0 .0 .0 .0 .0 .1)
@@ -113,16 +94,16 @@ scope-fits q h = ltb-true (scope q) 256 ((simp and-iff at h) .0 .0 .0 .0 .0 .1)
 own-other : (t : ℕ) → (eqb t localTable && eqb (prefsrcTable t) mainTable) ≡ false
 own-other t =
     test-case (eqb t mainTable)
-    (λ e. rw e (and-off (eqb t localTable)))
-    (λ e. rw (e, e) (and-off (eqb t localTable)))
+    (λ e. rw e (and-false (eqb t localTable)))
+    (λ e. rw (e, e) (and-false (eqb t localTable)))
 
 module _ (q : Row) (st : State) (t : ℕ) (named : t ≡ tableNamed q) where
   made-reach : (a b : Bool) → a ≡ (listed localTable st || eqb localTable t) → b ≡ (listed defaultTable st || eqb defaultTable t)
       → reachCheck q (create4 (tableNamed q) st) ≡ reachRows q a b (st .routes)
   unfolding create4
   made-reach a b e f =
-      let local : listed localTable (create4 t st) ≡ a = listed-made localTable t st (and-off (eqb t localTable)) ∙ sym e in
-      let default : listed defaultTable (create4 t st) ≡ b = listed-made defaultTable t st (and-off (eqb t localTable)) ∙ sym f in
+      let local : listed localTable (create4 t st) ≡ a = listed-made localTable t st (and-false (eqb t localTable)) ∙ sym e in
+      let default : listed defaultTable (create4 t st) ≡ b = listed-made defaultTable t st (and-false (eqb t localTable)) ∙ sym f in
       rw (← named) (reach-rows q (create4 t st) ∙ rw (local, default))
 
   made-prefsrc : (o a : Bool) → o ≡ (listed (prefsrcTable t) st || eqb (prefsrcTable t) t) → a ≡ (listed localTable st || eqb localTable t)
@@ -130,7 +111,7 @@ module _ (q : Row) (st : State) (t : ℕ) (named : t ≡ tableNamed q) where
   unfolding create4
   made-prefsrc o a e f =
       let own : listed (prefsrcTable t) (create4 t st) ≡ o = listed-made (prefsrcTable t) t st (own-other t) ∙ sym e in
-      let local : listed localTable (create4 t st) ≡ a = listed-made localTable t st (and-off (eqb t localTable)) ∙ sym f in
+      let local : listed localTable (create4 t st) ≡ a = listed-made localTable t st (and-false (eqb t localTable)) ∙ sym f in
       rw (← named) (prefsrc-rows q (create4 t st) ∙ rw (← named, own, local))
 
   -- ---- a preferred source

@@ -3,15 +3,16 @@
 use Prim.Native.Nat.{ℕ, _≤_}
 use mathlib.Core.Path.{_≡_, refl, sym, ap, _∙_}
 use mathlib.Core.Bool.{Bool, true, false, cond}
-use mathlib.Core.List.{List, [], _∷_, append-nil}
+use mathlib.Core.List.{List, [], _∷_}
 use native.Mathlib.Omega.{arith}
 use lib.ListN.{length}
 use Rattle.lists.specs.Lists.{Row, flat, put}
-use Rattle.lists.specs.Put.{put-none}
+use Rattle.lists.specs.Put.{put-no-rows}
+use Rattle.lists.specs.At.{flat-one}
 use Rattle.definition.specs.State.{State, Out, sizes, becomes}
-use Rattle.definition.specs.Words.{within, fitState}
+use Rattle.definition.specs.Words.{within}
 use Rattle.definition.specs.Reference.Addresses.{Outcome, goes, refused}
-use Rattle.state.specs.Holds.{Holds, Valid}
+use Rattle.state.specs.Holds.{Holds}
 use Rattle.steps.specs.Adds.{holds-within}
 use Rattle.request.specs.declared.Done.{Done}
 use Rattle.request.specs.declared.Done.the-variants.{Rows, Refused, Full}
@@ -33,29 +34,15 @@ pub record Requested (o : Outcome) (st : State) (w ev₀ ev : List ℕ) (r : Don
   pub holds : Holds w (stateAfter o st)
   pub events : ev ≡ put 0 (flat (toldBy o)) ev₀
 
--- words that hold a fit state
-pub record Sound (w : List ℕ) : Type 0 where
-  pub state : State
-  pub holding : Holds w state
-  pub fits : fitState state ≡ true
-
-pub sound-valid : {w : List ℕ} → Sound w → Valid w
-sound-valid s = record { state = s .state; holds = s .holding }
-
 -- ---- the ways out
-pub no-events : (ev : List ℕ) → ev ≡ put 0 (flat []) ev
-unfolding flat
-no-events ev = put-none 0 ev
-
 pub one-event : (r : Row) (ev : List ℕ) → put 0 r ev ≡ put 0 (flat (r ∷ [])) ev
-unfolding flat
-one-event r ev = ap (λ (x : List ℕ). put 0 x ev) (sym (append-nil r))
+one-event r ev = ap (λ (x : List ℕ). put 0 x ev) (sym (flat-one r))
 
 module _ (st : State) {w : List ℕ} (ev : List ℕ) where
   pub request-refused : (n : ℕ) (later : State) → Holds w later → Requested (refused n later) st w ev ev (Refused n)
   request-refused n later h =
       let e : within (sizes later) ≡ true = holds-within h in
-      record { answer = rw e; holds = rw e h; events = no-events ev }
+      record { answer = rw e; holds = rw e h; events = put-no-rows ev }
 
   pub request-told : {ev′ : List ℕ} (later : State) (r : Row) → Holds w later → ev′ ≡ put 0 r ev → Requested (goes (becomes later (r ∷ []))) st w ev ev′ (Rows 1)
   request-told later r h k =
@@ -75,7 +62,7 @@ module _ (st : State) {w : List ℕ} (ev : List ℕ) where
         where
           rows-full : (n : ℕ) → Rows n ≡ Full → ⊥
           rows-full n q = let z : _≡_ {A = ℕ} 0 1 = cc in omega arith
-      go false f = record { answer = sym e; holds = rw f h; events = rw f (no-events ev) }
+      go false f = record { answer = sym e; holds = rw f h; events = rw f (put-no-rows ev) }
   request-full (refused n later) e h = go (within (sizes later)) refl
     where
       go : (b : Bool) → within (sizes later) ≡ b → Requested (refused n later) st w ev ev Full
@@ -83,4 +70,4 @@ module _ (st : State) {w : List ℕ} (ev : List ℕ) where
         where
           refused-full : Refused n ≡ Full → ⊥
           refused-full q = let z : _≡_ {A = ℕ} 0 1 = cc in omega arith
-      go false f = record { answer = sym e; holds = rw f h; events = no-events ev }
+      go false f = record { answer = sym e; holds = rw f h; events = put-no-rows ev }

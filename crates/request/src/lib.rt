@@ -11,13 +11,13 @@ ghost use Rattle.definition.specs.State.{State};
 ghost use Rattle.definition.specs.Reference.Routes.{by, tableNamed, insertedAs, askedRoute, addRoute4, delRoute4Request};
 ghost use Rattle.definition.specs.Reference.Lookup.{listed};
 ghost use Rattle.definition.specs.Reference.Insert.{listTable, create4, insert4};
-ghost use Rattle.state.specs.Holds.{Holds, Valid};
+ghost use Rattle.state.specs.Holds.{Holds, Valid, Sound};
 ghost use Rattle.lists.specs.Lists.{among};
 ghost use Rattle.tables.specs.Listed.{tablesOf};
 ghost use Rattle.gateway.specs.Rows.{reachedOf};
 ghost use Rattle.layout.specs.Route.{fitRoute};
 ghost use Rattle.definition.specs.Words.{fitState};
-ghost use Rattle.request.specs.Done.{Requested, Sound};
+ghost use Rattle.request.specs.Done.{Requested};
 ghost use Rattle.request.specs.Add.{fullOf, Tells};
 ghost use Rattle.request.specs.Check.{prefsrcCheck, checkAll};
 

@@ -2,9 +2,9 @@
 -- Assumes nothing.
 use Prim.Native.Nat.{ℕ, zero, suc, _+_, _-_, _*_, _≤_, _<_}
 use mathlib.Core.Path.{_≡_, refl, sym, ap, _∙_}
-use mathlib.Core.Bool.{Bool, true, false, cond, not, _&&_}
+use mathlib.Core.Bool.{Bool, true, false, cond, not, _&&_, and-true, Bool·not-not}
 use mathlib.Core.List.{List, [], _∷_, _++_, append-nil}
-use native.Mathlib.Nat.{mul-zero, mul-suc, mul-le-mul-left}
+use native.Mathlib.Nat.{mul-suc, mul-le-mul-left}
 use native.Mathlib.Numerals.{add-one}
 use native.Mathlib.Omega.{arith}
 use lib.Dec.{eqb}
@@ -13,11 +13,12 @@ use lib.Seq.{drop-at, drop-drop}
 use borrow.Author.Tests.{eq-eqb, ne-eqb}
 use Rattle.lists.specs.Lists.{Row, all, keep, flat, span, put, chop, zeros, pad}
 use Rattle.lists.specs.All.{all-keep}
-use Rattle.lists.specs.Keep.{keep-append}
-use Rattle.lists.specs.Count.{length-keep, count-most}
+use Rattle.lists.specs.Keep.{keep-append, keep-same}
+use Rattle.lists.specs.Count.{length-keep-most}
 use Rattle.lists.specs.Rows.{length-flat, length-chop, sized-chop, chop-pad, length-zeros, length-span}
 use Rattle.lists.specs.Put.{cut, put-behind, put-none, span-put-behind}
 use Rattle.lists.specs.At.{flat-append, flat-cons}
+use Rattle.lists.specs.Chop.{chop-more}
 use Rattle.layout.specs.Route.{device, scope}
 use Rattle.definition.specs.State.{State, withRoutes}
 use Rattle.definition.specs.Words.{routeCount}
@@ -31,18 +32,6 @@ unfoldable pub remains : Bool → Row → Bool
 remains host r = not (eqb (device r) 1 && not (host && eqb (scope r) 254))
 
 -- ---- one row more
-pub chop-more : (k i : ℕ) (l : List ℕ) → chop k (suc i) l ≡ chop k i l ++ (span (k * i) k l ∷ [])
-unfolding chop span
-chop-more k zero l = ap (λ (n : ℕ). take k (drop n l) ∷ []) (sym (mul-zero k))
-chop-more k (suc i) l =
-    let on : k + k * i ≡ k * suc i = rw mul-suc (omega arith) in
-    ap (λ (x : List Row). take k l ∷ x)
-    (chop-more k i (drop k l)
-    ∙ ap (λ (x : List ℕ). chop k i (drop k l) ++ (take k x ∷ [])) (drop-drop (k * i) k l ∙ ap (λ (n : ℕ). drop n l) on))
-
-pub keep-le : (p : Row → Bool) (l : List Row) → length (keep p l) ≤ length l
-keep-le p l = omega (arith, length-keep p l, count-most p l)
-
 -- ---- rows of k words from base on, of which the first i have been looked at
 abbrev pub rowsOf : ℕ → ℕ → List ℕ → ℕ → List Row
 rowsOf base k w i = chop k i (drop base w)
@@ -70,7 +59,7 @@ module _ (p : Row → Bool) (base k : ℕ) (w : List ℕ) (i : ℕ) (h : base + 
       length-flat k kept (all-keep (λ r. eqb (length r) k) p (rowsOf base k w i) (sized-chop k i (drop base w) (rw length-drop (omega arith))))
 
   few : length kept ≤ i
-  few = rw (length-chop k i (drop base w)) at (keep-le p (rowsOf base k w i))
+  few = rw (length-chop k i (drop base w)) at (length-keep-most p (rowsOf base k w i))
 
   room : k * length kept ≤ k * i
   room = mul-le-mul-left k few
@@ -117,7 +106,7 @@ pub retained : {w : List ℕ} {st : State} (p : Row → Bool) → Holds w st
 retained {w} {st} p h =
     let rows = keep p (st .routes) in
     let n = length (st .routes) - length rows in
-    let some : length rows ≤ length (st .routes) = keep-le p (st .routes) in
+    let some : length rows ≤ length (st .routes) = length-keep-most p (st .routes) in
     let long : length (flat rows) ≡ 32 * length rows = length-flat 32 rows (all-keep (λ r. eqb (length r) 32) p (st .routes) (sizedR h)) in
     let all : length w ≡ 9507 = holds-long h in
     let within : length (st .routes) ≤ 256 = h .routesWithin in
@@ -132,16 +121,7 @@ off-device host r h = sym (rw (ne-eqb (device r) 1 h))
 
 pub on-device : (host : Bool) (r : Row) → device r ≡ 1 → remains host r ≡ host && eqb (scope r) 254
 unfolding remains
-on-device host r h = rw (eq-eqb (device r) 1 h) (twice (host && eqb (scope r) 254))
-  where
-    twice : (b : Bool) → not (not b) ≡ b
-    twice true = refl
-    twice false = refl
-
--- the same rows remain under tests that agree
-pub keep-same : (p q : Row → Bool) (l : List Row) → ((r : Row) → p r ≡ q r) → keep p l ≡ keep q l
-keep-same p q [] h = refl
-keep-same p q (r ∷ l) h = rw (h r, keep-same p q l h)
+on-device host r h = rw (eq-eqb (device r) 1 h) (Bool·not-not (host && eqb (scope r) 254))
 
 pub is-down : (st : State) → withRoutes (keep (remains true) (st .routes)) st ≡ (down st) .state
 unfolding down remains
@@ -151,12 +131,8 @@ pub is-disable : (st : State) → length (st .addresses) ≡ 0 → withRoutes (k
 unfolding disable
 is-disable st e = rw (eq-eqb (length (st .addresses)) 0 e) (ap (λ (l : List Row). withRoutes l st) (keep-same (remains false) (λ r. not (eqb (device r) 1)) (st .routes) same))
   where
-    none : (b : Bool) → not (b && true) ≡ not b
-    none true = refl
-    none false = refl
-
     same : (r : Row) → remains false r ≡ not (eqb (device r) 1)
-    same r = unfold remains in none (eqb (device r) 1)
+    same r = unfold remains in ap not (and-true (eqb (device r) 1))
 
 pub no-disable : (st : State) → (length (st .addresses) ≡ 0 → ⊥) → st ≡ (disable st) .state
 unfolding disable
@@ -209,7 +185,7 @@ keeping-start p w h = record { whole = h; count = refl; words = put-none 1283 w;
 
 module _ {p : Row → Bool} {w : List ℕ} {i j : ℕ} {s : List ℕ} (k : Keeping p w i j s) where
   pub keeping-few : j ≤ i
-  keeping-few = omega (arith, k .count, length-chop 32 i (drop 1283 w), keep-le p (rowsOf 1283 32 w i))
+  keeping-few = omega (arith, k .count, length-chop 32 i (drop 1283 w), length-keep-most p (rowsOf 1283 32 w i))
 
   -- row i still stands
   pub keeping-row : i < 256 → span (1283 + 32 * i) 32 s ≡ span (1283 + 32 * i) 32 w

@@ -6,7 +6,7 @@ use mathlib.Core.Path.{_≡_, refl, sym, ap, _∙_}
 use mathlib.Core.List.{List, [], _∷_}
 use lib.ListN.{length, getD}
 use Rattle.lists.specs.Lists.{Row, put}
-use Rattle.life.specs.Life.{lowWord, highWord, seconds, nanoseconds, lifeSet}
+use Rattle.life.specs.Life.{lowWord, highWord, storedSeconds, seconds, nanoseconds, lifeSet}
 use Rattle.life.specs.declared.Life.{Life}
 use Rattle.life.specs.declared.Lifetimes.{Lifetimes}
 use Rattle.life.specs.Laws.{clock-words}
@@ -15,7 +15,6 @@ use Rattle.layout.specs.Address as Address
 use Rattle.layout.specs.Address.{flags, secondaryBit, deprecatedBit}
 use Rattle.layout.specs.Request.{validAsked, preferredAsked}
 use Rattle.address.specs.V4.{lifeOf}
-use Rattle.definition.specs.Reference.Addresses as Addresses
 use Rattle.definition.specs.Reference.Addresses.{lifeFlags, rewritten, setLife, asked, asSecondary, changedTo}
 use Rattle.definition.specs.Reference.Removal.{faded}
 
@@ -60,7 +59,7 @@ asked-row q clock p f l d e g = rw (g, e, d)
 
 -- and of a change
 change-row : (q old : Row) (clock : ℕ) → 6 ≤ length old
-    → changedTo q old clock ≡ rewritten old (lifeFlags (validAsked q) (preferredAsked q) (flags old)) (Address.proto q) (Address.priority q) (Addresses.seconds (validAsked q) (Address.valid old)) (Addresses.seconds (preferredAsked q) (Address.preferred old)) (Address.created old) clock
+    → changedTo q old clock ≡ rewritten old (lifeFlags (validAsked q) (preferredAsked q) (flags old)) (Address.proto q) (Address.priority q) (storedSeconds (validAsked q) (Address.valid old)) (storedSeconds (preferredAsked q) (Address.preferred old)) (Address.created old) clock
 unfolding changedTo setLife rewritten
 change-row q (u ∷ v ∷ w ∷ x ∷ y ∷ z ∷ l) clock n = rw (clock-words (Address.created (u ∷ v ∷ w ∷ x ∷ y ∷ z ∷ l)))
 change-row q [] clock n = absurd (omega arith)

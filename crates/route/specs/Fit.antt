@@ -1,17 +1,17 @@
 -- The tests of a row whose length and prefix are known to be right.
 -- Assumes nothing.
-use Prim.Native.Nat.{ℕ, zero, suc, _+_, _-_, _*_, _/_, _%_, _^_, _≤_}
+use Prim.Native.Nat.{ℕ, _+_, _-_, _*_, _/_, _%_, _^_, _≤_}
 use mathlib.Core.Path.{_≡_, refl, sym, ap, _∙_}
-use mathlib.Core.Bool.{Bool, true, false, _&&_, _||_}
+use mathlib.Core.Bool.{Bool, true, false, _&&_}
 use native.Mathlib.Nat.{add-zero, zero-div, zero-mul, mul-mod-left}
 use native.Mathlib.Omega.{arith}
 use lib.Bits.{bitAnd, and-mask}
 use lib.Dec.{eqb, leb, ltb}
 use lib.ListN.{length}
 use lib.Pow.{shl-shr, mod-mod-pow, mod-pow-add}
-use borrow.Author.Tests.{eq-eqb, ne-eqb, le-leb, lt-leb, eqb-true, eqb-false}
+use borrow.Author.Tests.{eq-eqb, ne-eqb, le-leb, eqb-true, eqb-false}
 use Rattle.lists.specs.Lists.{Row}
-use Rattle.lists.specs.All.{test-case}
+use Rattle.lists.specs.Bools.{test-case}
 use Rattle.prefix.specs.Mask.{hostBits}
 use Rattle.kind.specs.Kind.{isKind}
 use Rattle.layout.specs.Address.{optional}
@@ -34,12 +34,6 @@ host-shifted a p h =
     ∙ test-case (eqb (hostBits a p) 0)
     (λ e. eq-eqb (hostBits a p * 2 ^ p) 0 (ap (λ (x : ℕ). x * 2 ^ p) (eqb-true (hostBits a p) 0 e) ∙ zero-mul (2 ^ p)) ∙ sym e)
     (λ e. ne-eqb (hostBits a p * 2 ^ p) 0 (λ q. eqb-false (hostBits a p) 0 e (sym (shl-shr (hostBits a p) p) ∙ ap (λ (x : ℕ). x / 2 ^ p) q ∙ zero-div (2 ^ p))) ∙ sym e)
-
--- a mark of 0 and its value are tested together
-pub mark-tests : (m v : ℕ) → (eqb m 1 || (eqb m 0 && eqb v 0)) ≡ optional m v
-mark-tests zero v = refl
-mark-tests (suc zero) v = refl
-mark-tests (suc (suc m)) v = rw (ne-eqb (suc (suc m)) 1 (λ q. omega arith), ne-eqb (suc (suc m)) 0 (λ q. omega arith), lt-leb (suc (suc m)) 1 (omega arith))
 
 -- the tests in the code's order
 pub fit-tests : (r : Row) {host known source via : Bool} → length r ≡ 32 → len r ≤ 32 → host ≡ eqb (hostBits (dst r) (len r)) 0 → known ≡ isKind (kind r)

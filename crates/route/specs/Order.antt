@@ -1,7 +1,7 @@
 -- The order of routes, the destinations asked first.
 -- Assumes nothing.
-use mathlib.Core.Path.{_≡_, refl, sym}
-use mathlib.Core.Bool.{Bool, true, false, _&&_, _||_}
+use mathlib.Core.Path.{_≡_, sym}
+use mathlib.Core.Bool.{_&&_, _||_, or-false}
 use native.Mathlib.Omega.{arith}
 use lib.Dec.{eqb, ltb}
 use borrow.Author.Tests.{eq-eqb, ne-eqb, le-ltb}
@@ -11,11 +11,7 @@ use Rattle.layout.specs.Route.{before, dst, len, table, tos, priority}
 module _ (a b : Row) where
   pub before-other : (dst a ≡ dst b → ⊥) → ltb (dst a) (dst b) ≡ before a b
   unfolding before
-  before-other h = rw (ne-eqb (dst a) (dst b) h) (alone (ltb (dst a) (dst b)))
-    where
-      alone : (t : Bool) → t ≡ t || false
-      alone true = refl
-      alone false = refl
+  before-other h = rw (ne-eqb (dst a) (dst b) h) (sym (or-false (ltb (dst a) (dst b))))
 
   pub before-same : dst a ≡ dst b
       → (ltb (len b) (len a)

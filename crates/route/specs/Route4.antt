@@ -11,7 +11,7 @@ use borrow.Author.Tests.{eqb-true, eqb-false, leb-true}
 use Rattle.lists.specs.Lists.{Row, put}
 use Rattle.lists.specs.Put.{put-behind, put-whole}
 use Rattle.lists.specs.Rows.{length-put}
-use Rattle.lists.specs.All.{test-case, and-iff, true-false}
+use Rattle.lists.specs.Bools.{test-case, and-iff, true-false}
 use Rattle.kind.specs.declared.Kind.{Kind}
 use Rattle.kind.specs.declared.Kind.the-variants.{Unicast}
 use Rattle.kind.specs.declared.FoundKind.{FoundKind}

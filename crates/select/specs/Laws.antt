@@ -1,4 +1,4 @@
--- What the code's tests of a row come to, and the search for the first that is named.
+-- What the code's tests of a row come to.
 -- Assumes nothing.
 use Prim.Native.Nat.{ℕ, _+_, _*_, _≤_, _<_}
 use mathlib.Core.Path.{_≡_, sym, ap, ap₂, _∙_}
@@ -6,19 +6,16 @@ use mathlib.Core.Bool.{Bool, true, false, _&&_, _||_, and-assoc}
 use mathlib.Core.List.{List, []}
 use native.Mathlib.Omega.{arith}
 use lib.Dec.{eqb, leb, lit<}
-use lib.ListN.{length, getD, take, drop, drop-of-length-le}
+use lib.ListN.{length, getD, take, drop}
 use borrow.Author.Tests.{leb-true}
 use Rattle.lists.specs.Lists.{Row, all, chop}
-use Rattle.lists.specs.All.{and-iff}
+use Rattle.lists.specs.Bools.{and-iff}
 use Rattle.lists.specs.At.{all-at}
 use Rattle.lists.specs.Rows.{length-chop}
 use Rattle.lists.specs.Chop.{chopFrom, chop-start, chop-at, pass-all, pass-all-end, chop-word-from}
-use Rattle.lists.specs.Laid.{Laid, Lays, laid-part, laid-width}
-use Rattle.lists.specs.Place.{placeOf, place-here, place-past}
-use Rattle.layout.specs.Route.{fitRoute, table, dst, len, tos, priority, kind, proto, scope, prefsrcPresent, prefsrc, gatewayPresent, gateway, device}
+use Rattle.layout.specs.Route.{table, dst, len, tos, priority, kind, proto, scope, prefsrcPresent, prefsrc, gatewayPresent, gateway, device}
 use Rattle.layout.specs.Request.{oif, listPresent, pairCount, pairIndex, pairValue, fitPairs, fitDelRoute4}
 use Rattle.definition.specs.Reference.Routes.{selects, hasMetrics, tableNamed}
-use Rattle.lookup.specs.Pass.{part, laid-count}
 
 abbrev pub samePlace : Row → ℕ → Row → Bool
 samePlace q t r =
@@ -88,26 +85,3 @@ module _ (q : Row) (n : ℕ) where
 
     pub has-end : (b : Bool) (i : ℕ) → n ≤ i → (b && hasFrom q r n i) ≡ b
     has-end b i h = pass-all-end 2 n (drop 15 q) (hasPair r) b i h
-
--- ---- the search
-module _ (w : List ℕ) (n : ℕ) (long : length w ≡ 32 * n) where
-  pub part-long : (i : ℕ) → i < n → Lays 32 fitRoute w → length (part w i) ≡ 32
-  part-long i b y =
-      let b′ : i < length (y .list) = omega (arith, laid-count w n long (y .list) (y .laid)) in
-      rw (laid-part (y .laid) i b′) (laid-width (y .laid) i b′)
-
-  module _ (p : Row → Bool) (l : List Row) (h : Laid 32 fitRoute w l) (i : ℕ) where
-    pub search-here : i < n → placeOf p l ≡ i + placeOf p (drop i l) → true ≡ p (part w i) → i ≡ placeOf p l
-    search-here b e f =
-        let b′ : i < length l = omega (arith, laid-count w n long l h) in
-        omega (arith, place-here p l i [] b′ (ap p (sym (laid-part h i b′)) ∙ sym f))
-
-    pub search-past : i < n → placeOf p l ≡ i + placeOf p (drop i l) → false ≡ p (part w i) → placeOf p l ≡ i + 1 + placeOf p (drop (i + 1) l)
-    search-past b e f =
-        let b′ : i < length l = omega (arith, laid-count w n long l h) in
-        omega (arith, place-past p l i [] b′ (ap p (sym (laid-part h i b′)) ∙ sym f))
-
-    pub search-end : n ≤ i → i ≤ n → placeOf p l ≡ i + placeOf p (drop i l) → n ≡ placeOf p l
-    search-end b c e =
-        let none : placeOf p (drop i l) ≡ 0 = ap (placeOf p) (drop-of-length-le l {i = i} (omega (arith, laid-count w n long l h))) in
-        omega arith

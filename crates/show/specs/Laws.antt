@@ -10,7 +10,7 @@ use lib.ListN.{length, take, drop}
 use lib.Seq.{take-at, length-take-le}
 use borrow.Author.Tests.{eq-eqb, ne-eqb}
 use Rattle.lists.specs.Lists.{Row, flat, put, chop}
-use Rattle.lists.specs.All.{cond-true, cond-false}
+use Rattle.lists.specs.Bools.{cond-true, cond-false}
 use Rattle.lists.specs.Rows.{sized, length-flat, length-put, chop-flat}
 use Rattle.definition.specs.Words.{decode, wellFormed}
 use Rattle.definition.specs.Reference.Source.{dump4}

@@ -9,12 +9,12 @@ use lib.Dec.{eqb}
 use lib.ListN.{length, getD, take, drop, length-take, length-drop}
 use borrow.Author.Tests.{eq-eqb, ne-eqb}
 use Rattle.lists.specs.Lists.{Row}
-use Rattle.lists.specs.All.{test-case}
+use Rattle.lists.specs.Bools.{test-case}
 use Rattle.lists.specs.Laid.{Laid, laid-length, laid-part}
 use Rattle.layout.specs.Route.{kind, prefsrcPresent, prefsrc, gatewayPresent, gateway, scope, fitRoute}
 use Rattle.definition.specs.Reference.Lookup.{Found, flowTo, localKind}
 use Rattle.definition.specs.Reference.Source.{select4, source4, sourceFor, orValue}
-use Rattle.lookup.specs.Answer.{foundBy, lookupRows, placed}
+use Rattle.lookup.specs.Answer.{foundBy, lookupRows}
 use Rattle.lookup.specs.declared.Looked.{Looked}
 use Rattle.lookup.specs.declared.Looked.the-variants.{At, Refused}
 use Rattle.source.specs.declared.Selected.{Selected}
@@ -66,10 +66,6 @@ module _ (w : List ℕ) (n : ℕ) (long : length w ≡ 32 * n) (b : Bool) (l k :
   source-refused m q =
       let answer : lookupRows b k (flowTo ip) ≡ Found.refused m = sym e ∙ ap (foundBy k) q in
       rw answer
-
--- a place that is answered is one of the rows
-pub place-within : (n : ℕ) (found : Looked) (i : ℕ) → found ≡ At i → placed n found → i < n
-place-within n found i e p = rw e at p
 
 -- the row there has 32 words
 pub width-at : (w : List ℕ) (n : ℕ) → length w ≡ 32 * n → (i : ℕ) → i < n → length (routeAt w i) ≡ 32

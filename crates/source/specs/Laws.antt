@@ -2,13 +2,12 @@
 use Prim.Native.Nat.{ℕ, min}
 use native.Mathlib.Omega.{arith}
 use mathlib.Core.Path.{_≡_, refl, sym, ap, ap₂, _∙_}
-use mathlib.Core.Bool.{Bool, true, false, not, _&&_, _||_}
+use mathlib.Core.Bool.{Bool, true, false, not, _&&_, _||_, Bool·not-not}
 use lib.Bits.{bitAnd}
 use lib.Dec.{eqb, leb}
 use borrow.Author.Tests.{leb-true, leb-false, le-leb, lt-leb}
 use Rattle.lists.specs.Lists.{Row}
-use Rattle.lists.specs.All.{test-case}
-use Rattle.lists.specs.Keep.{not-not}
+use Rattle.lists.specs.Bools.{test-case}
 use Rattle.prefix.specs.Mask.{network}
 use Rattle.layout.specs.Address.{address, prefix, scope, flags, secondary}
 use Rattle.layout.specs.Bits.{has-and}
@@ -29,7 +28,7 @@ least-within x y s =
 pub eligible-test : (s : ℕ) (a : Row) → (eqb (bitAnd (flags a) 1) 0 && (leb (scope a) s || leb hostScope s)) ≡ eligible s a
 unfolding eligible
 eligible-test s a =
-    let primary : eqb (bitAnd (flags a) 1) 0 ≡ not (secondary a) = sym (not-not (eqb (bitAnd (flags a) 1) 0)) ∙ ap not (has-and 0 (flags a)) in
+    let primary : eqb (bitAnd (flags a) 1) 0 ≡ not (secondary a) = sym (Bool·not-not (eqb (bitAnd (flags a) 1) 0)) ∙ ap not (has-and 0 (flags a)) in
     ap₂ (λ (p q : Bool). p && q) primary (least-within (scope a) hostScope s)
 
 pub reaches-test : (b near : Bool) (dst : ℕ) (a : Row) → near ≡ eqb (network dst (prefix a)) (network (address a) (prefix a))

@@ -8,12 +8,12 @@ use native.Mathlib.Omega.{arith}
 use lib.ListN.{length, getD, length-append}
 use borrow.Author.Tests.{leb-true}
 use Rattle.lists.specs.Lists.{all, flat, pad}
-use Rattle.lists.specs.All.{and-iff}
+use Rattle.lists.specs.Bools.{and-iff}
 use Rattle.lists.specs.Rows.{sized, length-pad, length-flat}
 use Rattle.layout.specs.Address.{fitAddress}
 use Rattle.layout.specs.Route.{fitRoute}
 use Rattle.definition.specs.State.{State}
-use Rattle.definition.specs.Words.{encode, decode, wellFormed, addressCount, routeCount, tableCount}
+use Rattle.definition.specs.Words.{encode, decode, wellFormed, addressCount, routeCount, tableCount, fitState}
 use Rattle.definition.specs.Kept.Fit.{fit-state, sized-addresses, sized-routes}
 use Rattle.definition.specs.Kept.Encode.{Good, encode-decode, good-decode}
 
@@ -29,6 +29,15 @@ pub record Holds (w : List ℕ) (st : State) : Type 0 where
 pub record Valid (w : List ℕ) : Type 0 where
   pub state : State
   pub holds : Holds w state
+
+-- some fit state is held
+pub record Sound (w : List ℕ) : Type 0 where
+  pub state : State
+  pub holds : Holds w state
+  pub fits : fitState state ≡ true
+
+pub sound-valid : {w : List ℕ} → Sound w → Valid w
+sound-valid s = record { state = s .state; holds = s .holds }
 
 -- ---- well-formed words hold what they encode
 pub holds-encode : (st : State) → Good st → Holds (encode st) st
@@ -132,3 +141,9 @@ sizes-of h =
 
 pub sizes-valid : {w : List ℕ} → Valid w → Sized w
 sizes-valid v = sizes-of (v .holds)
+
+pub sound-long : {w : List ℕ} → Sound w → length w ≡ 9507
+sound-long s = holds-long (s .holds)
+
+pub sound-few : {w : List ℕ} → Sound w → addressCount w ≤ 64
+sound-few s = (sizes-of (s .holds)) .addresses

@@ -9,12 +9,11 @@ use lib.Dec.{leb}
 use lib.ListN.{length, take, drop, length-append}
 use borrow.Author.Tests.{leb-true, leb-false, le-leb, lt-leb}
 use Rattle.lists.specs.Lists.{Row}
-use Rattle.lists.specs.All.{test-case, true-false, and-left, and-right, and-iff}
+use Rattle.lists.specs.Bools.{test-case, true-false, and-left, and-right, and-iff}
 use Rattle.definition.specs.State.{State, Sizes, Out, sizes, most, becomes, stays, also}
 use Rattle.definition.specs.Words.{within}
 use Rattle.state.specs.Holds.{Holds}
-use Rattle.events.specs.Step.{rest}
-use Rattle.steps.specs.Does.{Does, does-none, does-also}
+use Rattle.events.specs.Does.{Does, does-none, does-also, rest}
 use Rattle.steps.specs.declared.Told.{Told}
 use Rattle.steps.specs.declared.Told.the-variants.{Rows, Full}
 

@@ -1,3 +1,2 @@
-pub mod Does
 pub mod Adds
 pub mod Through

@@ -3,19 +3,18 @@
 use Prim.Native.Nat.{ℕ, zero, suc, _+_, _-_, _*_, _≤_, _<_}
 use mathlib.Core.Path.{_≡_, refl, sym, ap, _∙_}
 use mathlib.Core.Bool.{Bool, true, false, cond, _&&_}
-use mathlib.Core.List.{List, [], _∷_, _++_, append-nil, append-assoc}
+use mathlib.Core.List.{List, [], _∷_, _++_}
 use native.Mathlib.Omega.{arith}
 use lib.ListN.{length, getD, take, drop}
 use lib.Seq.{take-all}
-use Rattle.lists.specs.Lists.{Row}
-use Rattle.lists.specs.All.{test-case, true-false, and-rest, and-right}
+use Rattle.lists.specs.Bools.{test-case, true-false, and-rest, and-right}
 use Rattle.lists.specs.Split.{take-more}
-use Rattle.definition.specs.State.{State, Out, sizes, becomes, stays, also, through}
+use Rattle.definition.specs.State.{State, Out, sizes, stays, also, through}
 use Rattle.definition.specs.Words.{within}
 use Rattle.state.specs.Holds.{Holds}
-use Rattle.events.specs.Step.{rest}
-use Rattle.steps.specs.Does.{Does, does-same, does-also}
-use Rattle.steps.specs.Adds.{Adds, joined, within-also, adds-rows, adds-full, does-adds, full-adds, adds-none, adds-also, adds-stop}
+use Rattle.events.specs.Does.{does-same, rest}
+use Rattle.events.specs.Turns.{Like, like-refl, like-sym, like-trans, also-like, through-one, through-append}
+use Rattle.steps.specs.Adds.{Adds, joined, within-also, adds-rows, adds-full, does-adds, full-adds, adds-none, adds-also}
 use Rattle.steps.specs.declared.Told.{Told}
 use Rattle.steps.specs.declared.Told.the-variants.{Rows, Full}
 
@@ -37,23 +36,11 @@ pub record Covered {A : Type 0} (f : A → State → Out) : Type 0 where
   pub covers : (x : A) (st : State) → within ((f x st) .peak) ≡ true → within (sizes ((f x st) .state)) ≡ true
 
 module _ {A : Type 0} (f : A → State → Out) where
-  more-left : (l : List A) (x : A) (st : State) → (f x ((through f l st) .state)) .state ≡ (through f (l ++ (x ∷ [])) st) .state
-  unfolding through also
-  more-left [] x st = refl
-  more-left (y ∷ l) x st = more-left l x ((f y st) .state)
-
-  more-said : (l : List A) (x : A) (st : State) → (through f l st) .told ++ (f x ((through f l st) .state)) .told ≡ (through f (l ++ (x ∷ [])) st) .told
-  unfolding through also
-  more-said [] x st = sym (append-nil ((f x st) .told))
-  more-said (y ∷ l) x st =
-      append-assoc ((f y st) .told) ((through f l ((f y st) .state)) .told) ((f x ((through f l ((f y st) .state)) .state)) .told)
-      ∙ ap (λ (m : List Row). (f y st) .told ++ m) (more-said l x ((f y st) .state))
-
-  -- without limits: the removals
-  pub does-more : (l : List A) (x : A) (st : State) {w ev₀ ev : List ℕ} {r : ℕ}
-      → Does (also (through f l st) (f x)) w ev₀ ev r → Does (through f (l ++ (x ∷ [])) st) w ev₀ ev r
-  unfolding also
-  does-more l x st d = does-same (more-left l x st) (more-said l x st) d
+  more-like : (l : List A) (x : A) (st : State) → Like (also (through f l st) (f x)) (through f (l ++ (x ∷ [])) st)
+  more-like l x st =
+      like-sym
+      (like-trans (through-append f l (x ∷ []) st)
+      (also-like (through f (x ∷ [])) (f x) (like-refl (through f l st)) (through-one f x ((through f l st) .state))))
 
   module _ (k : Covered f) where
     more-limits : (l : List A) (x : A) (st : State) → within (sizes st) ≡ true
@@ -85,11 +72,11 @@ module _ {A : Type 0} (f : A → State → Out) where
 
     -- one element more
     pub through-more : (l : List A) (x : A) (st : State) → within (sizes st) ≡ true → Alike (also (through f l st) (f x)) (through f (l ++ (x ∷ [])) st)
-    unfolding also
     through-more l x st h =
+        let m = more-like l x st in
         record {
-          left = more-left l x st;
-          said = more-said l x st;
+          left = m .leaves;
+          said = m .tells;
           limits = more-limits l x st h;
         }
 
@@ -112,18 +99,6 @@ full-later f k (suc i) (x ∷ l) st s h =
 
 -- ---- loops: the first i elements, and one more on what is left of the buffer
 module _ {A : Type 0} (f : A → State → Out) (l : List A) (st : State) where
-  pub does-start : {w ev : List ℕ} → Does (stays st) w ev ev 0 → Does (through f (take 0 l) st) w ev ev 0
-  unfolding through
-  does-start d = d
-
-  pub does-next : (i : ℕ) (d : A) → i < length l → {w ev₀ ev w′ x : List ℕ} {r r′ : ℕ} → Does (through f (take i l) st) w ev₀ ev r
-      → Does (f (getD l i d) ((through f (take i l) st) .state)) w′ (rest r ev) x r′
-      → Does (through f (take (i + 1) l) st) w′ ev₀ (take (34 * r) ev ++ (x ++ drop (length ev - 34 * r) (drop (34 * r) ev))) (r + r′)
-  does-next i d h t u = rw (take-more l i d h) (does-more f (take i l) (getD l i d) st (does-also t (f (getD l i d)) u))
-
-  pub does-end : (i : ℕ) → length l ≤ i → {w ev₀ ev : List ℕ} {r : ℕ} → Does (through f (take i l) st) w ev₀ ev r → Does (through f l st) w ev₀ ev r
-  does-end i h t = rw (take-all i l h) at t
-
   module _ (k : Covered f) (s : within (sizes st) ≡ true) where
     pub adds-next : (i : ℕ) (d : A) → i < length l → {w ev₀ ev w′ x : List ℕ} {n : ℕ} {r : Told} → Adds (through f (take i l) st) w ev₀ ev (Rows n)
         → Adds (f (getD l i d) ((through f (take i l) st) .state)) w′ (rest n ev) x r

@@ -1,18 +1,17 @@
 -- Rows as the tests of one address take them, and the source that a search gives.
 -- Assumes nothing.
-use Prim.Native.Nat.{ℕ, zero, suc, _*_, _≤_, _<_}
+use Prim.Native.Nat.{ℕ, _*_, _≤_, _<_}
 use native.Mathlib.Omega.{arith}
 use native.Mathlib.Nat.{add-zero}
 use mathlib.Core.Path.{_≡_, refl, sym, ap, _∙_}
 use mathlib.Core.Bool.{Bool, true, false}
-use mathlib.Core.List.{List, [], _∷_}
-use mathlib.Core.Option.{Option, none, some}
+use mathlib.Core.List.{List, []}
 use lib.Dec.{lit<}
 use lib.ListN.{length, getD, getElem?}
 use borrow.Author.Tests.{leb-true}
 use Rattle.lists.specs.Lists.{Row, first}
 use Rattle.lists.specs.Laid.{Laid, Lays, laid-word}
-use Rattle.lists.specs.Place.{placeOf, first-at}
+use Rattle.lists.specs.Place.{placeOf, first-at, nothing-from, something-at}
 use Rattle.lists.specs.Pass.{part, part-width, part-fit, laid-rows}
 use Rattle.layout.specs.Address.{local, prefix, secondary, fitAddress}
 use Rattle.definition.specs.Reference.Addresses.{localOr, primaryOf}
@@ -27,16 +26,6 @@ pub part-short : (w : List ℕ) (n : ℕ) → length w ≡ 20 * n → Lays 20 fi
 part-short w n long y i b = fit-short (part 20 w i) (part-fit w n (lit< tt) long y i b)
 
 -- ---- the source
-nothing-from : (l : List Row) (i : ℕ) → length l ≤ i → getElem? l i ≡ none
-nothing-from [] i h = refl
-nothing-from (x ∷ l) zero h = absurd (omega arith)
-nothing-from (x ∷ l) (suc i) h = nothing-from l i (omega arith)
-
-something-at : (l : List Row) (i : ℕ) → i < length l → getElem? l i ≡ some (getD l i [])
-something-at [] i h = absurd (omega arith)
-something-at (x ∷ l) zero h = refl
-something-at (x ∷ l) (suc i) h = something-at l i (omega arith)
-
 module _ (a : Row) (l : List Row) where
   pub source-own : secondary a ≡ false → local a ≡ primaryOf l a
   unfolding primaryOf
@@ -58,4 +47,4 @@ module _ (a : Row) (l : List Row) where
         let word : getD w (20 * place) 0 ≡ local (getD l place []) =
         ap (λ (i : ℕ). getD w i 0) (sym (add-zero (20 * place))) ∙ laid-word h place 0 b′ (lit< tt)
         in
-        rw (e, at-place, something-at l place b′, word)
+        rw (e, at-place, something-at l place [] b′, word)

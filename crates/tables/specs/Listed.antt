@@ -2,13 +2,14 @@
 -- Assumes nothing.
 use Prim.Native.Nat.{ℕ, _+_, _≤_}
 use mathlib.Core.Path.{_≡_, refl, sym, ap, _∙_}
-use mathlib.Core.Bool.{Bool, true, false, _||_}
+use mathlib.Core.Bool.{Bool, true, false, or-false}
 use mathlib.Core.List.{List, [], _∷_, _++_}
 use native.Mathlib.Omega.{arith}
 use lib.Dec.{eqb}
 use borrow.Author.Tests.{eq-eqb, ne-eqb}
 use lib.ListN.{length, set, length-append}
 use Rattle.lists.specs.Lists.{among, span}
+use Rattle.lists.specs.Split.{among-more}
 use Rattle.definition.specs.State.{State, withTables}
 use Rattle.definition.specs.Words.{tableCount}
 use Rattle.definition.specs.Reference.Insert.{addTable, listTable, create4}
@@ -57,18 +58,13 @@ main-first t l h room =
     let k : length (addTable t (addTable 254 l)) ≤ 32 = rw (list-local t l h) at room in
     omega (arith, grows t (addTable 254 l) (among t (addTable 254 l)) refl)
 
--- 254 more makes no difference to 255
-apart : (l : List ℕ) → among 255 (l ++ (254 ∷ [])) ≡ among 255 l
-apart [] = refl
-apart (x ∷ l) = ap (λ (b : Bool). eqb 255 x || b) (apart l)
-
 pub length-local : (t : ℕ) (l : List ℕ) → t ≡ 255 → among 254 l ≡ false → length (listTable t l) ≡ length (addTable t l) + 1
 length-local t l h e =
     rw (list-local t l h, e, h) (go (among 255 l) refl)
   where
     go : (b : Bool) → among 255 l ≡ b → length (addTable 255 (l ++ (254 ∷ []))) ≡ length (addTable 255 l) + 1
-    go true f = length-there 255 (l ++ (254 ∷ [])) (apart l ∙ f) ∙ length-append l (254 ∷ []) ∙ sym (rw (length-there 255 l f))
-    go false f = length-new 255 (l ++ (254 ∷ [])) (apart l ∙ f) ∙ omega (arith, length-append l (254 ∷ []), length-new 255 l f)
+    go true f = length-there 255 (l ++ (254 ∷ [])) (among-more 255 254 l ∙ or-false (among 255 l) ∙ f) ∙ length-append l (254 ∷ []) ∙ sym (rw (length-there 255 l f))
+    go false f = length-new 255 (l ++ (254 ∷ [])) (among-more 255 254 l ∙ or-false (among 255 l) ∙ f) ∙ omega (arith, length-append l (254 ∷ []), length-new 255 l f)
 
 pub length-listed : {w : List ℕ} {st : State} → Holds w st → tableCount w ≡ length (tablesOf w)
 length-listed h = count-tables h ∙ sym (ap length (tables-at h))

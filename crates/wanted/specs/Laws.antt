@@ -3,7 +3,7 @@
 use Prim.Native.Nat.{ℕ, zero, suc}
 use native.Mathlib.Omega.{arith}
 use mathlib.Core.Path.{_≡_, refl, sym, ap, _∙_, fun-ext}
-use mathlib.Core.Bool.{Bool, true, false, cond, not, _&&_, _||_}
+use mathlib.Core.Bool.{Bool, true, false, cond, not, _&&_, _||_, and-true, and-false, or-false}
 use mathlib.Core.List.{List, [], _∷_, _++_}
 use lib.Dec.{eqb}
 use borrow.Author.Tests.{eqb-true}
@@ -18,25 +18,13 @@ use Rattle.definition.specs.Reference.Removal.{sameRoute, wanted}
 use Rattle.subnet.specs.Brings.{bringsPrefix, bringsBroadcast}
 use Rattle.wanted.specs.Wants.{wantsLocal, wantsRow}
 
-and-true : (b : Bool) → b && true ≡ b
-and-true true = refl
-and-true false = refl
-
-and-false : (b : Bool) → b && false ≡ false
-and-false true = refl
-and-false false = refl
-
-or-none : (b : Bool) → b || false ≡ b
-or-none true = refl
-or-none false = refl
-
 -- one of four rows, of which three may be missing
 some-of : (f : Row → Bool) (a b c d : Row) (p q s : Bool)
     → any f (a ∷ (only p b ++ (only q c ++ only s d))) ≡ (f a || ((p && f b) || ((q && f c) || (s && f d))))
 some-of f a b c d p q s = ap (λ (t : Bool). f a || t) (go p q s)
   where
     last : (s : Bool) → any f (only s d) ≡ (s && f d)
-    last true = or-none (f d)
+    last true = or-false (f d)
     last false = refl
 
     more : (q s : Bool) → any f (only q c ++ only s d) ≡ ((q && f c) || (s && f d))
@@ -52,10 +40,10 @@ by-kind : (j k w x y z h m p q s : Bool) → (j ≡ true → k ≡ true → ⊥)
     → (((w && h) && j) || ((p && ((x && h) && k)) || ((q && ((y && m) && j)) || (s && ((z && h) && k)))))
     ≡ cond j ((w && h) || (q && (y && m))) (cond k (h && ((p && x) || (s && z))) false)
 by-kind true true w x y z h m p q s apart = absurd (apart refl refl)
-by-kind true false w x y z h m p q s apart = simp (and-true, and-false, or-none)
-by-kind false true w x y z true m p q s apart = simp (and-true, and-false, or-none)
-by-kind false true w x y z false m p q s apart = simp (and-true, and-false, or-none)
-by-kind false false w x y z h m p q s apart = simp (and-true, and-false, or-none)
+by-kind true false w x y z h m p q s apart = simp (and-true, and-false, or-false)
+by-kind false true w x y z true m p q s apart = simp (and-true, and-false, or-false)
+by-kind false true w x y z false m p q s apart = simp (and-true, and-false, or-false)
+by-kind false false w x y z h m p q s apart = simp (and-true, and-false, or-false)
 
 -- ---- one address
 pub wants-candidate : (l : List Row) (r a : Row) → wantsRow r a ≡ any (sameRoute r) (candidates l true a)

@@ -7,23 +7,23 @@ use mathlib.Core.Bool.{Bool, true, false, cond}
 use mathlib.Core.List.{List, [], _++_}
 use lib.ListN.{length, take, drop, length-take}
 use lib.Seq.{take-at}
-use Rattle.lists.specs.All.{test-case, true-false}
+use Rattle.lists.specs.Bools.{test-case, true-false}
 use Rattle.lists.specs.Rows.{length-flat}
 use Rattle.lists.specs.Lists.{put, flat}
+use Rattle.lists.specs.Put.{put-whole}
 use Rattle.definition.specs.State.{State, Out}
 use Rattle.definition.specs.Words.{within, fitState}
 use Rattle.definition.specs.Reference.Addresses.{Outcome, goes, refused}
 use Rattle.definition.specs.Kept.Step.{roomy}
-use Rattle.placing.specs.Rows.{put-whole}
-use Rattle.state.specs.Holds.{Holds, holds-long}
-use Rattle.steps.specs.Does.{Does, does-length}
+use Rattle.state.specs.Holds.{Holds, holds-long, Sound}
+use Rattle.events.specs.Does.{Does, does-length}
 use Rattle.steps.specs.Adds.{Adds, adds-rows, adds-full, does-adds, full-adds}
 use Rattle.steps.specs.declared.Told.{Told}
 use Rattle.steps.specs.declared.Told.the-variants as Tell
 use Rattle.adding.specs.declared.Done.{Done}
 use Rattle.adding.specs.declared.Done.the-variants.{Rows, Refused, Full}
 use Rattle.adding.specs.Comes.{Comes, answerOf, doneRows}
-use Rattle.bring.specs.Sound.{Sound, AddsFrom}
+use Rattle.bring.specs.Sound.{AddsFrom}
 
 -- the copy is the words
 pub copy-sound : (o w : List ℕ) → length o ≡ length w → {x : List ℕ} → x ≡ put 0 w o → Sound w → Sound x

@@ -3,7 +3,7 @@
 use Prim.Native.Nat.{ℕ, suc, _+_, _-_, _*_, _≤_, _<_}
 use native.Mathlib.Omega.{arith}
 use mathlib.Core.Path.{_≡_, refl, sym, ap, subst, _∙_}
-use mathlib.Core.Bool.{Bool, true, false, cond, not, _&&_, _||_}
+use mathlib.Core.Bool.{Bool, true, false, cond, not, _&&_, or-false}
 use mathlib.Core.List.{List, [], _∷_, _++_}
 use mathlib.Core.Option.{Option, none, some}
 use lib.Dec.{eqb, leb, ltb}
@@ -11,8 +11,9 @@ use lib.ListN.{length, getD, length-append}
 use borrow.Author.Tests.{le-leb, eqb-true, leb-true, ltb-true}
 use Rattle.state.specs.Holds.{Holds, count-addresses, count-routes, count-tables}
 use Rattle.lists.specs.Lists.{Row, all, any, first, among, replaceFirst}
-use Rattle.lists.specs.All.{test-case, cond-case, and-iff, and-both, cond-true, cond-false, all-append, all-head, all-tail}
-use Rattle.lists.specs.Split.{any-joined}
+use Rattle.lists.specs.Bools.{test-case, cond-case, and-iff, and-both, cond-true, cond-false}
+use Rattle.lists.specs.All.{all-append, all-head, all-tail}
+use Rattle.lists.specs.Split.{among-more}
 use Rattle.lists.specs.Count.{length-replaceFirst}
 use Rattle.layout.specs.Address as Address
 use Rattle.layout.specs.Address.{local, address, prefix, secondary, noPrefixRoute}
@@ -44,13 +45,6 @@ withBoth l = length l + (missing 254 l + missing 255 l)
 missing-le : (t : ℕ) (l : List ℕ) → missing t l ≤ 1
 missing-le t l = cond-case (λ (n : ℕ). n ≤ 1) (among t l) (λ e. omega arith) (λ e. omega arith)
 
-among-more : (n t : ℕ) (l : List ℕ) → among n (l ++ (t ∷ [])) ≡ (among n l || (eqb n t || false))
-among-more n t l = any-joined (eqb n) l (t ∷ [])
-
-or-none : (b : Bool) → (b || false) ≡ b
-or-none true = refl
-or-none false = refl
-
 add-main : (l : List ℕ) → withBoth (addTable 254 l) ≡ withBoth l
 add-main l =
     test-case (among 254 l)
@@ -58,7 +52,7 @@ add-main l =
     (λ e.
     let long : length (l ++ (254 ∷ [])) ≡ length l + 1 = length-append l (254 ∷ []) in
     let one : among 254 (l ++ (254 ∷ [])) ≡ true = rw (among-more 254 254 l, e) in
-    let other : among 255 (l ++ (254 ∷ [])) ≡ among 255 l = among-more 255 254 l ∙ or-none (among 255 l) in
+    let other : among 255 (l ++ (254 ∷ [])) ≡ among 255 l = among-more 255 254 l ∙ or-false (among 255 l) in
     let now : missing 254 (l ++ (254 ∷ [])) ≡ 0 = ap (λ (b : Bool). cond {A = ℕ} b 0 1) one in
     let before : missing 254 l ≡ 1 = ap (λ (b : Bool). cond {A = ℕ} b 0 1) e in
     let same : missing 255 (l ++ (254 ∷ [])) ≡ missing 255 l = ap (λ (b : Bool). cond {A = ℕ} b 0 1) other in
@@ -71,7 +65,7 @@ add-local l =
     (λ e.
     let long : length (l ++ (255 ∷ [])) ≡ length l + 1 = length-append l (255 ∷ []) in
     let one : among 255 (l ++ (255 ∷ [])) ≡ true = rw (among-more 255 255 l, e) in
-    let other : among 254 (l ++ (255 ∷ [])) ≡ among 254 l = among-more 254 255 l ∙ or-none (among 254 l) in
+    let other : among 254 (l ++ (255 ∷ [])) ≡ among 254 l = among-more 254 255 l ∙ or-false (among 254 l) in
     let now : missing 255 (l ++ (255 ∷ [])) ≡ 0 = ap (λ (b : Bool). cond {A = ℕ} b 0 1) one in
     let before : missing 255 l ≡ 1 = ap (λ (b : Bool). cond {A = ℕ} b 0 1) e in
     let same : missing 254 (l ++ (255 ∷ [])) ≡ missing 254 l = ap (λ (b : Bool). cond {A = ℕ} b 0 1) other in

@@ -10,12 +10,12 @@ ghost use Rattle.layout.specs.Request.{fitAddV4};
 ghost use Rattle.definition.specs.State.{State};
 ghost use Rattle.definition.specs.Words.{fitState, routeCount};
 ghost use Rattle.definition.specs.Reference.Addresses.{addV4, up};
-ghost use Rattle.state.specs.Holds.{Holds};
+ghost use Rattle.state.specs.Holds.{Holds, Sound};
 ghost use Rattle.steps.specs.Adds.{rowsOf};
 ghost use Rattle.steps.specs.declared.Told.the-variants as Tell;
 ghost use Rattle.adding.specs.declared.Done.the-variants as Call;
 ghost use Rattle.adding.specs.Comes.{Comes, doneRows};
-ghost use Rattle.bring.specs.Sound.{Sound, AddsFrom};
+ghost use Rattle.bring.specs.Sound.{AddsFrom};
 ghost use Rattle.whole.specs.Room.{hasRoom};
 
 // Whether every list has room: for an address, as many routes, and the two tables.

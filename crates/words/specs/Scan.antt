@@ -2,7 +2,7 @@
 -- Assumes nothing.
 use Prim.Native.Nat.{ℕ, zero, suc, _+_, _-_, _<_}
 use mathlib.Core.Path.{_≡_, refl, sym, ap, _∙_}
-use mathlib.Core.Bool.{Bool, true, false, _&&_, _||_}
+use mathlib.Core.Bool.{Bool, true, false, _&&_, and-true, and-assoc}
 use mathlib.Core.List.{List, [], _∷_, _++_}
 use native.Mathlib.Nat.{not-suc-le-zero, le-of-suc-le-suc}
 use native.Mathlib.Numerals.{add-one}
@@ -10,24 +10,14 @@ use native.Mathlib.Omega.{arith}
 use lib.Bits.{bitOr, bitXor, or-add-and, and-le-l, and-le-r, xor-add-and, xor-self}
 use lib.Dec.{eqb}
 use lib.ListN.{length, getD, take, drop, length-drop, take-append-drop}
-use lib.Seq.{drop-cons, take-add, take-all}
+use lib.Seq.{take-add, take-all}
 use borrow.Author.Tests.{eqb-true, eq-eqb}
-use Rattle.lists.specs.Lists.{any, allZero, eqRow}
-use Rattle.lists.specs.All.{and-left, and-right, and-both, eqRow-true}
-
--- two tests agree where each fact gives the other
-same-test : (a b : Bool) → (a ≡ true → b ≡ true) → (b ≡ true → a ≡ true) → a ≡ b
-same-test true true f g = refl
-same-test true false f g = sym (f refl)
-same-test false true f g = g refl
-same-test false false f g = refl
+use Rattle.lists.specs.Lists.{allZero, eqRow}
+use Rattle.lists.specs.Bools.{and-left, and-right, and-both, same-test}
+use Rattle.lists.specs.All.{eqRow-true}
 
 turned : (w : ℕ) → eqb 0 w ≡ eqb w 0
 turned w = same-test (eqb 0 w) (eqb w 0) (λ q. eq-eqb w 0 (sym (eqb-true 0 w q))) (λ q. eq-eqb 0 w (sym (eqb-true w 0 q)))
-
-and-true : (a : Bool) → a && true ≡ a
-and-true true = refl
-and-true false = refl
 
 -- no words, and the first one
 pub zero-none : (l : List ℕ) → length l ≡ 0 → true ≡ allZero l
@@ -56,16 +46,12 @@ xor-none x y =
     (λ e. let z = eqb-true 0 (bitXor x y) e in eq-eqb x y (omega (arith, xor-add-and x y, and-le-l x y, and-le-r x y)))
     (λ e. let p = eqb-true x y e in eq-eqb 0 (bitXor x y) (sym (rw p (xor-self y))))
 
-and-shift : (a b c : Bool) → a && (b && c) ≡ a && b && c
-and-shift true b c = refl
-and-shift false b c = refl
-
 module _ (x : ℕ) where
   zero-suc : (l : List ℕ) (i : ℕ) → i < length l → allZero (take (suc i) l) ≡ allZero (take i l) && eqb 0 (getD l i 0)
   zero-suc [] i h = absurd (not-suc-le-zero h)
   zero-suc (w ∷ l) zero h = and-true (eqb 0 w)
   zero-suc (w ∷ l) (suc i) h =
-      ap (λ (b : Bool). eqb 0 w && b) (zero-suc l i (le-of-suc-le-suc h)) ∙ and-shift (eqb 0 w) (allZero (take i l)) (eqb 0 (getD l i 0))
+      ap (λ (b : Bool). eqb 0 w && b) (zero-suc l i (le-of-suc-le-suc h)) ∙ sym (and-assoc (eqb 0 w) (allZero (take i l)) (eqb 0 (getD l i 0)))
 
   pub zero-more : (l : List ℕ) (i : ℕ) → i < length l → eqb x 0 ≡ allZero (take i l) → eqb (bitOr x (getD l i 0)) 0 ≡ allZero (take (i + 1) l)
   zero-more l i h e =
@@ -77,7 +63,7 @@ module _ (x : ℕ) where
     where
       parts : (l : List ℕ) → allZero l && allZero m ≡ allZero (l ++ m)
       parts [] = refl
-      parts (v ∷ l) = sym (and-shift (eqb 0 v) (allZero l) (allZero m)) ∙ ap (λ (b : Bool). eqb 0 v && b) (parts l)
+      parts (v ∷ l) = and-assoc (eqb 0 v) (allZero l) (allZero m) ∙ ap (λ (b : Bool). eqb 0 v && b) (parts l)
 
   pub zero-part : (w : ℕ) (l : List ℕ) (i n : ℕ) → eqb x 0 ≡ allZero (take i l) → eqb w 0 ≡ allZero (take (i + n - i) (drop i l)) → eqb (bitOr x w) 0 ≡ allZero (take (i + n) l)
   zero-part w l i n e f =
@@ -94,7 +80,7 @@ module _ (x : ℕ) where
   same-suc (w ∷ l) (v ∷ m) zero h k = and-true (eqb w v)
   same-suc (w ∷ l) (v ∷ m) (suc i) h k =
       ap (λ (b : Bool). eqb w v && b) (same-suc l m i (le-of-suc-le-suc h) (le-of-suc-le-suc k))
-      ∙ and-shift (eqb w v) (eqRow (take i l) (take i m)) (eqb (getD l i 0) (getD m i 0))
+      ∙ sym (and-assoc (eqb w v) (eqRow (take i l) (take i m)) (eqb (getD l i 0) (getD m i 0)))
 
   pub same-more : (l m : List ℕ) (i : ℕ) → i < length l → i < length m → eqb x 0 ≡ eqRow (take i l) (take i m)
       → eqb (bitOr x (bitXor (getD l i 0) (getD m i 0))) 0 ≡ eqRow (take (i + 1) l) (take (i + 1) m)
@@ -107,7 +93,3 @@ module _ (x : ℕ) where
 -- rows of other lengths are not the same
 pub other-long : (l m : List ℕ) → (length l ≡ length m → ⊥) → false ≡ eqRow l m
 other-long l m h = same-test false (eqRow l m) (λ e. cc) (λ e. absurd (h (ap length (eqRow-true l m e))))
-
--- what is left to look at, one word on
-pub any-next : (p : ℕ → Bool) (l : List ℕ) (i : ℕ) → i < length l → any p (drop i l) ≡ p (getD l i 0) || any p (drop (i + 1) l)
-any-next p l i h = rw (drop-cons l i 0 h, add-one i)

@@ -1,8 +1,7 @@
 use mathlib.Core.Path.{refl, sym, _∙_}
 use native.Mathlib.Omega.{arith}
-use Rattle.state.specs.Holds.{count-addresses}
+use Rattle.state.specs.Holds.{count-addresses, sound-valid, sound-long}
 use Rattle.view.specs.Parts.{ready-addresses, of-addresses}
-use Rattle.bring.specs.Sound.{sound-valid, sound-long}
 use Rattle.adding.specs.Comes.{done-few}
 use Rattle.adding.specs.Added.{added-change, added-refused, added-new}
 use borrow.Author.Needs.{needs}

@@ -2,7 +2,8 @@ use Prim.Native.Nat.{_+_, _-_, _≤_}
 use mathlib.Core.Path.{_≡_, refl, sym, _∙_}
 use native.Mathlib.Omega.{arith}
 use lib.ListN.{length}
-use Rattle.bring.specs.Sound.{sound-valid, sound-long, sound-few, rest-room, rows-are}
+use Rattle.state.specs.Holds.{sound-valid, sound-long, sound-few}
+use Rattle.bring.specs.Sound.{rest-room, rows-are}
 use Rattle.adding.specs.Every.{Sofar, sofar-start, sofar-sound, sofar-few, sofar-length, sofar-count, sofar-next, sofar-full, sofar-end}
 use borrow.Author.Needs.{needs}
 use Rattle.adding.proofs.bring_all.Statement.{statement}

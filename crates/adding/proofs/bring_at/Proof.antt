@@ -1,8 +1,7 @@
 use native.Mathlib.Omega.{arith}
-use Rattle.state.specs.Holds.{count-addresses}
+use Rattle.state.specs.Holds.{count-addresses, sound-valid, sound-long, sound-few}
 use Rattle.view.specs.Parts.{ready-addresses, of-addresses}
 use Rattle.subnet.specs.Laws.{part-short}
-use Rattle.bring.specs.Sound.{sound-valid, sound-long, sound-few}
 use Rattle.adding.specs.Every.{turn-ready, turn-done}
 use borrow.Author.Needs.{needs}
 use Rattle.adding.proofs.bring_at.Statement.{statement}

@@ -1,9 +1,10 @@
 use mathlib.Core.Path.{refl, sym, _∙_}
 use native.Mathlib.Omega.{arith}
 use Rattle.definition.specs.Reference.Addresses.{loopback}
+use Rattle.definition.specs.Kept.Addresses.{loopback-fit}
 use Rattle.bring.specs.Sound.{rest-room, rows-are, joined-few}
 use Rattle.adding.specs.Comes.{told-few}
-use Rattle.adding.specs.Added.{added-step, loopback-fit}
+use Rattle.adding.specs.Added.{added-step}
 use Rattle.adding.specs.Every.{up-full, up-sound, up-length, up-done}
 use borrow.Author.Needs.{needs}
 use Rattle.adding.proofs.up.Statement.{statement}

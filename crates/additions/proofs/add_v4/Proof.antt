@@ -1,23 +1,21 @@
 use native.Mathlib.Omega.{arith}
 use mathlib.Core.Path.{sym, ap, _∙_}
-use mathlib.Core.Bool.{true, _&&_}
 use lib.ListN.{length}
 use Rattle.layout.specs.Request.{addV4Size, fitAddV4}
 use Rattle.definition.specs.Words.{decode}
-use Rattle.definition.specs.Step.{addV4Call, requestIs, eventsFit}
+use Rattle.definition.specs.Step.{addV4Call}
 use Rattle.definition.specs.Reference.Addresses.{addV4}
 use Rattle.definition.specs.Kept.Numbers.{addV4-number}
-use Rattle.interface.specs.Laws.{held}
-use Rattle.changes.specs.Laws.{change-made}
-use Rattle.changes.specs.Requests.{by-fit, request-no, request-fits, encoded}
+use Rattle.changes.specs.Requests.{asked-sound, request-no, request-asked}
 use Rattle.definition.specs.Laws.Refusals.{addV4-leaves}
-use Rattle.additions.specs.Laws.{cameOf, comes-answers, good-passed, bring-sound}
+use Rattle.additions.specs.Laws.{cameOf, comes-answers}
+use Rattle.changes.specs.Told.{add-v4-told, told-says}
 use borrow.Author.Needs.{needs}
 use Rattle.additions.proofs.add_v4.Statement.{statement}
 use Rattle.additions.proofs.add_v4.Tie as tie
 use Rattle.additions.proofs.add_v4.Reads as reads
 use Rattle.additions.proofs.add_v4.Lts as lts
-use Rattle.additions.proofs.fit_add_v4.Reads as fit-add-v4-reads
+use Rattle.fit.proofs.fit_add_v4.Reads as fit-add-v4-reads
 use Rattle.interface.proofs.checked.Reads as checked-reads
 use Rattle.whole.proofs.add_v4.Reads as add-v4-reads
 
@@ -41,7 +39,8 @@ returns c =
     let i = k .before .before in
     let a = i .before .before .before .before .args in
     let x = request-no (a .q .now) (a .state .now) (a .events .now) (k .checked .result) addV4Size (fitAddV4 (a .q .now)) (i .fit-add-v4 .result) (addV4 (a .q .now) (a .clock)) (i .fit-add-v4 .ensures) (k .checked .ensures) (c .if1 .taken) in
-    (x .answer, (x .words, x .events))
+    let e = x .answer in
+    (told-says (add-v4-told (a .state .now) (length (a .events .now)) (a .q .now) (a .clock)) e, (e, (x .words, x .events)))
 
 -- src/lib.rt:31:9
 add-v4-requires : tie.Need-add-v4-requires
@@ -50,8 +49,8 @@ add-v4-requires c κs =
     let k = e .before in
     let i = k .before .before in
     let a = i .before .before .before .before .args in
-    let p = request-fits (a .q .now) (a .state .now) (a .events .now) (k .checked .result) addV4Size (fitAddV4 (a .q .now)) (i .fit-add-v4 .result) (addV4 (a .q .now) (a .clock)) (i .fit-add-v4 .ensures) (k .checked .ensures) (e .if1 .left) in
-    (bring-sound (requestIs addV4Size (a .q .now) && eventsFit (length (a .events .now))) (fitAddV4 (a .q .now)) (a .state .now) (k .checked .result) (by-fit (a .q .now) (a .state .now) (a .events .now) (k .checked .result) addV4Size (fitAddV4 (a .q .now)) (i .fit-add-v4 .result) (addV4 (a .q .now) (a .clock)) (i .fit-add-v4 .ensures) (k .checked .ensures)) (e .if1 .left), ((p .0, p .1), omega (arith, p .2)))
+    let p = request-asked (a .q .now) (a .state .now) (a .events .now) (k .checked .result) addV4Size (fitAddV4 (a .q .now)) (i .fit-add-v4 .result) (addV4 (a .q .now) (a .clock)) (i .fit-add-v4 .ensures) (k .checked .ensures) (e .if1 .left) in
+    (asked-sound p, ((p .long, p .fit), omega (arith, p .room)))
 
 -- src/lib.rt:33:28
 enum-known-came : tie.Need-enum-known-came
@@ -82,14 +81,14 @@ returns-2 c =
     let k = e .before in
     let i = k .before .before in
     let a = i .before .before .before .before .args in
-    let z = by-fit (a .q .now) (a .state .now) (a .events .now) (k .checked .result) addV4Size (fitAddV4 (a .q .now)) (i .fit-add-v4 .result) (addV4 (a .q .now) (a .clock)) (i .fit-add-v4 .ensures) (k .checked .ensures) in
-    let g = good-passed (requestIs addV4Size (a .q .now) && eventsFit (length (a .events .now))) (fitAddV4 (a .q .now)) (a .state .now) (k .checked .result) z (e .if1 .left) in
-    let d = y .add-v4 .ensures .1 .1 (decode (a .state .now)) (held (requestIs addV4Size (a .q .now) && eventsFit (length (a .events .now))) true (fitAddV4 (a .q .now)) (a .state .now) (k .checked .result) z (e .if1 .left)) (g .fits) in
+    let p = request-asked (a .q .now) (a .state .now) (a .events .now) (k .checked .result) addV4Size (fitAddV4 (a .q .now)) (i .fit-add-v4 .result) (addV4 (a .q .now) (a .clock)) (i .fit-add-v4 .ensures) (k .checked .ensures) (e .if1 .left) in
+    let d = y .add-v4 .ensures .1 .1 (decode (a .state .now)) (p .holds) (p .good .fits) in
     let x = comes-answers (a .state .now) _ (a .events .now) _ (addV4Call (a .q .now) (length (a .events .now)) (a .clock) (a .state .now)) (addV4 (a .q .now) (a .clock) (decode (a .state .now))) (y .add-v4 .result)
-    (change-made (requestIs addV4Size (a .q .now) && eventsFit (length (a .events .now))) (fitAddV4 (a .q .now)) (addV4 (a .q .now) (a .clock)) (a .state .now) (k .checked .result) z (e .if1 .left))
-    (addV4-number (a .q .now) (a .clock) (decode (a .state .now))) g (encoded (requestIs addV4Size (a .q .now) && eventsFit (length (a .events .now))) (fitAddV4 (a .q .now)) (a .state .now) (k .checked .result) z (e .if1 .left))
+    (p .made)
+    (addV4-number (a .q .now) (a .clock) (decode (a .state .now))) (p .good) (p .same)
     (addV4-leaves (a .q .now) (a .clock) (decode (a .state .now))) d (y .add-v4 .ensures .1 .0) in
-    (ap cameOf (sym (c .before .came .given .1)) ∙ x .answer, (x .words, x .events))
+    let e = ap cameOf (sym (c .before .came .given .1)) ∙ x .answer in
+    (told-says (add-v4-told (a .state .now) (length (a .events .now)) (a .q .now) (a .clock)) e, (e, (x .words, x .events)))
 
 -- src/lib.rt:21:1
 same-length-4 : tie.Need-same-length-4
@@ -108,14 +107,14 @@ returns-3 c =
     let k = e .before in
     let i = k .before .before in
     let a = i .before .before .before .before .args in
-    let z = by-fit (a .q .now) (a .state .now) (a .events .now) (k .checked .result) addV4Size (fitAddV4 (a .q .now)) (i .fit-add-v4 .result) (addV4 (a .q .now) (a .clock)) (i .fit-add-v4 .ensures) (k .checked .ensures) in
-    let g = good-passed (requestIs addV4Size (a .q .now) && eventsFit (length (a .events .now))) (fitAddV4 (a .q .now)) (a .state .now) (k .checked .result) z (e .if1 .left) in
-    let d = y .add-v4 .ensures .1 .1 (decode (a .state .now)) (held (requestIs addV4Size (a .q .now) && eventsFit (length (a .events .now))) true (fitAddV4 (a .q .now)) (a .state .now) (k .checked .result) z (e .if1 .left)) (g .fits) in
+    let p = request-asked (a .q .now) (a .state .now) (a .events .now) (k .checked .result) addV4Size (fitAddV4 (a .q .now)) (i .fit-add-v4 .result) (addV4 (a .q .now) (a .clock)) (i .fit-add-v4 .ensures) (k .checked .ensures) (e .if1 .left) in
+    let d = y .add-v4 .ensures .1 .1 (decode (a .state .now)) (p .holds) (p .good .fits) in
     let x = comes-answers (a .state .now) _ (a .events .now) _ (addV4Call (a .q .now) (length (a .events .now)) (a .clock) (a .state .now)) (addV4 (a .q .now) (a .clock) (decode (a .state .now))) (y .add-v4 .result)
-    (change-made (requestIs addV4Size (a .q .now) && eventsFit (length (a .events .now))) (fitAddV4 (a .q .now)) (addV4 (a .q .now) (a .clock)) (a .state .now) (k .checked .result) z (e .if1 .left))
-    (addV4-number (a .q .now) (a .clock) (decode (a .state .now))) g (encoded (requestIs addV4Size (a .q .now) && eventsFit (length (a .events .now))) (fitAddV4 (a .q .now)) (a .state .now) (k .checked .result) z (e .if1 .left))
+    (p .made)
+    (addV4-number (a .q .now) (a .clock) (decode (a .state .now))) (p .good) (p .same)
     (addV4-leaves (a .q .now) (a .clock) (decode (a .state .now))) d (y .add-v4 .ensures .1 .0) in
-    (ap cameOf (sym (c .before .came2 .given .1)) ∙ x .answer, (x .words, x .events))
+    let e = ap cameOf (sym (c .before .came2 .given .1)) ∙ x .answer in
+    (told-says (add-v4-told (a .state .now) (length (a .events .now)) (a .q .now) (a .clock)) e, (e, (x .words, x .events)))
 
 -- src/lib.rt:21:1
 same-length-6 : tie.Need-same-length-6
@@ -134,14 +133,14 @@ returns-4 c =
     let k = e .before in
     let i = k .before .before in
     let a = i .before .before .before .before .args in
-    let z = by-fit (a .q .now) (a .state .now) (a .events .now) (k .checked .result) addV4Size (fitAddV4 (a .q .now)) (i .fit-add-v4 .result) (addV4 (a .q .now) (a .clock)) (i .fit-add-v4 .ensures) (k .checked .ensures) in
-    let g = good-passed (requestIs addV4Size (a .q .now) && eventsFit (length (a .events .now))) (fitAddV4 (a .q .now)) (a .state .now) (k .checked .result) z (e .if1 .left) in
-    let d = y .add-v4 .ensures .1 .1 (decode (a .state .now)) (held (requestIs addV4Size (a .q .now) && eventsFit (length (a .events .now))) true (fitAddV4 (a .q .now)) (a .state .now) (k .checked .result) z (e .if1 .left)) (g .fits) in
+    let p = request-asked (a .q .now) (a .state .now) (a .events .now) (k .checked .result) addV4Size (fitAddV4 (a .q .now)) (i .fit-add-v4 .result) (addV4 (a .q .now) (a .clock)) (i .fit-add-v4 .ensures) (k .checked .ensures) (e .if1 .left) in
+    let d = y .add-v4 .ensures .1 .1 (decode (a .state .now)) (p .holds) (p .good .fits) in
     let x = comes-answers (a .state .now) _ (a .events .now) _ (addV4Call (a .q .now) (length (a .events .now)) (a .clock) (a .state .now)) (addV4 (a .q .now) (a .clock) (decode (a .state .now))) (y .add-v4 .result)
-    (change-made (requestIs addV4Size (a .q .now) && eventsFit (length (a .events .now))) (fitAddV4 (a .q .now)) (addV4 (a .q .now) (a .clock)) (a .state .now) (k .checked .result) z (e .if1 .left))
-    (addV4-number (a .q .now) (a .clock) (decode (a .state .now))) g (encoded (requestIs addV4Size (a .q .now) && eventsFit (length (a .events .now))) (fitAddV4 (a .q .now)) (a .state .now) (k .checked .result) z (e .if1 .left))
+    (p .made)
+    (addV4-number (a .q .now) (a .clock) (decode (a .state .now))) (p .good) (p .same)
     (addV4-leaves (a .q .now) (a .clock) (decode (a .state .now))) d (y .add-v4 .ensures .1 .0) in
-    (ap cameOf (sym (c .enum-told .given .1)) ∙ x .answer, (x .words, x .events))
+    let e = ap cameOf (sym (c .enum-told .given .1)) ∙ x .answer in
+    (told-says (add-v4-told (a .state .now) (length (a .events .now)) (a .q .now) (a .clock)) e, (e, (x .words, x .events)))
 
 pub add-v4-spec : {M : Type 1} → statement M
 add-v4-spec =

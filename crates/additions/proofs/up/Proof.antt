@@ -5,7 +5,8 @@ use borrow.Author.Tests.{leb-true}
 use Rattle.definition.specs.Words.{decode}
 use Rattle.definition.specs.Step.{eventsFit}
 use Rattle.interface.specs.Laws.{passed, held}
-use Rattle.additions.specs.Laws.{toldOf, up-no, up-yes, good-passed, bring-sound}
+use Rattle.additions.specs.Laws.{toldOf, up-no, up-yes, good-passed}
+use Rattle.changes.specs.Told.{up-told, told-says}
 use borrow.Author.Needs.{needs}
 use Rattle.additions.proofs.up.Statement.{statement}
 use Rattle.additions.proofs.up.Tie as tie
@@ -13,6 +14,7 @@ use Rattle.additions.proofs.up.Reads as reads
 use Rattle.additions.proofs.up.Lts as lts
 use Rattle.interface.proofs.checked.Reads as checked-reads
 use Rattle.whole.proofs.up.Reads as up-reads
+use Rattle.changes.specs.Requests.{sound}
 
 -- src/lib.rt:44:9
 checked-requires : tie.Need-checked-requires
@@ -28,7 +30,8 @@ returns c =
     let k = c .before in
     let a = k .before .before .before .before .args in
     let x = up-no (a .state .now) (a .events .now) (k .checked .result) (a .clock) (k .checked .ensures) (c .if1 .taken) in
-    (x .answer, (x .words, x .events))
+    let e = x .answer in
+    (told-says (up-told (a .state .now) (length (a .events .now)) (a .clock)) e, (e, (x .words, x .events)))
 
 -- src/lib.rt:48:9
 up-requires : tie.Need-up-requires
@@ -37,7 +40,7 @@ up-requires c κs =
     let k = e .before in
     let a = k .before .before .before .before .args in
     let p = passed (eventsFit (length (a .events .now))) true true (a .state .now) (k .checked .result) (k .checked .ensures) (e .if1 .left) in
-    (bring-sound (eventsFit (length (a .events .now))) true (a .state .now) (k .checked .result) (k .checked .ensures) (e .if1 .left), leb-true 13056 (length (a .events .now)) (p .room))
+    (sound (eventsFit (length (a .events .now))) true (a .state .now) (k .checked .result) (k .checked .ensures) (e .if1 .left), leb-true 13056 (length (a .events .now)) (p .room))
 
 -- src/lib.rt:50:27
 enum-known-told : tie.Need-enum-known-told
@@ -65,7 +68,8 @@ returns-2 c =
     let g = good-passed (eventsFit (length (a .events .now))) true (a .state .now) (k .checked .result) (k .checked .ensures) (e .if1 .left) in
     let d = y .up .ensures .1 .1 (decode (a .state .now)) (held (eventsFit (length (a .events .now))) true true (a .state .now) (k .checked .result) (k .checked .ensures) (e .if1 .left)) (g .fits) in
     let x = up-yes (a .state .now) (a .events .now) (k .checked .result) (a .clock) (k .checked .ensures) _ _ (y .up .result) (e .if1 .left) d (y .up .ensures .1 .0) in
-    (ap toldOf (sym (c .before .told .given .1)) ∙ x .answer, (x .words, x .events))
+    let e = ap toldOf (sym (c .before .told .given .1)) ∙ x .answer in
+    (told-says (up-told (a .state .now) (length (a .events .now)) (a .clock)) e, (e, (x .words, x .events)))
 
 -- src/lib.rt:39:1
 same-length-4 : tie.Need-same-length-4
@@ -85,7 +89,8 @@ returns-3 c =
     let g = good-passed (eventsFit (length (a .events .now))) true (a .state .now) (k .checked .result) (k .checked .ensures) (e .if1 .left) in
     let d = y .up .ensures .1 .1 (decode (a .state .now)) (held (eventsFit (length (a .events .now))) true true (a .state .now) (k .checked .result) (k .checked .ensures) (e .if1 .left)) (g .fits) in
     let x = up-yes (a .state .now) (a .events .now) (k .checked .result) (a .clock) (k .checked .ensures) _ _ (y .up .result) (e .if1 .left) d (y .up .ensures .1 .0) in
-    (ap toldOf (sym (c .enum-told .given .1)) ∙ x .answer, (x .words, x .events))
+    let e = ap toldOf (sym (c .enum-told .given .1)) ∙ x .answer in
+    (told-says (up-told (a .state .now) (length (a .events .now)) (a .clock)) e, (e, (x .words, x .events)))
 
 pub up-spec : {M : Type 1} → statement M
 up-spec =

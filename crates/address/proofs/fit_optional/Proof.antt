@@ -1,11 +1,11 @@
--- `address::fit_optional` meets its contract: what it computes is the definition.
+-- `address::fit_optional` meets its contract: a mark is 1, 0 or more.
 -- Assumes nothing.
-use mathlib.Core.Path.{refl}
+use Rattle.address.specs.Laws.{mark-tests}
 use Rattle.address.proofs.fit_optional.Statement.{statement}
 use Rattle.address.proofs.fit_optional.Tie as tie
 
 returns : tie.Need-returns
-returns c = refl
+returns c = mark-tests (c .args .present) (c .args .value)
 
 pub fit-optional-spec : {M : Type 1} → statement M
 fit-optional-spec = tie.close (tie.spec returns)

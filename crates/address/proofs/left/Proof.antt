@@ -2,15 +2,16 @@
 -- Assumes nothing.
 use mathlib.Core.Path.{sym, _∙_}
 use borrow.Author.Needs.{needs}
-use Rattle.address.specs.Laws.{fit-length, left-answered, left-refused}
+use Rattle.address.specs.Laws.{left-answered, left-refused}
 use Rattle.address.proofs.left.Statement.{statement}
 use Rattle.address.proofs.left.Tie as tie
+use Rattle.definition.specs.Kept.Fit.{length-address}
 
 fit-address-requires : tie.Need-fit-address-requires
 fit-address-requires c κs = search needs
 
 v4-of-requires : tie.Need-v4-of-requires
-v4-of-requires c κs = fit-length (c .before .before .before .args .row .now) (sym (c .before .fit-address .ensures) ∙ c .if1 .taken)
+v4-of-requires c κs = length-address (c .before .before .before .args .row .now) (sym (c .before .fit-address .ensures) ∙ c .if1 .taken)
 
 left-requires : tie.Need-left-requires
 left-requires c κs = search needs

@@ -1,13 +1,13 @@
 -- `address::record_of` meets its contract: the words of the clocks fit 32 bits, so that the row is had again.
 -- Assumes nothing.
 use mathlib.Core.Path.{ap, _∙_}
-use Rattle.address.specs.Laws.{fit-length}
 use Rattle.address.specs.Words.{rowOf, row-again}
 use Rattle.address.proofs.record_of.Statement.{statement}
 use Rattle.address.proofs.record_of.Tie as tie
+use Rattle.definition.specs.Kept.Fit.{length-address}
 
 v4-of-requires : tie.Need-v4-of-requires
-v4-of-requires c κs = fit-length (c .before .args .row .now) (c .before .pre)
+v4-of-requires c κs = length-address (c .before .args .row .now) (c .before .pre)
 
 returns : tie.Need-returns
 returns c =

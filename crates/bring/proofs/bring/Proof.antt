@@ -1,6 +1,7 @@
 use lib.Dec.{lit<}
 use Rattle.lists.specs.Pass.{part-fit}
-use Rattle.bring.specs.Sound.{rest-room, rows-are, sound-long}
+use Rattle.state.specs.Holds.{sound-long}
+use Rattle.bring.specs.Sound.{rest-room, rows-are}
 use Prim.Native.Nat.{_+_, _-_, _≤_}
 use mathlib.Core.Path.{_≡_, refl, sym, _∙_}
 use native.Mathlib.Omega.{arith}

@@ -3,7 +3,8 @@ use mathlib.Core.Path.{refl, sym, _∙_}
 use native.Mathlib.Omega.{arith}
 use lib.ListN.{getD}
 use mathlib.Core.List.{[]}
-use Rattle.bring.specs.Sound.{sound-valid, sound-few, sound-long, rest-room, rows-are}
+use Rattle.state.specs.Holds.{sound-valid, sound-few, sound-long}
+use Rattle.bring.specs.Sound.{rest-room, rows-are}
 use Rattle.bring.specs.Change.{old-row, old-fit, old-long, row-room, changed-fit, change-full, change-sound, change-count, change-done}
 use Rattle.definition.specs.Kept.Fit.{length-address}
 use borrow.Author.Needs.{needs}

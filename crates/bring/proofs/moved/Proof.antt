@@ -3,7 +3,8 @@ use native.Mathlib.Omega.{arith}
 use borrow.Author.Tests.{not-true, not-false}
 use lib.ListN.{getD}
 use Rattle.subnet.specs.Laws.{fit-short}
-use Rattle.bring.specs.Sound.{sound-valid, rest-room, rows-are}
+use Rattle.state.specs.Holds.{sound-valid}
+use Rattle.bring.specs.Sound.{rest-room, rows-are}
 use Rattle.bring.specs.Change.{moved-none, moved-full, moved-both, route-row, row-fits, row-wide}
 use borrow.Author.Needs.{needs}
 use Rattle.bring.proofs.moved.Statement.{statement}

@@ -1,11 +1,11 @@
 use mathlib.Core.Path.{refl, sym, _∙_}
 use native.Mathlib.Omega.{arith}
-use Rattle.state.specs.Holds.{count-addresses}
+use Rattle.state.specs.Holds.{count-addresses, sound-valid, sound-long}
 use Rattle.view.specs.Parts.{ready-addresses, of-addresses}
 use Rattle.definition.specs.Kept.Fit.{length-address}
 use Prim.Native.Nat.{_+_, _*_}
 use Rattle.subnet.specs.Laws.{fit-short}
-use Rattle.bring.specs.Sound.{sound-valid, sound-long, rest-room, joined-few}
+use Rattle.bring.specs.Sound.{rest-room, joined-few}
 use Rattle.bring.specs.New.{placed, told-length, new-full, placed-fit, placed-holds, placed-count, new-ready, new-done}
 use borrow.Author.Needs.{needs}
 use Rattle.bring.proofs.new_address.Statement.{statement}

@@ -3,7 +3,7 @@
 use denote.Ref.{now}
 use lib.ListN.{length}
 use borrow.Author.Tests.{le-leb, lt-leb}
-use Rattle.reply.specs.Told.{small}
+use Rattle.changes.specs.Told.{small}
 use Rattle.calls.specs.Numbered.{changeBy}
 use Rattle.calls.specs.Laws.{change-told, called-change, called-read}
 use borrow.Author.Needs.{needs}

@@ -9,8 +9,7 @@ use Rattle.interface.specs.Answer.{numbers, foundBy, localBy, chosenBy, sourced
 use Rattle.dump.specs.Answer.{listedBy}
 use Rattle.address.specs.Row.{replyOf as address·replyOf}
 use Rattle.calls.specs.Numbered.{readBy, clockOf}
-use Rattle.reply.specs.Reading.{lookup4-numbers, lookup4-flow-numbers, local4-numbers, source4-numbers, source-numbers, select4-numbers}
-use Rattle.reply.specs.Listing.{dump4-lists, listed-small}
+use Rattle.dump.specs.Listing.{dump4-lists, listed-small}
 use Rattle.calls.specs.Laws.{writes, answers, read-rest, local4-quiet, source4-quiet, source-quiet, select4-quiet, left-quiet}
 use borrow.Author.Needs.{needs}
 use Rattle.calls.proofs.read.Statement.{statement}
@@ -87,7 +86,7 @@ returns c =
     let z = a .c in
     let n = length (now (a .buffer)) in
     let w = now (a .state) in
-    writes (a .code) row x y z n w (dump4Call n w) (listedBy (k .dump4 .result)) (ap (λ (k : ℕ). readBy k row x y z n w) (sym (m .match .keys1))) (c .listed .ensures) (ap listedBy (k .dump4 .ensures .0) ∙ dump4-lists w n .says) (k .dump4 .ensures .1)
+    writes (a .code) row x y z n w (dump4Call n w) (listedBy (k .dump4 .result)) (ap (λ (k : ℕ). readBy k row x y z n w) (sym (m .match .keys1))) (c .listed .ensures) (k .dump4 .ensures .0) (k .dump4 .ensures .1 .1)
 
 same-length-2 : tie.Need-same-length-2
 same-length-2 c = search needs
@@ -104,7 +103,7 @@ returns-2 c =
     let z = a .c in
     let n = length (now (a .buffer)) in
     let w = now (a .state) in
-    writes (a .code) row x y z n w (lookup4Call n x w) (foundBy (k .lookup4 .result)) (ap (λ (k : ℕ). readBy k row x y z n w) (sym (m .match .keys2))) (c .found .ensures) (ap foundBy (k .lookup4 .ensures .0) ∙ lookup4-numbers w n x) (k .lookup4 .ensures .1)
+    writes (a .code) row x y z n w (lookup4Call n x w) (foundBy (k .lookup4 .result)) (ap (λ (k : ℕ). readBy k row x y z n w) (sym (m .match .keys2))) (c .found .ensures) (k .lookup4 .ensures .0) (k .lookup4 .ensures .1 .1)
 
 same-length-3 : tie.Need-same-length-3
 same-length-3 c = search needs
@@ -121,7 +120,7 @@ returns-3 c =
     let z = a .c in
     let n = length (now (a .buffer)) in
     let w = now (a .state) in
-    writes (a .code) row x y z n w (lookup4FlowCall n x y z w) (foundBy (k .lookup4-flow .result)) (ap (λ (k : ℕ). readBy k row x y z n w) (sym (m .match .keys3))) (c .found2 .ensures) (ap foundBy (k .lookup4-flow .ensures .0) ∙ lookup4-flow-numbers w n x y z) (k .lookup4-flow .ensures .1)
+    writes (a .code) row x y z n w (lookup4FlowCall n x y z w) (foundBy (k .lookup4-flow .result)) (ap (λ (k : ℕ). readBy k row x y z n w) (sym (m .match .keys3))) (c .found2 .ensures) (k .lookup4-flow .ensures .0) (k .lookup4-flow .ensures .1 .1)
 
 returns-4 : tie.Need-returns-4
 unfolding readBy
@@ -135,7 +134,7 @@ returns-4 c =
     let z = a .c in
     let n = length (now (a .buffer)) in
     let w = now (a .state) in
-    answers (a .code) row x y z n w (local4Call x w) (localBy (k .local4 .result)) (ap (λ (k : ℕ). readBy k row x y z n w) (sym (m .match .keys4))) (c .local .ensures) (ap localBy (k .local4 .ensures) ∙ local4-numbers w x) (local4-quiet w x)
+    answers (a .code) row x y z n w (local4Call x w) (localBy (k .local4 .result)) (ap (λ (k : ℕ). readBy k row x y z n w) (sym (m .match .keys4))) (c .local .ensures) (k .local4 .ensures .0) (local4-quiet w x)
 
 returns-5 : tie.Need-returns-5
 unfolding readBy
@@ -149,7 +148,7 @@ returns-5 c =
     let z = a .c in
     let n = length (now (a .buffer)) in
     let w = now (a .state) in
-    answers (a .code) row x y z n w (source4Call row x w) (chosenBy (k .source4 .result)) (ap (λ (k : ℕ). readBy k row x y z n w) (sym (m .match .keys5))) (c .chosen .ensures) (ap chosenBy (k .source4 .ensures) ∙ source4-numbers w row x) (source4-quiet w row x)
+    answers (a .code) row x y z n w (source4Call row x w) (chosenBy (k .source4 .result)) (ap (λ (k : ℕ). readBy k row x y z n w) (sym (m .match .keys5))) (c .chosen .ensures) (k .source4 .ensures .0) (source4-quiet w row x)
 
 returns-6 : tie.Need-returns-6
 unfolding readBy
@@ -163,7 +162,7 @@ returns-6 c =
     let z = a .c in
     let n = length (now (a .buffer)) in
     let w = now (a .state) in
-    answers (a .code) row x y z n w (sourceCall x w) (sourcedBy (k .source .result)) (ap (λ (k : ℕ). readBy k row x y z n w) (sym (m .match .keys6))) (c .sourced .ensures) (ap sourcedBy (k .source .ensures) ∙ source-numbers w x) (source-quiet w x)
+    answers (a .code) row x y z n w (sourceCall x w) (sourcedBy (k .source .result)) (ap (λ (k : ℕ). readBy k row x y z n w) (sym (m .match .keys6))) (c .sourced .ensures) (k .source .ensures .0) (source-quiet w x)
 
 returns-7 : tie.Need-returns-7
 unfolding readBy
@@ -177,7 +176,7 @@ returns-7 c =
     let z = a .c in
     let n = length (now (a .buffer)) in
     let w = now (a .state) in
-    answers (a .code) row x y z n w (select4Call x y z w) (chosenBy (k .select4 .result)) (ap (λ (k : ℕ). readBy k row x y z n w) (sym (m .match .keys7))) (c .chosen2 .ensures) (ap chosenBy (k .select4 .ensures) ∙ select4-numbers w x y z) (select4-quiet w x y z)
+    answers (a .code) row x y z n w (select4Call x y z w) (chosenBy (k .select4 .result)) (ap (λ (k : ℕ). readBy k row x y z n w) (sym (m .match .keys7))) (c .chosen2 .ensures) (k .select4 .ensures .0) (select4-quiet w x y z)
 
 returns-8 : tie.Need-returns-8
 returns-8 c =

@@ -1,20 +1,19 @@
+use lib.ListN.{length}
 use native.Mathlib.Omega.{arith}
 use mathlib.Core.Path.{_∙_}
-use mathlib.Core.Bool.{true, _&&_}
-use lib.ListN.{length}
 use Rattle.layout.specs.Request.{addRoute4Size, fitAddRoute4}
 use Rattle.definition.specs.Words.{decode}
-use Rattle.definition.specs.Step.{addRoute4Call, requestIs, eventsFit}
+use Rattle.definition.specs.Step.{addRoute4Call}
 use Rattle.definition.specs.Reference.Routes.{addRoute4}
 use Rattle.definition.specs.Kept.Numbers.{addRoute4-number}
-use Rattle.interface.specs.Laws.{valid, held}
-use Rattle.changes.specs.Requests.{sound, fit-decoded, by-fit, request-no, request-fits, request-yes}
+use Rattle.changes.specs.Requests.{asked-sound, request-no, request-asked, request-yes}
+use Rattle.changes.specs.Told.{add-route4-told, told-says}
 use borrow.Author.Needs.{needs}
 use Rattle.changes.proofs.add_route4.Statement.{statement}
 use Rattle.changes.proofs.add_route4.Tie as tie
 use Rattle.changes.proofs.add_route4.Reads as reads
 use Rattle.changes.proofs.add_route4.Lts as lts
-use Rattle.changes.proofs.fit_add_route4.Reads as fit-add-route4-reads
+use Rattle.fit.proofs.fit_add_route4.Reads as fit-add-route4-reads
 use Rattle.changes.proofs.public_of.Reads as public-of-reads
 use Rattle.interface.proofs.checked.Reads as checked-reads
 use Rattle.request.proofs.add_route4.Reads as add-route4-reads
@@ -39,7 +38,8 @@ returns c =
     let i = k .before .before in
     let a = i .before .before .before .before .args in
     let x = request-no (a .q .now) (a .state .now) (a .events .now) (k .checked .result) addRoute4Size (fitAddRoute4 (a .q .now)) (i .fit-add-route4 .result) (addRoute4 (a .q .now)) (i .fit-add-route4 .ensures) (k .checked .ensures) (c .if1 .taken) in
-    (x .answer, (x .words, x .events))
+    let e = x .answer in
+    (told-says (add-route4-told (a .state .now) (length (a .events .now)) (a .q .now)) e, (e, (x .words, x .events)))
 
 -- src/lib.rt:69:15
 add-route4-requires : tie.Need-add-route4-requires
@@ -48,8 +48,8 @@ add-route4-requires c κs =
     let k = e .before in
     let i = k .before .before in
     let a = i .before .before .before .before .args in
-    let p = request-fits (a .q .now) (a .state .now) (a .events .now) (k .checked .result) addRoute4Size (fitAddRoute4 (a .q .now)) (i .fit-add-route4 .result) (addRoute4 (a .q .now)) (i .fit-add-route4 .ensures) (k .checked .ensures) (e .if1 .left) in
-    (sound (requestIs addRoute4Size (a .q .now) && eventsFit (length (a .events .now))) (fitAddRoute4 (a .q .now)) (a .state .now) (k .checked .result) (by-fit (a .q .now) (a .state .now) (a .events .now) (k .checked .result) addRoute4Size (fitAddRoute4 (a .q .now)) (i .fit-add-route4 .result) (addRoute4 (a .q .now)) (i .fit-add-route4 .ensures) (k .checked .ensures)) (e .if1 .left), ((p .0, p .1), omega (arith, p .2)))
+    let p = request-asked (a .q .now) (a .state .now) (a .events .now) (k .checked .result) addRoute4Size (fitAddRoute4 (a .q .now)) (i .fit-add-route4 .result) (addRoute4 (a .q .now)) (i .fit-add-route4 .ensures) (k .checked .ensures) (e .if1 .left) in
+    (asked-sound p, ((p .long, p .fit), omega (arith, p .room)))
 
 -- src/lib.rt:69:5
 public-of-requires : tie.Need-public-of-requires
@@ -72,10 +72,11 @@ returns-2 c =
     let k = e .before in
     let i = k .before .before in
     let a = i .before .before .before .before .args in
-    let p = request-fits (a .q .now) (a .state .now) (a .events .now) (k .checked .result) addRoute4Size (fitAddRoute4 (a .q .now)) (i .fit-add-route4 .result) (addRoute4 (a .q .now)) (i .fit-add-route4 .ensures) (k .checked .ensures) (e .if1 .left) in
-    let d = y .add-route4 .ensures (decode (a .state .now)) (held (requestIs addRoute4Size (a .q .now) && eventsFit (length (a .events .now))) true (fitAddRoute4 (a .q .now)) (a .state .now) (k .checked .result) (by-fit (a .q .now) (a .state .now) (a .events .now) (k .checked .result) addRoute4Size (fitAddRoute4 (a .q .now)) (i .fit-add-route4 .result) (addRoute4 (a .q .now)) (i .fit-add-route4 .ensures) (k .checked .ensures)) (e .if1 .left)) (fit-decoded (requestIs addRoute4Size (a .q .now) && eventsFit (length (a .events .now))) (fitAddRoute4 (a .q .now)) (a .state .now) (k .checked .result) (by-fit (a .q .now) (a .state .now) (a .events .now) (k .checked .result) addRoute4Size (fitAddRoute4 (a .q .now)) (i .fit-add-route4 .result) (addRoute4 (a .q .now)) (i .fit-add-route4 .ensures) (k .checked .ensures)) (e .if1 .left)) in
-    let x = request-yes (a .q .now) (a .state .now) (a .events .now) (k .checked .result) addRoute4Size (fitAddRoute4 (a .q .now)) (i .fit-add-route4 .result) (addRoute4 (a .q .now)) (i .fit-add-route4 .ensures) (k .checked .ensures) _ _ (y .add-route4 .result) (e .if1 .left) (addRoute4-number (a .q .now) (decode (a .state .now)) (p .1)) d in
-    (c .public-of .ensures ∙ x .answer, (x .words, x .events))
+    let p = request-asked (a .q .now) (a .state .now) (a .events .now) (k .checked .result) addRoute4Size (fitAddRoute4 (a .q .now)) (i .fit-add-route4 .result) (addRoute4 (a .q .now)) (i .fit-add-route4 .ensures) (k .checked .ensures) (e .if1 .left) in
+    let d = y .add-route4 .ensures (decode (a .state .now)) (p .holds) (p .good .fits) in
+    let x = request-yes p _ _ (y .add-route4 .result) (addRoute4-number (a .q .now) (decode (a .state .now)) (p .fit)) d in
+    let e = c .public-of .ensures ∙ x .answer in
+    (told-says (add-route4-told (a .state .now) (length (a .events .now)) (a .q .now)) e, (e, (x .words, x .events)))
 
 pub add-route4-spec : {M : Type 1} → statement M
 add-route4-spec =

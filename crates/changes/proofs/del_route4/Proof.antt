@@ -1,20 +1,20 @@
+use lib.ListN.{length}
 use native.Mathlib.Omega.{arith}
 use mathlib.Core.Path.{_∙_}
-use mathlib.Core.Bool.{true, _&&_}
-use lib.ListN.{length}
 use Rattle.layout.specs.Request.{delRoute4Size, fitDelRoute4}
 use Rattle.definition.specs.Words.{decode}
-use Rattle.definition.specs.Step.{delRoute4Call, requestIs, eventsFit}
+use Rattle.definition.specs.Step.{delRoute4Call}
 use Rattle.definition.specs.Reference.Routes.{delRoute4Request}
 use Rattle.definition.specs.Kept.Numbers.{delRoute4-number}
-use Rattle.interface.specs.Laws.{valid, held}
-use Rattle.changes.specs.Requests.{sound, fit-decoded, by-fit, request-no, request-fits, request-yes}
+use Rattle.state.specs.Holds.{sound-valid}
+use Rattle.changes.specs.Requests.{asked-sound, request-no, request-asked, request-yes}
+use Rattle.changes.specs.Told.{del-route4-told, told-says}
 use borrow.Author.Needs.{needs}
 use Rattle.changes.proofs.del_route4.Statement.{statement}
 use Rattle.changes.proofs.del_route4.Tie as tie
 use Rattle.changes.proofs.del_route4.Reads as reads
 use Rattle.changes.proofs.del_route4.Lts as lts
-use Rattle.changes.proofs.fit_del_route4.Reads as fit-del-route4-reads
+use Rattle.fit.proofs.fit_del_route4.Reads as fit-del-route4-reads
 use Rattle.changes.proofs.public_of.Reads as public-of-reads
 use Rattle.interface.proofs.checked.Reads as checked-reads
 use Rattle.request.proofs.del_route4.Reads as del-route4-reads
@@ -39,7 +39,8 @@ returns c =
     let i = k .before .before in
     let a = i .before .before .before .before .args in
     let x = request-no (a .q .now) (a .state .now) (a .events .now) (k .checked .result) delRoute4Size (fitDelRoute4 (a .q .now)) (i .fit-del-route4 .result) (delRoute4Request (a .q .now)) (i .fit-del-route4 .ensures) (k .checked .ensures) (c .if1 .taken) in
-    (x .answer, (x .words, x .events))
+    let e = x .answer in
+    (told-says (del-route4-told (a .state .now) (length (a .events .now)) (a .q .now)) e, (e, (x .words, x .events)))
 
 -- src/lib.rt:82:15
 del-route4-requires : tie.Need-del-route4-requires
@@ -48,8 +49,8 @@ del-route4-requires c κs =
     let k = e .before in
     let i = k .before .before in
     let a = i .before .before .before .before .args in
-    let p = request-fits (a .q .now) (a .state .now) (a .events .now) (k .checked .result) delRoute4Size (fitDelRoute4 (a .q .now)) (i .fit-del-route4 .result) (delRoute4Request (a .q .now)) (i .fit-del-route4 .ensures) (k .checked .ensures) (e .if1 .left) in
-    (valid (requestIs delRoute4Size (a .q .now) && eventsFit (length (a .events .now))) true (fitDelRoute4 (a .q .now)) (a .state .now) (k .checked .result) (by-fit (a .q .now) (a .state .now) (a .events .now) (k .checked .result) delRoute4Size (fitDelRoute4 (a .q .now)) (i .fit-del-route4 .result) (delRoute4Request (a .q .now)) (i .fit-del-route4 .ensures) (k .checked .ensures)) (e .if1 .left), ((p .0, p .1), omega (arith, p .2)))
+    let p = request-asked (a .q .now) (a .state .now) (a .events .now) (k .checked .result) delRoute4Size (fitDelRoute4 (a .q .now)) (i .fit-del-route4 .result) (delRoute4Request (a .q .now)) (i .fit-del-route4 .ensures) (k .checked .ensures) (e .if1 .left) in
+    (sound-valid (asked-sound p), ((p .long, p .fit), omega (arith, p .room)))
 
 -- src/lib.rt:82:5
 public-of-requires : tie.Need-public-of-requires
@@ -72,10 +73,11 @@ returns-2 c =
     let k = e .before in
     let i = k .before .before in
     let a = i .before .before .before .before .args in
-    let p = request-fits (a .q .now) (a .state .now) (a .events .now) (k .checked .result) delRoute4Size (fitDelRoute4 (a .q .now)) (i .fit-del-route4 .result) (delRoute4Request (a .q .now)) (i .fit-del-route4 .ensures) (k .checked .ensures) (e .if1 .left) in
-    let d = y .del-route4 .ensures (decode (a .state .now)) (held (requestIs delRoute4Size (a .q .now) && eventsFit (length (a .events .now))) true (fitDelRoute4 (a .q .now)) (a .state .now) (k .checked .result) (by-fit (a .q .now) (a .state .now) (a .events .now) (k .checked .result) delRoute4Size (fitDelRoute4 (a .q .now)) (i .fit-del-route4 .result) (delRoute4Request (a .q .now)) (i .fit-del-route4 .ensures) (k .checked .ensures)) (e .if1 .left)) in
-    let x = request-yes (a .q .now) (a .state .now) (a .events .now) (k .checked .result) delRoute4Size (fitDelRoute4 (a .q .now)) (i .fit-del-route4 .result) (delRoute4Request (a .q .now)) (i .fit-del-route4 .ensures) (k .checked .ensures) _ _ (y .del-route4 .result) (e .if1 .left) (delRoute4-number (a .q .now) (decode (a .state .now))) d in
-    (c .public-of .ensures ∙ x .answer, (x .words, x .events))
+    let p = request-asked (a .q .now) (a .state .now) (a .events .now) (k .checked .result) delRoute4Size (fitDelRoute4 (a .q .now)) (i .fit-del-route4 .result) (delRoute4Request (a .q .now)) (i .fit-del-route4 .ensures) (k .checked .ensures) (e .if1 .left) in
+    let d = y .del-route4 .ensures (decode (a .state .now)) (p .holds) in
+    let x = request-yes p _ _ (y .del-route4 .result) (delRoute4-number (a .q .now) (decode (a .state .now))) d in
+    let e = c .public-of .ensures ∙ x .answer in
+    (told-says (del-route4-told (a .state .now) (length (a .events .now)) (a .q .now)) e, (e, (x .words, x .events)))
 
 pub del-route4-spec : {M : Type 1} → statement M
 del-route4-spec =

@@ -1,19 +1,19 @@
-use mathlib.Core.Path.{refl, sym, ap, _∙_}
-use mathlib.Core.Bool.{_&&_}
 use lib.ListN.{length}
+use mathlib.Core.Path.{sym, ap, _∙_}
 use Rattle.layout.specs.Request.{delV4Size, fitDelV4}
 use Rattle.definition.specs.Words.{decode}
-use Rattle.definition.specs.Step.{delV4Call, requestIs, eventsFit}
+use Rattle.definition.specs.Step.{delV4Call}
 use Rattle.definition.specs.Reference.Removal.{delV4}
 use Rattle.changes.specs.Answer.{deletedOf}
-use Rattle.changes.specs.Requests.{by-fit, request-no, request-fits}
-use Rattle.changes.specs.Steps.{ready-buffer, roomy-buffer, deletes-answers}
+use Rattle.changes.specs.Requests.{request-no, request-asked}
+use Rattle.changes.specs.Steps.{roomy-held, deletes-answers}
+use Rattle.changes.specs.Told.{del-v4-told, told-says}
 use borrow.Author.Needs.{needs}
 use Rattle.changes.proofs.del_v4.Statement.{statement}
 use Rattle.changes.proofs.del_v4.Tie as tie
 use Rattle.changes.proofs.del_v4.Reads as reads
 use Rattle.changes.proofs.del_v4.Lts as lts
-use Rattle.changes.proofs.fit_del_v4.Reads as fit-del-v4-reads
+use Rattle.fit.proofs.fit_del_v4.Reads as fit-del-v4-reads
 use Rattle.delv4.proofs.del_v4.Reads as del-v4-reads
 use Rattle.interface.proofs.checked.Reads as checked-reads
 
@@ -37,7 +37,8 @@ returns c =
     let i = k .before .before in
     let a = i .before .before .before .before .args in
     let x = request-no (a .q .now) (a .state .now) (a .events .now) (k .checked .result) delV4Size (fitDelV4 (a .q .now)) (i .fit-del-v4 .result) (delV4 (a .q .now)) (i .fit-del-v4 .ensures) (k .checked .ensures) (c .if1 .taken) in
-    (x .answer, (x .words, x .events))
+    let e = x .answer in
+    (told-says (del-v4-told (a .state .now) (length (a .events .now)) (a .q .now)) e, (e, (x .words, x .events)))
 
 -- src/lib.rt:122:9
 del-v4-requires : tie.Need-del-v4-requires
@@ -46,8 +47,8 @@ del-v4-requires c κs =
     let k = e .before in
     let i = k .before .before in
     let a = i .before .before .before .before .args in
-    let p = request-fits (a .q .now) (a .state .now) (a .events .now) (k .checked .result) delV4Size (fitDelV4 (a .q .now)) (i .fit-del-v4 .result) (delV4 (a .q .now)) (i .fit-del-v4 .ensures) (k .checked .ensures) (e .if1 .left) in
-    (ready-buffer (requestIs delV4Size (a .q .now) && eventsFit (length (a .events .now))) (fitDelV4 (a .q .now)) (a .state .now) (a .events .now) (k .checked .result) (by-fit (a .q .now) (a .state .now) (a .events .now) (k .checked .result) delV4Size (fitDelV4 (a .q .now)) (i .fit-del-v4 .result) (delV4 (a .q .now)) (i .fit-del-v4 .ensures) (k .checked .ensures)) (e .if1 .left) (p .2), p .0)
+    let p = request-asked (a .q .now) (a .state .now) (a .events .now) (k .checked .result) delV4Size (fitDelV4 (a .q .now)) (i .fit-del-v4 .result) (delV4 (a .q .now)) (i .fit-del-v4 .ensures) (k .checked .ensures) (e .if1 .left) in
+    (record { state = decode (a .state .now); fits = roomy-held (a .state .now) (a .events .now) (p .good) (p .holds) (p .room) }, p .long)
 
 -- src/lib.rt:124:30
 enum-known-deleted : tie.Need-enum-known-deleted
@@ -74,10 +75,11 @@ returns-2 c =
     let k = e .before in
     let i = k .before .before in
     let a = i .before .before .before .before .args in
-    let p = request-fits (a .q .now) (a .state .now) (a .events .now) (k .checked .result) delV4Size (fitDelV4 (a .q .now)) (i .fit-del-v4 .result) (delV4 (a .q .now)) (i .fit-del-v4 .ensures) (k .checked .ensures) (e .if1 .left) in
-    let d = y .del-v4 .ensures (decode (a .state .now)) (roomy-buffer (requestIs delV4Size (a .q .now) && eventsFit (length (a .events .now))) (fitDelV4 (a .q .now)) (a .state .now) (a .events .now) (k .checked .result) (by-fit (a .q .now) (a .state .now) (a .events .now) (k .checked .result) delV4Size (fitDelV4 (a .q .now)) (i .fit-del-v4 .result) (delV4 (a .q .now)) (i .fit-del-v4 .ensures) (k .checked .ensures)) (e .if1 .left) (p .2)) in
-    let x = deletes-answers (a .q .now) (a .state .now) (a .events .now) (k .checked .result) (fitDelV4 (a .q .now)) (i .fit-del-v4 .result) (i .fit-del-v4 .ensures) refl (k .checked .ensures) (e .if1 .left) _ _ (y .del-v4 .result) d in
-    (ap deletedOf (sym (c .before .deleted .given .1)) ∙ x .answer, (x .words, x .events))
+    let p = request-asked (a .q .now) (a .state .now) (a .events .now) (k .checked .result) delV4Size (fitDelV4 (a .q .now)) (i .fit-del-v4 .result) (delV4 (a .q .now)) (i .fit-del-v4 .ensures) (k .checked .ensures) (e .if1 .left) in
+    let d = y .del-v4 .ensures (decode (a .state .now)) (roomy-held (a .state .now) (a .events .now) (p .good) (p .holds) (p .room)) in
+    let x = deletes-answers (a .q .now) (a .state .now) (a .events .now) p _ _ (y .del-v4 .result) d in
+    let e = ap deletedOf (sym (c .before .deleted .given .1)) ∙ x .answer in
+    (told-says (del-v4-told (a .state .now) (length (a .events .now)) (a .q .now)) e, (e, (x .words, x .events)))
 
 -- src/lib.rt:112:1
 same-length-4 : tie.Need-same-length-4
@@ -96,10 +98,11 @@ returns-3 c =
     let k = e .before in
     let i = k .before .before in
     let a = i .before .before .before .before .args in
-    let p = request-fits (a .q .now) (a .state .now) (a .events .now) (k .checked .result) delV4Size (fitDelV4 (a .q .now)) (i .fit-del-v4 .result) (delV4 (a .q .now)) (i .fit-del-v4 .ensures) (k .checked .ensures) (e .if1 .left) in
-    let d = y .del-v4 .ensures (decode (a .state .now)) (roomy-buffer (requestIs delV4Size (a .q .now) && eventsFit (length (a .events .now))) (fitDelV4 (a .q .now)) (a .state .now) (a .events .now) (k .checked .result) (by-fit (a .q .now) (a .state .now) (a .events .now) (k .checked .result) delV4Size (fitDelV4 (a .q .now)) (i .fit-del-v4 .result) (delV4 (a .q .now)) (i .fit-del-v4 .ensures) (k .checked .ensures)) (e .if1 .left) (p .2)) in
-    let x = deletes-answers (a .q .now) (a .state .now) (a .events .now) (k .checked .result) (fitDelV4 (a .q .now)) (i .fit-del-v4 .result) (i .fit-del-v4 .ensures) refl (k .checked .ensures) (e .if1 .left) _ _ (y .del-v4 .result) d in
-    (ap deletedOf (sym (c .enum-told .given .1)) ∙ x .answer, (x .words, x .events))
+    let p = request-asked (a .q .now) (a .state .now) (a .events .now) (k .checked .result) delV4Size (fitDelV4 (a .q .now)) (i .fit-del-v4 .result) (delV4 (a .q .now)) (i .fit-del-v4 .ensures) (k .checked .ensures) (e .if1 .left) in
+    let d = y .del-v4 .ensures (decode (a .state .now)) (roomy-held (a .state .now) (a .events .now) (p .good) (p .holds) (p .room)) in
+    let x = deletes-answers (a .q .now) (a .state .now) (a .events .now) p _ _ (y .del-v4 .result) d in
+    let e = ap deletedOf (sym (c .enum-told .given .1)) ∙ x .answer in
+    (told-says (del-v4-told (a .state .now) (length (a .events .now)) (a .q .now)) e, (e, (x .words, x .events)))
 
 pub del-v4-spec : {M : Type 1} → statement M
 del-v4-spec =

@@ -4,6 +4,7 @@ use Rattle.definition.specs.Words.{decode}
 use Rattle.definition.specs.Step.{eventsFit}
 use Rattle.interface.specs.Laws.{valid, held}
 use Rattle.changes.specs.Laws.{down-no, down-yes}
+use Rattle.changes.specs.Told.{down-told, told-says}
 use borrow.Author.Needs.{needs}
 use Rattle.changes.proofs.down.Statement.{statement}
 use Rattle.changes.proofs.down.Tie as tie
@@ -26,7 +27,8 @@ returns c =
     let k = c .before in
     let a = k .before .before .before .before .args in
     let x = down-no (a .state .now) (a .events .now) (k .checked .result) (k .checked .ensures) (c .if1 .taken) in
-    (x .answer, (x .words, x .events))
+    let e = x .answer in
+    (told-says (down-told (a .state .now) (length (a .events .now))) e, (e, (x .words, x .events)))
 
 -- src/lib.rt:23:5
 down-requires : tie.Need-down-requires
@@ -49,7 +51,8 @@ returns-2 c =
     let a = k .before .before .before .before .args in
     let h = held (eventsFit (length (a .events .now))) true true (a .state .now) (k .checked .result) (k .checked .ensures) (e .if1 .left) in
     let x = down-yes (a .state .now) (a .events .now) (k .checked .result) (k .checked .ensures) _ (e .if1 .left) (y .down .ensures (decode (a .state .now)) h) in
-    (x .answer, (x .words, x .events))
+    let e = x .answer in
+    (told-says (down-told (a .state .now) (length (a .events .now))) e, (e, (x .words, x .events)))
 
 pub down-spec : {M : Type 1} → statement M
 down-spec =

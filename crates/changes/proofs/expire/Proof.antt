@@ -2,7 +2,8 @@ use lib.Dec.{leb}
 use lib.ListN.{length}
 use Rattle.definition.specs.Words.{decode}
 use Rattle.definition.specs.Step.{eventsFit, clockLimit}
-use Rattle.changes.specs.Steps.{expire-no, expire-room, expire-yes, ready-buffer, roomy-buffer}
+use Rattle.changes.specs.Steps.{expire-no, expire-room, expire-yes, roomy-buffer}
+use Rattle.changes.specs.Told.{expire-told, told-says}
 use borrow.Author.Needs.{needs}
 use Rattle.changes.proofs.expire.Statement.{statement}
 use Rattle.changes.proofs.expire.Tie as tie
@@ -25,7 +26,8 @@ returns c =
     let k = c .before in
     let a = k .before .before .before .before .args in
     let x = expire-no (a .state .now) (a .events .now) (k .checked .result) (a .clock) (k .checked .ensures) (c .if1 .taken) in
-    (x .answer, (x .words, x .events))
+    let e = x .answer in
+    (told-says (expire-told (a .state .now) (length (a .events .now)) (a .clock)) e, (e, (x .words, x .events)))
 
 -- src/lib.rt:42:16
 expire-requires : tie.Need-expire-requires
@@ -33,7 +35,7 @@ expire-requires c κs =
     let e = c .before .before in
     let k = e .before in
     let a = k .before .before .before .before .args in
-    ready-buffer (eventsFit (length (a .events .now))) (leb (a .clock) clockLimit) (a .state .now) (a .events .now) (k .checked .result) (k .checked .ensures) (e .if1 .left) (expire-room (a .state .now) (a .events .now) (k .checked .result) (a .clock) (k .checked .ensures) (e .if1 .left))
+    record { state = decode (a .state .now); fits = roomy-buffer (eventsFit (length (a .events .now))) (leb (a .clock) clockLimit) (a .state .now) (a .events .now) (k .checked .result) (k .checked .ensures) (e .if1 .left) (expire-room (a .state .now) (a .events .now) (k .checked .result) (a .clock) (k .checked .ensures) (e .if1 .left)) }
 
 -- src/lib.rt:33:1
 same-length-2 : tie.Need-same-length-2
@@ -52,7 +54,8 @@ returns-2 c =
     let a = k .before .before .before .before .args in
     let t = y .expire .ensures (decode (a .state .now)) (roomy-buffer (eventsFit (length (a .events .now))) (leb (a .clock) clockLimit) (a .state .now) (a .events .now) (k .checked .result) (k .checked .ensures) (e .if1 .left) (expire-room (a .state .now) (a .events .now) (k .checked .result) (a .clock) (k .checked .ensures) (e .if1 .left))) in
     let x = expire-yes (a .state .now) (a .events .now) (k .checked .result) (a .clock) (k .checked .ensures) _ _ (y .expire .result) (e .if1 .left) t in
-    (x .answer, (x .words, x .events))
+    let e = x .answer in
+    (told-says (expire-told (a .state .now) (length (a .events .now)) (a .clock)) e, (e, (x .words, x .events)))
 
 pub expire-spec : {M : Type 1} → statement M
 expire-spec =

@@ -8,7 +8,8 @@ use mathlib.Core.Option.{Option, none, some}
 use lib.Dec.{eqb}
 use lib.ListN.{length}
 use Rattle.lists.specs.Lists.{Row, all, any, keep, first, removeFirst}
-use Rattle.lists.specs.All.{cond-case, all-cons, all-append, all-first, all-replaceFirst, all-behindLast}
+use Rattle.lists.specs.Bools.{cond-case}
+use Rattle.lists.specs.All.{all-cons, all-append, all-first, all-replaceFirst, all-behindLast}
 use Rattle.layout.specs.Address.{fitAddress}
 use Rattle.layout.specs.Address as Address
 use Rattle.layout.specs.Route.{fitRoute, table}
@@ -126,11 +127,11 @@ addV4-keeps q now long g =
     }
 
 -- ---- up and down
-step-kept : (o : Outcome) → KeptOutcome o → Kept (step o)
+pub step-kept : (o : Outcome) → KeptOutcome o → Kept (step o)
 step-kept (Outcome.goes o) k = k
 step-kept (Outcome.refused n st) f = stays-keeps .kept st f
 
-loopback-fit : fitAddV4 loopback ≡ true
+pub loopback-fit : fitAddV4 loopback ≡ true
 unfolding fitAddV4
 loopback-fit = refl
 

@@ -10,7 +10,7 @@ use lib.Dec.{leb}
 use lib.ListN.{length}
 use borrow.Author.Tests.{eqb-true}
 use Rattle.lists.specs.Lists.{Row}
-use Rattle.lists.specs.All.{and-left}
+use Rattle.lists.specs.Bools.{and-left}
 use Rattle.life.specs.Life.{allowance}
 use Rattle.layout.specs.Request.{fitAddV4, fitDelV4, fitAddRoute4, fitDelRoute4}
 use Rattle.definition.specs.State.{State, Out}

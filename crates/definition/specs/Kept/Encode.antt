@@ -10,7 +10,7 @@ use lib.ListN.{length, getD, take, drop, length-append, length-drop, take-append
 use lib.Seq.{drop-at, take-at, drop-drop, take-all}
 use borrow.Author.Tests.{leb-true, le-leb}
 use Rattle.lists.specs.Lists.{allZero, flat, zeros, pad, span, chop}
-use Rattle.lists.specs.All.{and-both, and-iff}
+use Rattle.lists.specs.Bools.{and-both, and-iff}
 use Rattle.lists.specs.Rows.{length-pad, length-flat, chop-pad, allZero-pad, allZero-end, span-past, pad-chop, pad-take, length-chop, length-span, pad-nil, zeros-append, zeros-cons}
 use Rattle.definition.specs.State.{State, sizes, empty}
 use Rattle.definition.specs.Kept.Fit.{Fit, fit-state, sized-addresses, sized-routes}

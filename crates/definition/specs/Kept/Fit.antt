@@ -8,7 +8,8 @@ use lib.Dec.{eqb, leb, ltb}
 use lib.ListN.{length}
 use borrow.Author.Tests.{eqb-true, eq-eqb, leb-true}
 use Rattle.lists.specs.Lists.{Row, all}
-use Rattle.lists.specs.All.{and-iff, all-mono}
+use Rattle.lists.specs.Bools.{and-iff}
+use Rattle.lists.specs.All.{all-mono}
 use Rattle.lists.specs.Rows.{sized}
 use Rattle.layout.specs.Address.{fitAddress, fitLabel, optional, prefix, broadcastPresent, broadcast, scope, proto, labelLength, label}
 use Rattle.layout.specs.Route.{fitRoute, len}

@@ -8,7 +8,7 @@ use mathlib.Core.Option.{Option, none, some}
 use native.Mathlib.Omega.{arith}
 use lib.ListN.{length, length-append}
 use Rattle.lists.specs.Lists.{Row, any, first, eqRow}
-use Rattle.lists.specs.All.{cond-case, true-false}
+use Rattle.lists.specs.Bools.{cond-case, true-false}
 use Rattle.lists.specs.Count.{length-behindLast, length-around, length-around-not}
 use Rattle.layout.specs.Flags.{hasBit}
 use Rattle.layout.specs.Address.{secondary}

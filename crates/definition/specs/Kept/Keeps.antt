@@ -2,14 +2,14 @@
 -- Assumes nothing.
 use Prim.Native.Nat.{ℕ, _≤_}
 use mathlib.Core.Path.{_≡_, refl}
-use mathlib.Core.Bool.{Bool, true, cond}
+use mathlib.Core.Bool.{Bool, true}
 use mathlib.Core.List.{List, [], _∷_}
 use native.Mathlib.Omega.{arith}
 use lib.Dec.{eqb}
 use lib.ListN.{length}
 use Rattle.lists.specs.Lists.{Row, all}
 use Rattle.lists.specs.Rows.{sized}
-use Rattle.lists.specs.All.{cond-case, all-append, all-head, all-tail, all-always}
+use Rattle.lists.specs.All.{all-append, all-head, all-tail, all-always}
 use Rattle.layout.specs.Address.{fitAddress}
 use Rattle.definition.specs.State.{State, Sizes, Out, sizes, becomes, stays, also, through, withAddresses, withRoutes, withTables}
 use Rattle.definition.specs.Words.{noneTwice, fitState}
@@ -73,13 +73,6 @@ through-keeps f p (x ∷ l) g h =
 pub through-each : {A : Type 0} (f : A → State → Out) (l : List A) → ((x : A) → Keeps (f x)) → Keeps (through f l)
 through-each f l g = through-keeps f (λ x. true) l (λ x h. g x) (all-always (λ x. true) l (λ x. refl))
 
-pub cond-kept : (b : Bool) (o p : Out) → Kept o → Kept p → Kept (cond b o p)
-cond-kept b o p h k = cond-case Kept b (λ e. h) (λ e. k)
-
 -- the same with the test that a state is fit
 pub keeps-fit : (f : State → Out) → Keeps f → (st : State) → fitState st ≡ true → fitState ((f st) .state) ≡ true
 keeps-fit f k st h = state-fit ((f st) .state) ((k .kept st (fit-state st h)) .fit)
-
--- no list is left longer than the peak says
-pub peak-covers : (f : State → Out) → Keeps f → (st : State) → fitState st ≡ true → Covers (sizes ((f st) .state)) ((f st) .peak)
-peak-covers f k st h = (k .kept st (fit-state st h)) .covers

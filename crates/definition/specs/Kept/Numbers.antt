@@ -10,7 +10,7 @@ use native.Mathlib.Omega.{arith}
 use lib.Dec.{eqb, leb, ltb}
 use borrow.Author.Tests.{leb-true, eqb-false, not-true}
 use Rattle.lists.specs.Lists.{Row, any, first, eqRow}
-use Rattle.lists.specs.All.{and-iff, cond-case}
+use Rattle.lists.specs.Bools.{and-iff, cond-case}
 use Rattle.kind.specs.Kind.{isKind, errorOf, leastScope}
 use Rattle.layout.specs.Route.{alike, kind, scope, gateway, gatewayPresent, prefsrcPresent}
 use Rattle.layout.specs.Request.{fitAddRoute4, metricsError, oif, upAtAddRoute4, nlmFlags, replaceAsked}

@@ -7,7 +7,7 @@ use native.Mathlib.Omega.{arith}
 use lib.Dec.{eqb, ltb}
 use borrow.Author.Tests.{ltb-true, ltb-false, lt-ltb, eqb-true, eq-eqb}
 use Rattle.lists.specs.Lists.{Row}
-use Rattle.lists.specs.All.{or-false, and-rest, and-left, and-right, and-both, and-iff, or-case, or-left, or-right}
+use Rattle.lists.specs.Bools.{or-false, and-rest, and-left, and-right, and-both, and-iff, or-case, or-left, or-right}
 use Rattle.layout.specs.Route.{before, alike, table, dst, len, tos, priority}
 
 -- a strict order with the test that two have one place in it

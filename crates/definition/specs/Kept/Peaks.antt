@@ -9,7 +9,7 @@ use native.Mathlib.Omega.{arith}
 use lib.Dec.{eqb}
 use lib.ListN.{length, length-append, length-map}
 use Rattle.lists.specs.Lists.{Row, any, keep, first, until, onward, removeFirst, eqRow, among}
-use Rattle.lists.specs.All.{cond-case}
+use Rattle.lists.specs.Bools.{cond-case}
 use Rattle.lists.specs.Count.{length-keep, count-most, length-removeFirst-most, until-onward}
 use Rattle.layout.specs.Address.{local}
 use Rattle.layout.specs.Route as Route
@@ -19,9 +19,9 @@ use Rattle.definition.specs.State.{State, Sizes, Out, sizes, most, becom
 use Rattle.definition.specs.Words.{within}
 use Rattle.definition.specs.Reference.Lookup.{mainTable, localTable, localKind, listed, local4}
 use Rattle.definition.specs.Reference.Insert.{addTable, listTable, create4, insert4, Inserted, put, nothing, inserted, kernelAdd4, kernelDel4, named, removed}
-use Rattle.definition.specs.Reference.Addresses.{Outcome, goes, refused, candidates, bring, place4, newAddress, addedOver, addV4, sameAddress, loopback, step, up, down, hostScope}
+use Rattle.definition.specs.Reference.Addresses.{goes, refused, candidates, bring, place4, newAddress, addedOver, addV4, sameAddress, loopback, step, up, down, hostScope}
 use Rattle.definition.specs.Reference.Removal.{ofKind, unwanted, straysFrom, fall, disable, removeOne, goneWith, removeV4, deletes, deletedAt, delV4, due, fades, faded, fade, passes, expire}
-use Rattle.definition.specs.Reference.Routes.{tableNamed, badPrefix, selects, deletedRoute, delRoute4Request}
+use Rattle.definition.specs.Reference.Routes.{deletedRoute}
 use Rattle.definition.specs.Kept.Encode.{Good}
 use Rattle.definition.specs.Kept.Keeps.{Covers}
 use Rattle.definition.specs.Kept.Removal.{option-case}
@@ -166,19 +166,6 @@ deletedAt-roomy (some a) st g = under-roomy st (removeV4 a st) g (removeV4-under
 pub delV4-roomy : (q : Row) (st : State) → Good st → roomy (delV4 q st) ≡ true
 unfolding delV4
 delV4-roomy q st g = deletedAt-roomy (first (deletes q) (st .addresses)) st g
-
-deletedRoute-roomy : (q : Row) (o : Option Row) (st : State) → Good st → roomy (deletedRoute q o st) ≡ true
-deletedRoute-roomy q none st g = g .limits
-deletedRoute-roomy q (some r) st g =
-    under-roomy st (becomes (withRoutes (removeFirst (selects q) (st .routes)) st) (delRoute4 r ∷ [])) g
-    (becomes-under st (withRoutes (removeFirst (selects q) (st .routes)) st) (delRoute4 r ∷ []) (fewer-routes st (removeFirst (selects q) (st .routes)) (length-removeFirst-most (selects q) (st .routes))))
-
-pub delRoute4-roomy : (q : Row) (st : State) → Good st → roomy (delRoute4Request q st) ≡ true
-unfolding delRoute4Request
-delRoute4-roomy q st g =
-    cond-case (λ (o : Outcome). roomy o ≡ true) (listed (tableNamed q) st)
-    (λ e. cond-case (λ (o : Outcome). roomy o ≡ true) (badPrefix q) (λ d. g .limits) (λ d. deletedRoute-roomy q (first (selects q) (st .routes)) st g))
-    (λ e. g .limits)
 
 -- ---- adding steps
 pub record Rises (st : State) (o : Out) : Type 0 where

@@ -12,7 +12,8 @@ use lib.ListN.{length}
 use borrow.Author.Tests.{leb-true, eqb-true, eqb-false, ltb-true, not-true, lt-ltb, le-ltb}
 use Rattle.lists.specs.Lists.{Row, all, keep}
 use Rattle.lists.specs.Rows.{sized}
-use Rattle.lists.specs.All.{and-iff, and-right, cond-case, all-head, all-tail, test-case, fails, true-false, all-keep, all-kept}
+use Rattle.lists.specs.Bools.{and-iff, and-right, cond-case, test-case, fails, true-false}
+use Rattle.lists.specs.All.{all-head, all-tail, all-keep, all-kept}
 use Rattle.lists.specs.Count.{tick, tick-one, tick-none, tick-most, count, count-append, count-keep, count-apart, count-reverse, count-each, all-each, Once, pairwise-once, length-picked}
 use Rattle.kind.specs.Kind.{errorOf}
 use Rattle.layout.specs.Route.{fitRoute, table, len, kind}

@@ -8,7 +8,8 @@ use mathlib.Core.Option.{Option, none, some}
 use lib.Dec.{eqb}
 use lib.ListN.{length}
 use Rattle.lists.specs.Lists.{Row, all, any, keep, first, until, onward, removeFirst, eqRow}
-use Rattle.lists.specs.All.{cond-case, all-cons, all-head, all-keep, all-first, all-append, all-map, all-until, all-onward, all-removeFirst}
+use Rattle.lists.specs.Bools.{cond-case}
+use Rattle.lists.specs.All.{all-cons, all-head, all-keep, all-first, all-append, all-map, all-until, all-onward, all-removeFirst}
 use Rattle.layout.specs.Address.{fitAddress, local, secondary}
 use Rattle.layout.specs.Route as Route
 use Rattle.layout.specs.Event.{newAddr4, delAddr4}

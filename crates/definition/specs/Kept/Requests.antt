@@ -8,7 +8,8 @@ use lib.Dec.{eqb}
 use lib.ListN.{length}
 use borrow.Author.Tests.{eqb-true}
 use Rattle.lists.specs.Lists.{Row, first, removeFirst}
-use Rattle.lists.specs.All.{cond-case, all-first}
+use Rattle.lists.specs.Bools.{cond-case}
+use Rattle.lists.specs.All.{all-first}
 use Rattle.layout.specs.Route.{fitRoute, prefsrcPresent}
 use Rattle.layout.specs.Event.{newRoute4, delRoute4}
 use Rattle.layout.specs.Request.{fitAddRoute4, nlmFlags}

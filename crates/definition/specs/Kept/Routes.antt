@@ -6,7 +6,8 @@ use mathlib.Core.Bool.{Bool, true, false, cond, not}
 use mathlib.Core.List.{List, [], _∷_, _++_}
 use lib.Dec.{eqb}
 use Rattle.lists.specs.Lists.{Row, all, any, keep, first, removeFirst, replaceFirst, eqRow, among}
-use Rattle.lists.specs.All.{cond-case, not-both, not-so, all-cons, all-append, all-keep, all-kept, all-mono, all-removeFirst, all-replaceFirst, none-any, any-none, pairwise-append, pairwise-keep, pairwise-removeFirst, pairwise-around, pairwise-replaced, pairwise-replacing, eqRow-true, eqRow-sym, not-among}
+use Rattle.lists.specs.Bools.{cond-case, not-both, not-so}
+use Rattle.lists.specs.All.{all-cons, all-append, all-keep, all-kept, all-mono, all-removeFirst, all-replaceFirst, none-any, any-none, pairwise-append, pairwise-keep, pairwise-removeFirst, pairwise-around, pairwise-replaced, pairwise-replacing, eqRow-true, eqRow-sym, not-among}
 use Rattle.layout.specs.Route.{fitRoute, before, alike}
 use Rattle.definition.specs.Words.{ordered, distinct, noneTwice}
 use Rattle.definition.specs.Reference.Lookup.{mainTable, localTable}

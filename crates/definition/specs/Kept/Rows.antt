@@ -10,7 +10,8 @@ use lib.Dec.{eqb, leb, ltb}
 use lib.ListN.{length, take, drop, length-append, length-take, length-drop}
 use borrow.Author.Tests.{eqb-true, eqb-false, eq-eqb, not-false}
 use Rattle.lists.specs.Lists.{Row, all, zeros}
-use Rattle.lists.specs.All.{and-iff, or-false, cond-case, all-append, all-cons}
+use Rattle.lists.specs.Bools.{and-iff, or-false, cond-case}
+use Rattle.lists.specs.All.{all-append, all-cons}
 use Rattle.lists.specs.Rows.{sized, length-zeros}
 use Rattle.prefix.specs.Mask.{network, hostBits, broadcast}
 use Rattle.kind.specs.Kind.{isKind, errorOf, leastScope}

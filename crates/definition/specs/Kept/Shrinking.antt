@@ -11,7 +11,8 @@ use lib.ListN.{length, getD, take, length-append, length-map}
 use lib.Seq.{getD-at, length-take-le}
 use borrow.Author.Tests.{eq-eqb}
 use Rattle.lists.specs.Lists.{Row, any, keep, first, until, onward, removeFirst, eqRow}
-use Rattle.lists.specs.All.{and-iff, cond-case, test-case, all-first, all-until}
+use Rattle.lists.specs.Bools.{and-iff, cond-case, test-case}
+use Rattle.lists.specs.All.{all-first, all-until}
 use Rattle.lists.specs.Count.{any-back, onward-first, tick, tick-one, tick-none, tick-most, count, length-keep, count-most, count-append, count-removeFirst, length-removeFirst, first-any, until-onward, count-map, Within, within-first, within-rest, within-one, within-keep}
 use Rattle.layout.specs.Flags.{hasBit, setBit, clearBit}
 use Rattle.layout.specs.Address.{fitAddress, deprecated, secondary, local, flags}

@@ -11,7 +11,7 @@ use lib.Dec.{eqb}
 use lib.ListN.{length}
 use borrow.Author.Tests.{eqb-true, eq-eqb, leb-true, le-leb}
 use Rattle.lists.specs.Lists.{Row, zeros}
-use Rattle.lists.specs.All.{and-left, and-right, and-iff, cond-case, cond-true, cond-false}
+use Rattle.lists.specs.Bools.{and-left, and-right, and-iff, cond-case, cond-true, cond-false}
 use Rattle.lists.specs.Rows.{sized}
 use Rattle.definition.specs.State.{State, Sizes, Out, sizes, empty}
 use Rattle.definition.specs.Words.{within, encode, decode, wellFormed}

@@ -9,7 +9,7 @@ use lib.Dec.{eqb}
 use lib.ListN.{length, length-append}
 use borrow.Author.Tests.{leb-true}
 use Rattle.lists.specs.Lists.{Row, first}
-use Rattle.lists.specs.All.{and-iff, cond-case}
+use Rattle.lists.specs.Bools.{and-iff, cond-case}
 use Rattle.lists.specs.Count.{count-most, first-there}
 use Rattle.layout.specs.Address as Address
 use Rattle.layout.specs.Request.{fitAddV4, replaceAsked, nlmFlags}

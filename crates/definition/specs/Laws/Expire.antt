@@ -7,7 +7,7 @@ use mathlib.Core.List.{List, [], _∷_, _++_, map}
 use mathlib.Core.Option.{Option, none, some}
 use lib.ListN.{length, length-append, length-map}
 use Rattle.lists.specs.Lists.{Row, any, keep, first, until, onward, eqRow}
-use Rattle.lists.specs.All.{cond-case}
+use Rattle.lists.specs.Bools.{cond-case}
 use Rattle.lists.specs.Count.{Within, within-first, within-rest, length-removeFirst, until-onward, onward-first, any-back, any-count, first-any, count-most}
 use Rattle.layout.specs.Address.{secondary}
 use Rattle.definition.specs.State.{State, Out, also, through}

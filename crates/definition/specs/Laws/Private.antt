@@ -2,12 +2,12 @@
 -- Assumes nothing.
 use Prim.Native.Nat.{ℕ}
 use mathlib.Core.Path.{_≡_, refl, sym, ap, _∙_}
-use mathlib.Core.Bool.{Bool, true, false, not, _||_}
+use mathlib.Core.Bool.{Bool, true, false, not, _||_, or-true}
 use mathlib.Core.List.{List, []}
 use lib.Dec.{eqb}
 use borrow.Author.Tests.{eq-eqb}
 use Rattle.lists.specs.Lists.{Row}
-use Rattle.lists.specs.All.{test-case}
+use Rattle.lists.specs.Bools.{test-case}
 use Rattle.layout.specs.Route.{table}
 use Rattle.definition.specs.State.{State}
 use Rattle.definition.specs.Words.{ordered}
@@ -25,10 +25,6 @@ used q t = eqb t (table q) || (eqb t 0 || (eqb t 253 || (eqb t 254 || eqb t 255)
 -- every other one
 abbrev pub others : Row → ℕ → Bool
 others q t = not (used q t)
-
-or-true : (b : Bool) → (b || true) ≡ true
-or-true true = refl
-or-true false = refl
 
 others-choice : (q : Row) → Choice (others q)
 others-choice q =

@@ -12,7 +12,7 @@ use lib.Dec.{eqb}
 use lib.ListN.{length}
 use borrow.Author.Tests.{eqb-false}
 use Rattle.lists.specs.Lists.{Row, first}
-use Rattle.lists.specs.All.{cond-case}
+use Rattle.lists.specs.Bools.{cond-case}
 use Rattle.layout.specs.Route.{prefsrcPresent}
 use Rattle.layout.specs.Request.{replaceAsked, nlmFlags}
 use Rattle.definition.specs.State.{State, sizes}

@@ -7,7 +7,7 @@ use lib.Dec.{eqb, leb, ltb}
 use lib.ListN.{getD, take}
 use Rattle.lists.specs.Lists.{Row, any, all, keep, first, replaceFirst, behindLast, zeros}
 use Rattle.prefix.specs.Mask.{network, broadcast}
-use Rattle.life.specs.Life.{forever, lowWord, highWord}
+use Rattle.life.specs.Life.{forever, storedSeconds, lowWord, highWord}
 use Rattle.layout.specs.Flags.{hasBit, clearBit, setBit}
 use Rattle.layout.specs.Address as Address
 use Rattle.layout.specs.Address.{local, address, prefix, broadcastPresent, scope, flags, secondary, secondaryBit, deprecatedBit, permanentBit, noPrefixRoute}
@@ -113,10 +113,6 @@ lifeFlags valid preferred f =
     let lasting = cond (eqb valid forever) (setBit permanentBit cleared) cleared in
     cond (eqb preferred 0) (setBit deprecatedBit lasting) lasting
 
--- a lifetime that never ends leaves the stored seconds
-abbrev pub seconds : ℕ → ℕ → ℕ
-seconds asked stored = cond (eqb asked forever) stored asked
-
 -- the row with other flags, proto and priority, lifetimes and stamps; the rest stays
 unfoldable pub rewritten : Row → ℕ → ℕ → ℕ → ℕ → ℕ → ℕ → ℕ → Row
 rewritten a flags proto priority valid preferred created changed =
@@ -137,17 +133,17 @@ rewritten a flags proto priority valid preferred created changed =
     ∷ highWord changed
     ∷ [])
 
--- the row with the lifetimes asked for at a moment
+-- the row with the lifetimes asked for at a moment; one that never ends leaves the stored seconds
 unfoldable pub setLife : ℕ → ℕ → ℕ → Row → Row
 setLife valid preferred now a =
     rewritten a (lifeFlags valid preferred (flags a)) (Address.proto a) (Address.priority a)
-    (seconds valid (Address.valid a)) (seconds preferred (Address.preferred a)) (Address.created a) now
+    (storedSeconds valid (Address.valid a)) (storedSeconds preferred (Address.preferred a)) (Address.created a) now
 
 -- the row that a request asks for: a life of zeros, then its lifetimes; made at that moment
 unfoldable pub asked : Row → ℕ → Row
 asked q now =
     rewritten q (lifeFlags (validAsked q) (preferredAsked q) (clearBit secondaryBit (flags q))) (Address.proto q) (Address.priority q)
-    (seconds (validAsked q) 0) (seconds (preferredAsked q) 0) now now
+    (storedSeconds (validAsked q) 0) (storedSeconds (preferredAsked q) 0) now now
 
 -- the row as a secondary
 unfoldable pub asSecondary : Row → Row

@@ -7,8 +7,9 @@ use mathlib.Core.Option.{Option, none, some}
 use lib.Dec.{eqb}
 use lib.ListN.{length}
 use Rattle.lists.specs.Lists.{Row, keep, all, any, first, removeFirst, eqRow}
-use Rattle.lists.specs.All.{all-keep, all-kept, all-mono, test-case}
-use Rattle.lists.specs.Keep.{Implies, cond-map, cond-same, all-joined, keep-keep, keep-within}
+use Rattle.lists.specs.Bools.{test-case, cond-map, cond-same}
+use Rattle.lists.specs.All.{all-keep, all-kept, all-mono}
+use Rattle.lists.specs.Keep.{Implies, all-joined, keep-keep, keep-within}
 use Rattle.layout.specs.Address.{local}
 use Rattle.layout.specs.Route as Route
 use Rattle.layout.specs.Route.{table, dst, len, kind}

@@ -3,7 +3,7 @@ use Prim.Native.Nat.{ℕ}
 use mathlib.Core.Path.{_≡_, refl, ap}
 use mathlib.Core.Bool.{Bool, true, false, cond, false≢true}
 use lib.Dec.{leb}
-use Rattle.lists.specs.All.{test-case}
+use Rattle.lists.specs.Bools.{test-case}
 use Rattle.lists.specs.Keep.{keep-within}
 use Rattle.life.specs.Life.{allowance}
 use Rattle.definition.specs.State.{State, Out}

@@ -7,7 +7,7 @@ use mathlib.Core.Option.{Option, none, some}
 use lib.Dec.{eqb, leb, ltb}
 use lib.ListN.{length}
 use borrow.Author.Tests.{eq-eqb}
-use Rattle.lists.specs.All.{test-case}
+use Rattle.lists.specs.Bools.{test-case}
 use Rattle.layout.specs.Address.{optional}
 use Rattle.layout.specs.Route as Route
 use Rattle.layout.specs.Route.{fitRoute}

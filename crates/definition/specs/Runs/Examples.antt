@@ -9,7 +9,8 @@ use lib.Dec.{eqb, ltb}
 use lib.ListN.{getD, take, drop}
 use borrow.Author.Tests.{not-true}
 use Rattle.lists.specs.Lists.{Row, all, keep, first, each, eqRow, zeros}
-use Rattle.lists.specs.All.{and-iff, all-head, all-tail, eqRow-true}
+use Rattle.lists.specs.Bools.{and-iff}
+use Rattle.lists.specs.All.{all-head, all-tail, eqRow-true}
 use Rattle.lists.specs.Keep.{keep-within}
 use Rattle.layout.specs.Route.{table, dst, len, kind, prefsrc}
 use Rattle.definition.specs.State.{State, empty}

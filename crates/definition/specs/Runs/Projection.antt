@@ -6,7 +6,8 @@ use mathlib.Core.List.{List, [], _∷_, _++_}
 use lib.Dec.{eqb}
 use borrow.Author.Tests.{eqb-true}
 use Rattle.lists.specs.Lists.{keep, all}
-use Rattle.lists.specs.All.{and-left, and-right, all-always}
+use Rattle.lists.specs.Bools.{and-left, and-right}
+use Rattle.lists.specs.All.{all-always}
 use Rattle.definition.specs.State.{State, Out, also, through}
 use Rattle.definition.specs.Reference.Addresses.{Outcome, goes, refused}
 use Rattle.definition.specs.Runs.Statement.{outside}

@@ -7,7 +7,7 @@ use mathlib.Core.Option.{Option, none, some}
 use lib.Dec.{eqb}
 use borrow.Author.Tests.{eqb-true}
 use Rattle.lists.specs.Lists.{Row, keep, first}
-use Rattle.lists.specs.All.{test-case}
+use Rattle.lists.specs.Bools.{test-case}
 use Rattle.lists.specs.Keep.{Implies, keep-each, keep-reverse, keep-keep, keep-none, each-keep, each-same, first-within}
 use Rattle.layout.specs.Route.{table, prefsrc, prefsrcPresent}
 use Rattle.layout.specs.Request.{nlmFlags}

@@ -2,14 +2,14 @@
 -- its place leaves the others where they were.
 use Prim.Native.Nat.{ℕ}
 use mathlib.Core.Path.{_≡_, refl, sym, _∙_, ap}
-use mathlib.Core.Bool.{Bool, true, false, cond, not, _&&_, true≢false, false≢true}
+use mathlib.Core.Bool.{Bool, true, false, cond, not, _&&_, true≢false, false≢true, Bool·not-not}
 use mathlib.Core.List.{List, [], _∷_, _++_, append-nil}
 use mathlib.Core.Option.{Option, none, some}
 use lib.Dec.{eqb}
 use borrow.Author.Tests.{eqb-true, not-true}
 use Rattle.lists.specs.Lists.{Row, keep, any, first, eqRow, among}
-use Rattle.lists.specs.All.{test-case}
-use Rattle.lists.specs.Keep.{contrary, keep-false, not-not, keep-append, keep-split, removeFirst-without, replaceFirst-without}
+use Rattle.lists.specs.Bools.{test-case, contrary}
+use Rattle.lists.specs.Keep.{keep-false, keep-append, keep-split, removeFirst-without, replaceFirst-without}
 use Rattle.layout.specs.Route.{table, before, alike, prefsrcPresent}
 use Rattle.layout.specs.Request.{nlmFlags}
 use Rattle.definition.specs.State.{State, withRoutes}
@@ -80,7 +80,7 @@ module _ (chosen : ℕ → Bool) where
     unfolding behind
     behind-unseen =
         between-unseen new c (keep (λ r. not (before new r)) rows) (keep (λ r. before new r) rows)
-        ∙ ap (keep (outside chosen)) (simp not-not at (split-behind new rows o))
+        ∙ ap (keep (outside chosen)) (simp Bool·not-not at (split-behind new rows o))
 
     insert4-unseen : (flags : ℕ) → Unseen rows (insert4 new flags rows)
     unfolding insert4

@@ -6,8 +6,9 @@ use mathlib.Core.List.{List, [], _∷_}
 use mathlib.Core.Option.{Option, none, some}
 use lib.Dec.{eqb}
 use Rattle.lists.specs.Lists.{Row, keep, first, removeFirst, eqRow, among}
-use Rattle.lists.specs.All.{and-left, and-right, or-case, eqRow-true, test-case}
-use Rattle.lists.specs.Keep.{Implies, cond-map, keep-append, keep-keep, keep-within, any-within, first-within, removeFirst-within, replaceFirst-within}
+use Rattle.lists.specs.Bools.{and-left, and-right, or-case, test-case, cond-map}
+use Rattle.lists.specs.All.{eqRow-true}
+use Rattle.lists.specs.Keep.{Implies, keep-append, keep-keep, keep-within, any-within, first-within, removeFirst-within, replaceFirst-within}
 use Rattle.layout.specs.Route.{table, before, alike}
 use Rattle.definition.specs.State.{State, withRoutes}
 use Rattle.definition.specs.Reference.Lookup.{Flow, longest, fits, answer, together, lookupIn, typeSet, addrType4, local4, listed, refused, flowTo, mainTable, localTable, defaultTable}

@@ -3,7 +3,7 @@ use Prim.Native.Nat.{ℕ}
 use mathlib.Core.Path.{_≡_, refl, sym, _∙_, ap, ap₂}
 use mathlib.Core.Bool.{Bool, true}
 use mathlib.Core.List.{List, [], _∷_}
-use Rattle.lists.specs.All.{and-left, and-right, test-case}
+use Rattle.lists.specs.Bools.{and-left, and-right, test-case}
 use Rattle.definition.specs.State.{State}
 use Rattle.definition.specs.Words.{decode}
 use Rattle.definition.specs.Call.{Call, Reply}

@@ -4,6 +4,7 @@ use lib.ListN.{length}
 use borrow.Author.Tests.{leb-true}
 use Rattle.interface.specs.Laws.{passed}
 use Rattle.dump.specs.Answer.{dump-no, dump-yes}
+use Rattle.dump.specs.Listing.{dump4-says}
 use borrow.Author.Needs.{needs}
 use Rattle.dump.proofs.dump4.Statement.{statement}
 use Rattle.dump.proofs.dump4.Tie as tie
@@ -21,7 +22,10 @@ returns : tie.Need-returns
 returns c =
     let k = c .before in
     let a = k .before .before .before .args in
+    let x =
     dump-no (a .state .now) (a .listing .now) (k .checked .result) (k .checked .ensures) (c .if1 .taken)
+    in
+    (dump4-says (a .state .now) (length (a .listing .now)) (x .0), x)
 
 -- src/lib.rt:36:9
 list-requires : tie.Need-list-requires
@@ -43,7 +47,10 @@ returns-2 c =
     let e = y .before .before in
     let k = e .before in
     let a = k .before .before .before .args in
+    let x =
     dump-yes (a .state .now) (a .listing .now) (k .checked .result) (k .checked .ensures) (y .list .result) _ (e .if1 .left) (y .list .ensures .0) (y .list .ensures .1)
+    in
+    (dump4-says (a .state .now) (length (a .listing .now)) (x .0), x)
 
 pub dump4-spec : {M : Type 1} → statement M
 dump4-spec = tie.close (tie.spec checked-requires returns list-requires same-length returns-2)

@@ -1,9 +1,13 @@
 -- `fit::fit_add_v4` meets its contract.
 -- Assumes nothing.
+use borrow.Author.Tests.{eq-eqb, ne-eqb}
 use Rattle.layout.specs.Request.{fitAddV4}
 use borrow.Author.Needs.{needs}
 use Rattle.fit.proofs.fit_add_v4.Statement.{statement}
 use Rattle.fit.proofs.fit_add_v4.Tie as tie
+
+returns : tie.Need-returns
+returns c = simp (ne-eqb _ _ (c .if1 .taken))
 
 shared-slice-read-result : tie.Need-shared-slice-read-result
 shared-slice-read-result c = search needs
@@ -47,14 +51,15 @@ shared-slice-read-result-4 c = search needs
 shared-slice-read-result-5 : tie.Need-shared-slice-read-result-5
 shared-slice-read-result-5 c = search needs
 
-returns : tie.Need-returns
+returns-2 : tie.Need-returns-2
 unfolding fitAddV4
-returns c = rw (c .before .before .before .before .before .before .before .before .before .before .fit-optional .ensures, c .before .before .fit-label .ensures)
+returns-2 c = rw (eq-eqb _ _ (c .before .before .before .before .before .before .before .before .before .before .before .before .before .before .if1 .left), c .before .before .before .before .before .before .before .before .before .before .fit-optional .ensures, c .before .before .fit-label .ensures)
 
 pub fit-add-v4-spec : {M : Type 1} → statement M
 fit-add-v4-spec =
     tie.close
     (tie.spec
+    returns
     shared-slice-read-result
     shared-slice-read-fit-optional
     shared-slice-read-fit-optional-2
@@ -69,4 +74,4 @@ fit-add-v4-spec =
     fit-label-requires
     shared-slice-read-result-4
     shared-slice-read-result-5
-    returns)
+    returns-2)

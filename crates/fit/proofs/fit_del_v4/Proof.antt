@@ -1,9 +1,13 @@
 -- `fit::fit_del_v4` meets its contract.
 -- Assumes nothing.
+use borrow.Author.Tests.{eq-eqb, ne-eqb}
 use Rattle.layout.specs.Request.{fitDelV4}
 use borrow.Author.Needs.{needs}
 use Rattle.fit.proofs.fit_del_v4.Statement.{statement}
 use Rattle.fit.proofs.fit_del_v4.Tie as tie
+
+returns : tie.Need-returns
+returns c = simp (ne-eqb _ _ (c .if1 .taken))
 
 shared-slice-read-result : tie.Need-shared-slice-read-result
 shared-slice-read-result c = search needs
@@ -53,14 +57,15 @@ shared-slice-read-fit-label-5 c = search needs
 fit-label-requires : tie.Need-fit-label-requires
 fit-label-requires c κs = search needs
 
-returns : tie.Need-returns
+returns-2 : tie.Need-returns-2
 unfolding fitDelV4
-returns c = rw (c .before .before .before .before .before .before .before .before .before .before .before .before .fit-optional .ensures, c .before .before .before .before .before .before .before .before .before .fit-optional2 .ensures, c .before .before .before .before .before .before .fit-optional3 .ensures, c .fit-label .ensures)
+returns-2 c = rw (eq-eqb _ _ (c .before .before .before .before .before .before .before .before .before .before .before .before .before .before .before .before .if1 .left), c .before .before .before .before .before .before .before .before .before .before .before .before .fit-optional .ensures, c .before .before .before .before .before .before .before .before .before .fit-optional2 .ensures, c .before .before .before .before .before .before .fit-optional3 .ensures, c .fit-label .ensures)
 
 pub fit-del-v4-spec : {M : Type 1} → statement M
 fit-del-v4-spec =
     tie.close
     (tie.spec
+    returns
     shared-slice-read-result
     shared-slice-read-fit-optional
     shared-slice-read-fit-optional-2
@@ -77,4 +82,4 @@ fit-del-v4-spec =
     shared-slice-read-fit-label-4
     shared-slice-read-fit-label-5
     fit-label-requires
-    returns)
+    returns-2)

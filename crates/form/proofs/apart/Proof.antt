@@ -9,7 +9,7 @@ use lib.ListN.{getD, drop}
 use denote.Ref.{now}
 use Rattle.lists.specs.Lists.{Row, all, chop, eqRow}
 use Rattle.lists.specs.Rows.{length-chop}
-use Rattle.form.specs.Look.{all-end}
+use Rattle.lists.specs.Next.{all-end}
 use Rattle.form.specs.Order.{past-run, ordered-later, two-before, two-same}
 use borrow.Author.Needs.{needs}
 use Rattle.form.proofs.apart.Statement.{statement}
@@ -72,7 +72,7 @@ returns c o =
     let start = c .before .before .before .before .before .before .before in
     let at-loop-test = c .before .before .before .before .loop-test in
     let at-before2 = c .before .before2 in
-    sym (at-loop .inv .2 ∙ past-run (chop 32 (start .args .n) (now (start .args .p))) (getD (chop 32 (start .args .n) (now (start .args .p))) (start .args .i) []) (at-loop .j) (ordered-later (chop 32 (start .args .n) (now (start .args .p))) (start .args .i) (at-loop .j) (omega (arith, at-loop .inv .1)) o) (omega (arith, length-chop 32 (start .args .n) (now (start .args .p)), at-loop-test .taken)) (two-before (start .args .n) (now (start .args .p)) (start .args .i) (start .pre .0) (at-loop .j) (start .pre .1) (at-loop-test .taken) true (at-before2 .ensures) (c .if1 .taken)))
+    sym (at-loop .inv .2 ∙ past-run (chop 32 (start .args .n) (now (start .args .p))) (getD (chop 32 (start .args .n) (now (start .args .p))) (start .args .i) []) (at-loop .j) (ordered-later (chop 32 (start .args .n) (now (start .args .p))) (start .args .i) (at-loop .j) (omega (arith, at-loop .inv .1)) o) (omega (arith, length-chop 32 (start .args .n) (now (start .args .p)), at-loop-test .taken)) (two-before (start .args .n) (now (start .args .p)) (start .args .i) (at-loop .j) (start .pre .1) (at-loop-test .taken) true (at-before2 .ensures) (c .if1 .taken)))
 
 mul-same-words : tie.Need-mul-same-words Inv-loop μ-loop
 mul-same-words c = search needs
@@ -106,7 +106,7 @@ returns-2 c o =
     let at-loop = c .before .before .before .before .before .before .before .before .before .loop in
     let start = c .before .before .before .before .before .before .before .before .before .before .before in
     let at-loop-test = c .before .before .before .before .before .before .before .before .loop-test in
-    sym (at-loop .inv .2 ∙ two-same (start .args .n) (now (start .args .p)) (start .args .i) (start .pre .0) (at-loop .j) (start .pre .1) (at-loop-test .taken) true (c .before .same-words .ensures) (c .if2 .taken))
+    sym (at-loop .inv .2 ∙ two-same (start .args .n) (now (start .args .p)) (start .args .i) (at-loop .j) (start .pre .1) (at-loop-test .taken) true (c .before .same-words .ensures) (c .if2 .taken))
 
 add-j-2 : tie.Need-add-j-2 Inv-loop μ-loop
 add-j-2 c = search needs
@@ -119,7 +119,7 @@ loop-again c =
     let at-loop = c .before .before .before .before .before .before .before .before .before .loop in
     let start = c .before .before .before .before .before .before .before .before .before .before .before in
     let at-loop-test = c .before .before .before .before .before .before .before .before .loop-test in
-    (omega arith, omega arith, at-loop .inv .2 ∙ two-same (start .args .n) (now (start .args .p)) (start .args .i) (start .pre .0) (at-loop .j) (start .pre .1) (at-loop-test .taken) false (c .before .same-words .ensures) (c .if2 .left))
+    (omega arith, omega arith, at-loop .inv .2 ∙ two-same (start .args .n) (now (start .args .p)) (start .args .i) (at-loop .j) (start .pre .1) (at-loop-test .taken) false (c .before .same-words .ensures) (c .if2 .left))
 
 returns-3 : tie.Need-returns-3 Inv-loop μ-loop
 returns-3 c o =

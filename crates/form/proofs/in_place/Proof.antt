@@ -51,7 +51,7 @@ returns : tie.Need-returns
 returns c =
     let start = c .before .before .before .before .before in
     place-broken (chop 32 (start .args .n) (now (start .args .p))) (start .args .i) (omega (arith, length-chop 32 (start .args .n) (now (start .args .p)), start .pre))
-    (order-turn (start .args .n) (now (start .args .p)) (start .args .i) (start .pre .0) true (start .pre .1) (c .before .before2 .ensures) (c .if1 .taken))
+    (order-turn (start .args .n) (now (start .args .p)) (start .args .i) true (start .pre .1) (c .before .before2 .ensures) (c .if1 .taken))
 
 apart-requires : tie.Need-apart-requires
 apart-requires c κs = search needs
@@ -61,7 +61,7 @@ returns-2 c =
     let start = c .before .before .before .before .before .before in
     let at-before2 = c .before .before .before2 in
     place-turn (chop 32 (start .args .n) (now (start .args .p))) (start .args .i) (omega (arith, length-chop 32 (start .args .n) (now (start .args .p)), start .pre))
-    (order-turn (start .args .n) (now (start .args .p)) (start .args .i) (start .pre .0) false (start .pre .1) (at-before2 .ensures) (c .before .if1 .left))
+    (order-turn (start .args .n) (now (start .args .p)) (start .args .i) false (start .pre .1) (at-before2 .ensures) (c .before .if1 .left))
     (c .apart .ensures)
 
 pub in-place-spec : {M : Type 1} → statement M

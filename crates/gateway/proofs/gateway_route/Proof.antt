@@ -1,7 +1,7 @@
 -- `gateway::gateway_route` meets its contract.
 -- Assumes nothing.
 use Rattle.lookup.specs.Answer.{foundBy}
-use Rattle.lookup.specs.Pass.{laid-count}
+use Rattle.lists.specs.Pass.{laid-rows}
 use native.Mathlib.Omega.{arith}
 use Rattle.gateway.specs.Laws.{by-own, by-lookup}
 use Rattle.lookup.specs.Flow.{flowOf}
@@ -10,6 +10,7 @@ use mathlib.Core.Path.{sym, ap, _∙_}
 use borrow.Author.Needs.{needs}
 use Rattle.gateway.proofs.gateway_route.Statement.{statement}
 use Rattle.gateway.proofs.gateway_route.Tie as tie
+use lib.Dec.{lit<}
 
 to-gateway-requires : tie.Need-to-gateway-requires
 to-gateway-requires c κs = search needs
@@ -32,7 +33,7 @@ returns c = let s = c .before .before .before .before .before .before .before in
     let f = c .before .before .before .before .to-gateway in
     let there = u .ensures .0 (c .if1 .taken) in (
       there,
-      λ l h. by-own (now (a .q)) (a .default-listed) l (flowOf (f .result)) (t .result) (o .result) (f .ensures) (t .ensures) (o .ensures l h) (omega (arith, laid-count (now (a .rows)) (a .n) (s .pre .0 .0) l h)) (sym (c .if1 .taken) ∙ u .ensures .1 l h),
+      λ l h. by-own (now (a .q)) (a .default-listed) l (flowOf (f .result)) (t .result) (o .result) (f .ensures) (t .ensures) (o .ensures l h) (omega (arith, laid-rows (now (a .rows)) (a .n) (lit< tt) (s .pre .0 .0) l h)) (sym (c .if1 .taken) ∙ u .ensures .1 l h),
     )
 
 lookup4-in-requires : tie.Need-lookup4-in-requires

@@ -1,6 +1,6 @@
 -- `gateway::own_route` meets its contract.
 -- Assumes nothing.
-use Rattle.lookup.specs.Pass.{laid-count}
+use Rattle.lists.specs.Pass.{laid-rows}
 use Rattle.gateway.specs.Laws.{own-upper, own-lower, own-none}
 use Rattle.lookup.specs.Flow.{flowOf}
 use denote.Ref.{now}
@@ -8,6 +8,7 @@ use mathlib.Core.Path.{sym, ap, _∙_}
 use borrow.Author.Needs.{needs}
 use Rattle.gateway.proofs.own_route.Statement.{statement}
 use Rattle.gateway.proofs.own_route.Tie as tie
+use lib.Dec.{lit<}
 
 table-lookup4-requires : tie.Need-table-lookup4-requires
 table-lookup4-requires c κs = search needs
@@ -26,7 +27,7 @@ returns-2 c = let a = c .before .before .before .before .args in
 returns-3 : tie.Need-returns-3
 returns-3 c = let s = c .before .before .before in
     let a = s .args in
-    λ l h. own-none (a .t) (flowOf (a .f)) l (c .before .if1 .left) (c .if2 .left) (a .n) (laid-count (now (a .rows)) (a .n) (s .pre .0) l h)
+    λ l h. own-none (a .t) (flowOf (a .f)) l (c .before .if1 .left) (c .if2 .left) (a .n) (laid-rows (now (a .rows)) (a .n) (lit< tt) (s .pre .0) l h)
 
 pub own-route-spec : {M : Type 1} → statement M
 own-route-spec =

@@ -1,11 +1,12 @@
 -- `gateway::reached_by` meets its contract.
 -- Assumes nothing.
-use Rattle.gateway.specs.Laws.{placed-at, reached-found, reached-refused}
+use Rattle.gateway.specs.Laws.{reached-found, reached-refused}
 use Rattle.gateway.specs.Rows.{reachedOf}
 use denote.Ref.{now}
 use borrow.Author.Needs.{needs}
 use Rattle.gateway.proofs.reached_by.Statement.{statement}
 use Rattle.gateway.proofs.reached_by.Tie as tie
+use Rattle.lookup.specs.Answer.{place-within}
 
 enum-known-found : tie.Need-enum-known-found
 enum-known-found c = search needs
@@ -16,7 +17,7 @@ enum-known-found-2 c = search needs
 reached-at-requires : tie.Need-reached-at-requires
 reached-at-requires c κs = let s = c .before .before .before .before .before in
     let f = c .before .found2 .given in
-    (s .pre .0, s .pre .1, placed-at (s .args .n) (s .args .found) (f .0 .0) (f .1) (s .pre .2))
+    (s .pre .0, s .pre .1, place-within (s .args .n) (s .args .found) (f .0 .0) (f .1) (s .pre .2))
 
 returns : tie.Need-returns
 returns c = let a = c .before .before .before .before .before .args in

@@ -5,9 +5,10 @@ use mathlib.Core.List.{List}
 use Rattle.lists.specs.Lists.{Row}
 use Rattle.lists.specs.Laid.{Laid}
 use Rattle.lists.specs.Count.{tick-most}
+use Rattle.lists.specs.Pass.{part-width}
 use Rattle.layout.specs.Route.{fitRoute}
 use Rattle.insert.specs.Run.{Sofar}
-use Rattle.insert.specs.Pass.{part-wide, pass-next, pass-stop, pass-end}
+use Rattle.insert.specs.Pass.{pass-next, pass-stop, pass-end}
 use borrow.Author.Needs.{needs}
 use Rattle.insert.proofs.alike4.Statement.{statement}
 use Rattle.insert.proofs.alike4.Tie as tie
@@ -17,6 +18,7 @@ use Rattle.route.proofs.before.Reads as before-reads
 use Rattle.insert.proofs.lower.Reads as lower-reads
 use Rattle.insert.proofs.one_if.Reads as one-if-reads
 use Rattle.insert.proofs.same.Reads as same-reads
+use lib.Dec.{lit<}
 
 abbrev Inv-loop : tie.InvT-loop
 Inv-loop rows n new front start₀ there₀ i₀ start there i =
@@ -66,7 +68,7 @@ before-requires c κs =
     let k = c .before .before in
     let s = k .before .before .before .before in
     let a = s .args in
-    (s .pre .1, part-wide (a .rows .now) (a .n) (s .pre .0 .0) (k .loop .i) (c .before .loop-test .taken) (s .pre .0 .1))
+    (s .pre .1, part-width (a .rows .now) (a .n) (lit< tt) (s .pre .0 .0) (s .pre .0 .1) (k .loop .i) (c .before .loop-test .taken))
 
 -- src/lib.rt:79:13
 returns : tie.Need-returns Inv-loop μ-loop
@@ -82,7 +84,7 @@ before-requires-2 c κs =
     let k = c .before .before .before .before in
     let s = k .before .before .before .before in
     let a = s .args in
-    (part-wide (a .rows .now) (a .n) (s .pre .0 .0) (k .loop .i) (c .before .before .before .loop-test .taken) (s .pre .0 .1), s .pre .1)
+    (part-width (a .rows .now) (a .n) (lit< tt) (s .pre .0 .0) (s .pre .0 .1) (k .loop .i) (c .before .before .before .loop-test .taken), s .pre .1)
 
 -- src/lib.rt:85:18
 one-if-requires : tie.Need-one-if-requires Inv-loop μ-loop
@@ -99,7 +101,7 @@ same-requires c κs =
     let k = c .before .before .before .before .before .before in
     let s = k .before .before .before .before in
     let a = s .args in
-    (s .pre .1, part-wide (a .rows .now) (a .n) (s .pre .0 .0) (k .loop .i) (c .before .before .before .before .before .loop-test .taken) (s .pre .0 .1))
+    (s .pre .1, part-width (a .rows .now) (a .n) (lit< tt) (s .pre .0 .0) (s .pre .0 .1) (k .loop .i) (c .before .before .before .before .before .loop-test .taken))
 
 -- src/lib.rt:87:9
 add-i : tie.Need-add-i Inv-loop μ-loop

@@ -1,4 +1,4 @@
-use Rattle.insert.specs.Plan.{rows-ready, rows-laid, in-order, add-place, replace-place, into-full, into-put, into-replaced, into-kept, into-refused}
+use Rattle.insert.specs.Plan.{in-order, add-place, replace-place, into-full, into-put, into-replaced, into-kept, into-refused}
 use Rattle.state.specs.Holds.{sizes-valid, count-routes}
 use Rattle.definition.specs.Kept.Fit.{length-route}
 use native.Mathlib.Omega.{arith}
@@ -12,6 +12,7 @@ use Rattle.state.proofs.insert_route.Reads as insert-route-reads
 use Rattle.state.proofs.replace_route.Reads as replace-route-reads
 use Rattle.state.proofs.route_count.Reads as route-count-reads
 use Rattle.view.proofs.routes.Reads as routes-reads
+use Rattle.view.specs.Parts.{ready-routes, of-routes}
 
 -- src/lib.rt:177:9
 route-count-requires : tie.Need-route-count-requires
@@ -25,7 +26,7 @@ routes-requires c κs = search needs
 -- src/lib.rt:178:9
 plan4-requires : tie.Need-plan4-requires
 plan4-requires c κs =
-    (rows-ready (c .before .before .before .before .before .before .args .s .now) (c .before .before .before .before .before .before .pre .0) (c .routes .ensures) (c .before .before .route-count .ensures), length-route (c .before .before .before .before .before .before .args .new .now) (c .before .before .before .before .before .before .pre .1))
+    (ready-routes _ _ (c .before .before .before .before .before .before .pre .0) (c .routes .ensures) (c .before .before .route-count .ensures), length-route (c .before .before .before .before .before .before .args .new .now) (c .before .before .before .before .before .before .pre .1))
 
 -- src/lib.rt:180:19
 enum-known-plan : tie.Need-enum-known-plan
@@ -47,7 +48,7 @@ returns c =
     let i = c .before .before .plan .given in (
       v,
       λ st h g.
-          into-full (a .new .now) (a .flags) st (p .result) (p .ensures .1 (st .routes) (rows-laid st h e) (in-order st g)) h (i .0 .0) (i .0 .1 .0) (i .1)
+          into-full (a .new .now) (a .flags) st (p .result) (p .ensures .1 (st .routes) (of-routes _ h e) (in-order st g)) h (i .0 .0) (i .0 .1 .0) (i .1)
           (omega (arith, add-place (c .before .before .before .before .before .before .before .route-count .result) (p .result) (i .0 .0) (i .0 .1 .0) (p .ensures .0) (i .1), n, count-routes h)) (omega (arith, n, count-routes h, c .if1 .taken)),
     )
 
@@ -104,7 +105,7 @@ returns-2 c =
     let put = c .before .before .insert-route .ensures in (
       record { state = _; holds = put (v .state) (v .holds) },
       λ st h g.
-          into-put (a .new .now) (a .flags) st (p .result) (p .ensures .1 (st .routes) (rows-laid st h e) (in-order st g)) (i .0 .0) (i .0 .1 .0) (i .1)
+          into-put (a .new .now) (a .flags) st (p .result) (p .ensures .1 (st .routes) (of-routes _ h e) (in-order st g)) (i .0 .0) (i .0 .1 .0) (i .1)
           (omega (arith, add-place (c .before .before .before .before .before .before .before .before .before .before .before .route-count .result) (p .result) (i .0 .0) (i .0 .1 .0) (p .ensures .0) (i .1), n, count-routes h)) (omega (arith, n, count-routes h, sizes-valid v, c .before .before .before .before .if1 .left)) (put st h),
     )
 
@@ -125,7 +126,7 @@ returns-3 c =
     let put = c .before .before .replace-route .ensures in (
       record { state = _; holds = put (v .state) (v .holds) },
       λ st h g.
-          into-replaced (a .new .now) (a .flags) st (p .result) (p .ensures .1 (st .routes) (rows-laid st h e) (in-order st g)) (i .0 .0) (i .1) (h .routesWithin) (put st h),
+          into-replaced (a .new .now) (a .flags) st (p .result) (p .ensures .1 (st .routes) (of-routes _ h e) (in-order st g)) (i .0 .0) (i .1) (h .routesWithin) (put st h),
     )
 
 -- src/lib.rt:171:1
@@ -141,7 +142,7 @@ returns-4 c =
     let n = c .before .before .before .before .before .route-count .ensures in
     let e = c .before .before .before .routes .ensures in
     let p = c .before .before .plan4 in
-    (v, λ st h g. into-kept (a .new .now) (a .flags) st (p .result) (p .ensures .1 (st .routes) (rows-laid st h e) (in-order st g)) h (c .enum-told .given .1))
+    (v, λ st h g. into-kept (a .new .now) (a .flags) st (p .result) (p .ensures .1 (st .routes) (of-routes _ h e) (in-order st g)) h (c .enum-told .given .1))
 
 -- src/lib.rt:171:1
 same-length-5 : tie.Need-same-length-5
@@ -157,7 +158,7 @@ returns-5 c =
     let e = c .before .before .before .before .routes .ensures in
     let p = c .before .before .before .plan4 in
     let i = c .before .plan3 .given in
-    (v, λ st h g. into-refused (a .new .now) (a .flags) st (p .result) (p .ensures .1 (st .routes) (rows-laid st h e) (in-order st g)) h (i .0 .0) (i .1))
+    (v, λ st h g. into-refused (a .new .now) (a .flags) st (p .result) (p .ensures .1 (st .routes) (of-routes _ h e) (in-order st g)) h (i .0 .0) (i .1))
 
 pub insert4-spec : {M : Type 1} → statement M
 insert4-spec =

@@ -5,14 +5,16 @@ use mathlib.Core.Bool.{false}
 use mathlib.Core.List.{List}
 use Rattle.lists.specs.Lists.{Row}
 use Rattle.lists.specs.Laid.{Laid}
+use Rattle.lists.specs.Pass.{part-width}
 use Rattle.layout.specs.Route.{fitRoute}
 use Rattle.insert.specs.Run.{Sofar, sofar-start}
-use Rattle.insert.specs.Pass.{part-wide, pass-lower}
+use Rattle.insert.specs.Pass.{pass-lower}
 use borrow.Author.Needs.{needs}
 use Rattle.insert.proofs.lower.Statement.{statement}
 use Rattle.insert.proofs.lower.Tie as tie
 use Rattle.insert.proofs.lower.Reads as reads
 use Rattle.insert.proofs.lower.Lts as lts
+use lib.Dec.{lit<}
 
 abbrev Inv-loop : tie.InvT-loop
 Inv-loop rows n new dst i₀ i = (i ≤ n) × ((l : List Row) → Laid 32 fitRoute rows l → Sofar new l i i false)
@@ -58,7 +60,7 @@ shared-slice-read-if1 c =
     let k = c .before .before .before in
     let s = k .before .before in
     let a = s .args in
-    omega (arith, part-wide (a .rows .now) (a .n) (s .pre .0 .0) (k .loop .i) (c .before .before .loop-test .taken) (s .pre .0 .1))
+    omega (arith, part-width (a .rows .now) (a .n) (lit< tt) (s .pre .0 .0) (s .pre .0 .1) (k .loop .i) (c .before .before .loop-test .taken))
 
 -- src/lib.rt:60:13
 returns : tie.Need-returns Inv-loop μ-loop

@@ -1,6 +1,7 @@
 use Rattle.insert.specs.Plan.{placed-created, placed-among, none-planned, some-planned}
-use Rattle.insert.specs.Pass.{part-wide, part-row}
+use Rattle.insert.specs.Pass.{part-row}
 use Rattle.lists.specs.Lists.{eqRow}
+use Rattle.lists.specs.Pass.{part-width}
 use mathlib.Core.Path.{ap, _∙_}
 use native.Mathlib.Omega.{arith}
 use borrow.Author.Needs.{needs}
@@ -12,6 +13,7 @@ use Rattle.insert.proofs.alike4.Reads as alike4-reads
 use Rattle.insert.proofs.among.Reads as among-reads
 use Rattle.insert.proofs.created.Reads as created-reads
 use Rattle.insert.proofs.same.Reads as same-reads
+use lib.Dec.{lit<}
 
 -- src/lib.rt:159:9
 alike4-requires : tie.Need-alike4-requires
@@ -62,7 +64,7 @@ same-requires c κs =
     let s = k .before .before .before in
     let a = s .args in
     let run = k .alike4 .result in
-    (s .pre .1, part-wide (a .rows .now) (a .n) (s .pre .0 .0) (run .start) (omega (arith, k .alike4 .ensures .1, c .before .if1 .left)) (s .pre .0 .1))
+    (s .pre .1, part-width (a .rows .now) (a .n) (lit< tt) (s .pre .0 .0) (s .pre .0 .1) (run .start) (omega (arith, k .alike4 .ensures .1, c .before .if1 .left)))
 
 -- src/lib.rt:167:5
 among-requires : tie.Need-among-requires

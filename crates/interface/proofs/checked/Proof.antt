@@ -3,7 +3,7 @@ use mathlib.Core.Bool.{Bool, _&&_}
 use lib.Dec.{eqb}
 use lib.ListN.{length}
 use borrow.Author.Tests.{not-true, not-false, eqb-true}
-use Rattle.lists.specs.All.{and-left}
+use Rattle.lists.specs.Bools.{and-left}
 use Rattle.interface.specs.Laws.{unfit-lengths, unfit-state, unfit-request, all-fit}
 use borrow.Author.Needs.{needs}
 use Rattle.interface.proofs.checked.Statement.{statement}

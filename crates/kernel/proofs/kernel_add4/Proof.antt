@@ -34,7 +34,8 @@ returns c =
 
 -- src/lib.rt:35:5
 list-table-requires : tie.Need-list-table-requires
-list-table-requires c κs = search needs
+list-table-requires c κs =
+    (c .before .before .before .before .before .before .before .before .pre .0, rw (c .before .before .tables-after .ensures) at (c .before .if1 .left))
 
 -- src/lib.rt:36:9
 insert4-requires : tie.Need-insert4-requires

@@ -2,7 +2,7 @@ use mathlib.Core.Path.{sym, _∙_}
 use native.Mathlib.Omega.{arith}
 use borrow.Author.Tests.{not-true, not-false}
 use Rattle.lookup.specs.Flow.{flowOf}
-use Rattle.lookup.specs.Pass.{laid-count}
+use Rattle.lists.specs.Pass.{laid-rows}
 use Rattle.lookup.specs.Answer.{route-there, upper-route, upper-refuse, upper-last, lower-route, lower-refuse, lower-last}
 use borrow.Author.Needs.{needs}
 use Rattle.lookup.proofs.lookup4_in.Statement.{statement}
@@ -11,6 +11,7 @@ use Rattle.lookup.proofs.lookup4_in.Reads as reads
 use Rattle.lookup.proofs.lookup4_in.Lts as lts
 use Rattle.lookup.proofs.judge.Reads as judge-reads
 use Rattle.lookup.proofs.table_lookup4.Reads as table-lookup4-reads
+use lib.Dec.{lit<}
 
 -- src/lib.rt:118:9
 table-lookup4-requires : tie.Need-table-lookup4-requires
@@ -32,7 +33,7 @@ returns c =
     let s = t .before .before in
     let a = s .args in
     let y = s .pre .1 in (
-      omega (arith, route-there (y .list) (t .table-lookup4 .result) (sym (sym (c .enum-told .given .1) ∙ j .judge .ensures (y .list) (y .laid))), laid-count (a .rows .now) (a .n) (s .pre .0) (y .list) (y .laid)),
+      omega (arith, route-there (y .list) (t .table-lookup4 .result) (sym (sym (c .enum-told .given .1) ∙ j .judge .ensures (y .list) (y .laid))), laid-rows (a .rows .now) (a .n) (lit< tt) (s .pre .0) (y .list) (y .laid)),
       λ l h. upper-route l (flowOf (a .f)) (a .default-listed) (t .table-lookup4 .result) (t .table-lookup4 .ensures l h) (sym (c .enum-told .given .1) ∙ j .judge .ensures l h),
     )
 
@@ -94,7 +95,7 @@ returns-4 c =
     let a = s .args in
     let on = not-false (a .default-listed) (e .if1 .left) in
     let y = s .pre .1 in (
-      omega (arith, route-there (y .list) (v .table-lookup42 .result) (sym (sym (c .enum-told3 .given .1) ∙ k .judge2 .ensures (y .list) (y .laid))), laid-count (a .rows .now) (a .n) (s .pre .0) (y .list) (y .laid)),
+      omega (arith, route-there (y .list) (v .table-lookup42 .result) (sym (sym (c .enum-told3 .given .1) ∙ k .judge2 .ensures (y .list) (y .laid))), laid-rows (a .rows .now) (a .n) (lit< tt) (s .pre .0) (y .list) (y .laid)),
       λ l h. lower-route l (flowOf (a .f)) (a .default-listed) (t .table-lookup4 .result) (t .table-lookup4 .ensures l h) (sym (m .enum-told2 .given .1) ∙ j .judge .ensures l h) on (v .table-lookup42 .result) (v .table-lookup42 .ensures l h) (sym (c .enum-told3 .given .1) ∙ k .judge2 .ensures l h),
     )
 

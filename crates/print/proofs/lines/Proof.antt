@@ -63,7 +63,7 @@ loop-again c =
       omega arith,
       omega arith,
       omega arith,
-      line-more (a .n) (now (a .rows)) (omega arith) (w .loop .i) (omega arith) (a .at) (w .loop .next) (e .line .result) (now (a .out)) (w .loop .out) _ (w .loop .inv .3) (e .line .ensures .1 .0) (e .line .ensures .1 .1) (omega arith),
+      line-more (a .n) (now (a .rows)) (w .loop .i) (omega arith) (a .at) (w .loop .next) (e .line .result) (now (a .out)) (w .loop .out) _ (w .loop .inv .3) (e .line .ensures .1 .0) (e .line .ensures .1 .1) (omega arith),
     )
 
 same-length : tie.Need-same-length Inv-loop μ-loop

@@ -7,7 +7,7 @@ use lib.Dec.{eqb}
 use lib.ListN.{length, getD}
 use borrow.Author.Tests.{eq-eqb, ne-eqb}
 use Rattle.lists.specs.Lists.{put, zeros}
-use Rattle.lists.specs.All.{cond-true, cond-false}
+use Rattle.lists.specs.Bools.{cond-true, cond-false}
 use borrow.Author.Needs.{needs}
 use Rattle.recorded.proofs.restart.Statement.{statement}
 use Rattle.recorded.proofs.restart.Tie as tie

@@ -6,6 +6,7 @@ use lib.Dec.{ltb}
 use Rattle.definition.specs.Words.{decode}
 use Rattle.interface.specs.Answer.{chosenFor}
 use Rattle.interface.specs.Laws.{valid, held, select-no, select-yes}
+use Rattle.interface.specs.Numbers.{select4-says}
 use borrow.Author.Needs.{needs}
 use Rattle.records.proofs.select4_words.Statement.{statement}
 use Rattle.records.proofs.select4_words.Tie as tie
@@ -21,7 +22,10 @@ returns c =
     let k = c .before in
     let r = k .before in
     let a = r .before .before .args in
+    let x =
     select-no (a .state .now) (k .checked .result) (a .dst-present) (a .dst) (a .scope) (r .fit-optional .result) (r .fit-optional .ensures) (k .checked .ensures) (c .if1 .taken)
+    in
+    (select4-says (a .state .now) (a .dst-present) (a .dst) (a .scope) x, x)
 
 select4-in-requires : tie.Need-select4-in-requires
 select4-in-requires c κs =
@@ -42,9 +46,12 @@ returns-2 c =
     let k = y .before .before in
     let r = k .before in
     let a = r .before .before .args in
+    let x =
     ap chosenFor (sym (c .before .selected .given .1))
     ∙ select-yes (a .state .now) (k .checked .result) (a .dst-present) (a .dst) (a .scope) (r .fit-optional .result) (r .fit-optional .ensures) (y .select4-in .result) (k .checked .ensures) (y .before .if1 .left)
     (y .select4-in .ensures (decode (a .state .now)) (held true true (r .fit-optional .result && ltb (a .scope) 256) (a .state .now) (k .checked .result) (k .checked .ensures) (y .before .if1 .left)))
+    in
+    (select4-says (a .state .now) (a .dst-present) (a .dst) (a .scope) x, x)
 
 returns-3 : tie.Need-returns-3
 returns-3 c =
@@ -52,9 +59,12 @@ returns-3 c =
     let k = y .before .before in
     let r = k .before in
     let a = r .before .before .args in
+    let x =
     ap chosenFor (sym (c .enum-told .given .1))
     ∙ select-yes (a .state .now) (k .checked .result) (a .dst-present) (a .dst) (a .scope) (r .fit-optional .result) (r .fit-optional .ensures) (y .select4-in .result) (k .checked .ensures) (y .before .if1 .left)
     (y .select4-in .ensures (decode (a .state .now)) (held true true (r .fit-optional .result && ltb (a .scope) 256) (a .state .now) (k .checked .result) (k .checked .ensures) (y .before .if1 .left)))
+    in
+    (select4-says (a .state .now) (a .dst-present) (a .dst) (a .scope) x, x)
 
 pub select4-words-spec : {M : Type 1} → statement M
 select4-words-spec =

@@ -1,6 +1,6 @@
 -- `reply::done` meets its contract, case by case.
 -- Assumes nothing.
-use Rattle.reply.specs.Told.{rows-small}
+use Rattle.changes.specs.Told.{rows-small}
 use mathlib.Core.Path.{sym, ap, _∙_}
 use Rattle.reply.specs.Answer.{replyFrom}
 use Rattle.changes.specs.Answer.{doneBy}

@@ -1,6 +1,6 @@
 -- `reply::listed` meets its contract, case by case.
 -- Assumes nothing.
-use Rattle.reply.specs.Listing.{listed-rows-small}
+use Rattle.dump.specs.Listing.{listed-rows-small}
 use mathlib.Core.Path.{sym, ap, _∙_}
 use Rattle.reply.specs.Answer.{replyFrom}
 use Rattle.dump.specs.Answer.{listedBy}

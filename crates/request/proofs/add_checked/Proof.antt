@@ -1,7 +1,7 @@
 -- `request::add_checked` meets its contract.
 -- Assumes nothing.
 use Rattle.request.specs.Add.{asked-new, room-kept, way-full, way-on}
-use Rattle.request.specs.Done.{sound-valid}
+use Rattle.state.specs.Holds.{sound-valid}
 use Rattle.definition.specs.Reference.Routes.{askedRoute}
 use Rattle.definition.specs.Kept.Fit.{length-route}
 use Rattle.layout.specs.Route.{fitRoute}
@@ -51,7 +51,7 @@ list-table-requires c κs = let s = c .before .before .before .before .before .b
     let q = now (a .q) in
     let i = c .before .before .before .before .before .insert4 in
     let v = s .pre .0 in
-    (i .ensures .0, room-kept (a .t) _ (v .holding) (i .ensures .1 (v .state) (v .holding) (v .fits) .holds) (s .pre .1 .0))
+    (i .ensures .0, room-kept (a .t) _ (v .holds) (i .ensures .1 (v .state) (v .holds) (v .fits) .holds) (s .pre .1 .0))
 
 slice-aggregate-tell : tie.Need-slice-aggregate-tell
 slice-aggregate-tell c = search needs

@@ -44,7 +44,7 @@ add-checked-requires c κs = let s = c .before .before .before .before .before .
     let v = s .pre .0 in
     let f = c .before .before .before .checked2 .given in
     let made = create4 (tableNamed q) (v .state) in
-    (v, (omega (arith, c .before .before .before .before .before .before .before .before .tables-after .ensures, c .before .before .before .before .before .before .before .if1 .left), ((s .pre .1 .0 .0, asked-fits q made (f .0 .0) (by-checked (c .before .before .before .before .before .check .result) (f .0 .0) (f .1) (checkAll q made) (c .before .before .before .before .before .check .ensures (v .state) (v .holding))) (s .pre .1 .0 .0) (s .pre .1 .0 .1)), s .pre .1 .1)))
+    (v, (omega (arith, c .before .before .before .before .before .before .before .before .tables-after .ensures, c .before .before .before .before .before .before .before .if1 .left), ((s .pre .1 .0 .0, asked-fits q made (f .0 .0) (by-checked (c .before .before .before .before .before .check .result) (f .0 .0) (f .1) (checkAll q made) (c .before .before .before .before .before .check .ensures (v .state) (v .holds))) (s .pre .1 .0 .0) (s .pre .1 .0 .1)), s .pre .1 .1)))
 
 same-length-2 : tie.Need-same-length-2
 same-length-2 c = search needs

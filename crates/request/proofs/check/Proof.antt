@@ -2,7 +2,6 @@
 -- Assumes nothing.
 use Rattle.request.specs.Check.{or-listed, scope-fits, check-form, check-refused, check-on}
 use Rattle.gateway.specs.Rows.{reachedOf}
-use Rattle.insert.specs.Plan.{rows-ready, rows-laid}
 use Rattle.definition.specs.Reference.Routes.{tableNamed}
 use Rattle.state.specs.Holds.{sizes-valid}
 use denote.Ref.{now}
@@ -12,6 +11,7 @@ use mathlib.Core.Path.{refl}
 use borrow.Author.Needs.{needs}
 use Rattle.request.proofs.check.Statement.{statement}
 use Rattle.request.proofs.check.Tie as tie
+use Rattle.view.specs.Parts.{ready-routes, of-routes}
 
 form-check-requires : tie.Need-form-check-requires
 form-check-requires c κs = search needs
@@ -41,7 +41,7 @@ routes-requires c κs = search needs
 reach-check-requires : tie.Need-reach-check-requires
 reach-check-requires c κs = let s = c .before .before .before .before .before .before .before .before .before in
     let a = s .args in
-    (rows-ready (now (a .s)) (s .pre .0) (c .routes .ensures) (c .before .route-count .ensures), (s .pre .1 .0, scope-fits (now (a .q)) (s .pre .1 .1)))
+    (ready-routes _ _ (s .pre .0) (c .routes .ensures) (c .before .route-count .ensures), (s .pre .1 .0, scope-fits (now (a .q)) (s .pre .1 .1)))
 
 enum-known-reached : tie.Need-enum-known-reached
 enum-known-reached c = search needs
@@ -58,7 +58,7 @@ returns-2 : tie.Need-returns-2
 returns-2 c = let s = c .before .before .before .before .before .before .before .before .before .before .before .before .before in
     let a = s .args in
     let f = c .before .reached .given in
-    λ st h. check-refused (now (a .q)) st (c .before .before .before .before .before .before .before .before .table-named .result) (c .before .before .before .before .before .before .before .before .table-named .ensures) (c .before .before .before .before .before .before .before .before .before .before .form-check .result) (c .before .before .before .before .before .before .before .before .before .before .form-check .ensures) (c .before .before .before .before .before .before .before .before .before .if1 .left) (c .before .before .before .before .before .before .before .listed .result || eqb 255 (c .before .before .before .before .before .before .before .before .table-named .result)) (c .before .before .before .before .before .before .listed2 .result || eqb 253 (c .before .before .before .before .before .before .before .before .table-named .result)) (or-listed h 255 (c .before .before .before .before .before .before .before .before .table-named .result) (c .before .before .before .before .before .before .before .listed .result) (c .before .before .before .before .before .before .before .listed .ensures)) (or-listed h 253 (c .before .before .before .before .before .before .before .before .table-named .result) (c .before .before .before .before .before .before .listed2 .result) (c .before .before .before .before .before .before .listed2 .ensures)) (c .before .before .before .reach-check .result) (c .before .before .before .reach-check .ensures (st .routes) (rows-laid st h (c .before .before .before .before .routes .ensures))) (f .0 .0) (f .1)
+    λ st h. check-refused (now (a .q)) st (c .before .before .before .before .before .before .before .before .table-named .result) (c .before .before .before .before .before .before .before .before .table-named .ensures) (c .before .before .before .before .before .before .before .before .before .before .form-check .result) (c .before .before .before .before .before .before .before .before .before .before .form-check .ensures) (c .before .before .before .before .before .before .before .before .before .if1 .left) (c .before .before .before .before .before .before .before .listed .result || eqb 255 (c .before .before .before .before .before .before .before .before .table-named .result)) (c .before .before .before .before .before .before .listed2 .result || eqb 253 (c .before .before .before .before .before .before .before .before .table-named .result)) (or-listed h 255 (c .before .before .before .before .before .before .before .before .table-named .result) (c .before .before .before .before .before .before .before .listed .result) (c .before .before .before .before .before .before .before .listed .ensures)) (or-listed h 253 (c .before .before .before .before .before .before .before .before .table-named .result) (c .before .before .before .before .before .before .listed2 .result) (c .before .before .before .before .before .before .listed2 .ensures)) (c .before .before .before .reach-check .result) (c .before .before .before .reach-check .ensures (st .routes) (of-routes _ h (c .before .before .before .before .routes .ensures))) (f .0 .0) (f .1)
 
 returns-3 : tie.Need-returns-3
 returns-3 c = let s = c .before .before .before .before .before .before .before .before .before .before .before .before .before .before in
@@ -66,7 +66,7 @@ returns-3 c = let s = c .before .before .before .before .before .before .before 
     let f = c .before .before .reached2 .given in
     let t = c .before .before .before .before .before .before .before .before .before .table-named in
     let l = c .before .before .before .before .before .before .before .before .listed in
-    λ st h. check-on (now (a .q)) st (c .before .before .before .before .before .before .before .before .before .table-named .result) (c .before .before .before .before .before .before .before .before .before .table-named .ensures) (c .before .before .before .before .before .before .before .before .before .before .before .form-check .result) (c .before .before .before .before .before .before .before .before .before .before .before .form-check .ensures) (c .before .before .before .before .before .before .before .before .before .before .if1 .left) (c .before .before .before .before .before .before .before .before .listed .result || eqb 255 (c .before .before .before .before .before .before .before .before .before .table-named .result)) (c .before .before .before .before .before .before .before .listed2 .result || eqb 253 (c .before .before .before .before .before .before .before .before .before .table-named .result)) (or-listed h 255 (c .before .before .before .before .before .before .before .before .before .table-named .result) (c .before .before .before .before .before .before .before .before .listed .result) (c .before .before .before .before .before .before .before .before .listed .ensures)) (or-listed h 253 (c .before .before .before .before .before .before .before .before .before .table-named .result) (c .before .before .before .before .before .before .before .listed2 .result) (c .before .before .before .before .before .before .before .listed2 .ensures)) (c .before .before .before .before .reach-check .result) (c .before .before .before .before .reach-check .ensures (st .routes) (rows-laid st h (c .before .before .before .before .before .routes .ensures))) (f .0 .0) (f .1) (reachedOf (c .prefsrc-check .result)) (c .prefsrc-check .ensures st h (or-listed h 255 (t .result) (l .result) (l .ensures)))
+    λ st h. check-on (now (a .q)) st (c .before .before .before .before .before .before .before .before .before .table-named .result) (c .before .before .before .before .before .before .before .before .before .table-named .ensures) (c .before .before .before .before .before .before .before .before .before .before .before .form-check .result) (c .before .before .before .before .before .before .before .before .before .before .before .form-check .ensures) (c .before .before .before .before .before .before .before .before .before .before .if1 .left) (c .before .before .before .before .before .before .before .before .listed .result || eqb 255 (c .before .before .before .before .before .before .before .before .before .table-named .result)) (c .before .before .before .before .before .before .before .listed2 .result || eqb 253 (c .before .before .before .before .before .before .before .before .before .table-named .result)) (or-listed h 255 (c .before .before .before .before .before .before .before .before .before .table-named .result) (c .before .before .before .before .before .before .before .before .listed .result) (c .before .before .before .before .before .before .before .before .listed .ensures)) (or-listed h 253 (c .before .before .before .before .before .before .before .before .before .table-named .result) (c .before .before .before .before .before .before .before .listed2 .result) (c .before .before .before .before .before .before .before .listed2 .ensures)) (c .before .before .before .before .reach-check .result) (c .before .before .before .before .reach-check .ensures (st .routes) (of-routes _ h (c .before .before .before .before .before .routes .ensures))) (f .0 .0) (f .1) (reachedOf (c .prefsrc-check .result)) (c .prefsrc-check .ensures st h (or-listed h 255 (t .result) (l .result) (l .ensures)))
 
 pub check-spec : {M : Type 1} → statement M
 check-spec =

@@ -1,7 +1,6 @@
 -- `request::del_route4` meets its contract.
 -- Assumes nothing.
 use Rattle.request.specs.Delete.{row-long, row-end, del-unlisted, del-bad, del-none, del-row}
-use Rattle.insert.specs.Plan.{rows-ready, rows-laid}
 use Rattle.state.specs.Holds.{sizes-valid}
 use denote.Ref.{now}
 use borrow.Author.Tests.{not-true, not-false}
@@ -9,6 +8,7 @@ use native.Mathlib.Omega.{arith}
 use borrow.Author.Needs.{needs}
 use Rattle.request.proofs.del_route4.Statement.{statement}
 use Rattle.request.proofs.del_route4.Tie as tie
+use Rattle.view.specs.Parts.{ready-routes, of-routes}
 
 table-named-requires : tie.Need-table-named-requires
 table-named-requires c κs = search needs
@@ -46,7 +46,7 @@ routes-requires c κs = search needs
 select-route-requires : tie.Need-select-route-requires
 select-route-requires c κs = let s = c .before .before .before .before .before .before .before .before .before .before .before .before .before in
     let a = s .args in
-    (rows-ready (now (a .s)) (s .pre .0) (c .routes .ensures) (c .before .before .route-count .ensures), s .pre .1 .0)
+    (ready-routes _ _ (s .pre .0) (c .routes .ensures) (c .before .before .route-count .ensures), s .pre .1 .0)
 
 same-length-3 : tie.Need-same-length-3
 same-length-3 c = search needs
@@ -54,7 +54,7 @@ same-length-3 c = search needs
 returns-3 : tie.Need-returns-3
 returns-3 c = let s = c .before .before .before .before .before .before .before .before .before .before .before .before .before .before .before in
     let a = s .args in
-    λ st h. del-none (now (a .q)) h (now (a .ev)) (c .before .before .before .before .before .before .before .before .before .before .before .table-named .result) (c .before .before .before .before .before .before .before .before .before .listed .result) (c .before .before .before .before .before .before .before .before .before .before .before .table-named .ensures) (c .before .before .before .before .before .before .before .before .before .listed .ensures) (not-false (c .before .before .before .before .before .before .before .before .before .listed .result) (c .before .before .before .before .before .before .before .before .if1 .left)) (c .before .before .before .before .before .before .before .bad-prefix .result) (c .before .before .before .before .before .before .before .bad-prefix .ensures) (c .before .before .before .before .before .before .if2 .left) (c .before .select-route .result) (c .before .select-route .ensures .1 (st .routes) (rows-laid st h (c .before .before .routes .ensures))) (omega (arith, c .before .before .before .before .route-count .ensures, c .if3 .taken))
+    λ st h. del-none (now (a .q)) h (now (a .ev)) (c .before .before .before .before .before .before .before .before .before .before .before .table-named .result) (c .before .before .before .before .before .before .before .before .before .listed .result) (c .before .before .before .before .before .before .before .before .before .before .before .table-named .ensures) (c .before .before .before .before .before .before .before .before .before .listed .ensures) (not-false (c .before .before .before .before .before .before .before .before .before .listed .result) (c .before .before .before .before .before .before .before .before .if1 .left)) (c .before .before .before .before .before .before .before .bad-prefix .result) (c .before .before .before .before .before .before .before .bad-prefix .ensures) (c .before .before .before .before .before .before .if2 .left) (c .before .select-route .result) (c .before .select-route .ensures .1 (st .routes) (of-routes _ h (c .before .before .routes .ensures))) (omega (arith, c .before .before .before .before .route-count .ensures, c .if3 .taken))
 
 mul-at : tie.Need-mul-at
 mul-at c = let s = c .before .before .before .before .before .before .before .before .before .before .before .before .before .before .before in
@@ -106,7 +106,7 @@ same-length-5 c = search needs
 returns-4 : tie.Need-returns-4
 returns-4 c = let s = c .before .before .before .before .before .before .before .before .before .before .before .before .before .before .before .before .before .before .before .before .before .before .before .before .before in
     let a = s .args in
-    λ st h. del-row (now (a .q)) h (now (a .ev)) (c .before .before .before .before .before .before .before .before .before .before .before .before .before .before .before .before .before .before .before .before .before .table-named .result) (c .before .before .before .before .before .before .before .before .before .before .before .before .before .before .before .before .before .before .before .listed .result) (c .before .before .before .before .before .before .before .before .before .before .before .before .before .before .before .before .before .before .before .before .before .table-named .ensures) (c .before .before .before .before .before .before .before .before .before .before .before .before .before .before .before .before .before .before .before .listed .ensures) (not-false (c .before .before .before .before .before .before .before .before .before .before .before .before .before .before .before .before .before .before .before .listed .result) (c .before .before .before .before .before .before .before .before .before .before .before .before .before .before .before .before .before .before .if1 .left)) (c .before .before .before .before .before .before .before .before .before .before .before .before .before .before .before .before .before .bad-prefix .result) (c .before .before .before .before .before .before .before .before .before .before .before .before .before .before .before .before .before .bad-prefix .ensures) (c .before .before .before .before .before .before .before .before .before .before .before .before .before .before .before .before .if2 .left) (c .before .before .before .before .before .before .before .before .before .before .before .select-route .result) (c .before .before .before .before .before .before .before .before .before .before .before .select-route .ensures .1 (st .routes) (rows-laid st h (c .before .before .before .before .before .before .before .before .before .before .before .before .routes .ensures))) (omega (arith, c .before .before .before .before .before .before .before .before .before .before .before .before .before .before .route-count .ensures, c .before .before .before .before .before .before .before .before .before .before .if3 .left)) (c .before .before .remove-route .ensures st h) (c .before .before .before .before .before .before .del-route4 .ensures)
+    λ st h. del-row (now (a .q)) h (now (a .ev)) (c .before .before .before .before .before .before .before .before .before .before .before .before .before .before .before .before .before .before .before .before .before .table-named .result) (c .before .before .before .before .before .before .before .before .before .before .before .before .before .before .before .before .before .before .before .listed .result) (c .before .before .before .before .before .before .before .before .before .before .before .before .before .before .before .before .before .before .before .before .before .table-named .ensures) (c .before .before .before .before .before .before .before .before .before .before .before .before .before .before .before .before .before .before .before .listed .ensures) (not-false (c .before .before .before .before .before .before .before .before .before .before .before .before .before .before .before .before .before .before .before .listed .result) (c .before .before .before .before .before .before .before .before .before .before .before .before .before .before .before .before .before .before .if1 .left)) (c .before .before .before .before .before .before .before .before .before .before .before .before .before .before .before .before .before .bad-prefix .result) (c .before .before .before .before .before .before .before .before .before .before .before .before .before .before .before .before .before .bad-prefix .ensures) (c .before .before .before .before .before .before .before .before .before .before .before .before .before .before .before .before .if2 .left) (c .before .before .before .before .before .before .before .before .before .before .before .select-route .result) (c .before .before .before .before .before .before .before .before .before .before .before .select-route .ensures .1 (st .routes) (of-routes _ h (c .before .before .before .before .before .before .before .before .before .before .before .before .routes .ensures))) (omega (arith, c .before .before .before .before .before .before .before .before .before .before .before .before .before .before .route-count .ensures, c .before .before .before .before .before .before .before .before .before .before .if3 .left)) (c .before .before .remove-route .ensures st h) (c .before .before .before .before .before .before .del-route4 .ensures)
 
 pub del-route4-spec : {M : Type 1} → statement M
 del-route4-spec =

@@ -1,6 +1,7 @@
 -- `select::select_route` meets its contract.
 -- Assumes nothing.
-use Rattle.select.specs.Laws.{part-long, search-here, search-past, search-end}
+use Rattle.lists.specs.Pass.{part-width, find-here, find-past, find-end}
+use lib.Dec.{lit<}
 use Rattle.definition.specs.Reference.Routes.{selects}
 use Rattle.layout.specs.Route.{fitRoute}
 use Rattle.lists.specs.Place.{placeOf}
@@ -52,14 +53,14 @@ selects-requires : tie.Need-selects-requires Inv-loop μ-loop
 selects-requires c κs = let k = c .before .before in
     let s = k .before .before .before .before in
     let a = s .args in
-    (s .pre .1 .0, s .pre .1 .1, part-long (now (a .rows)) (a .n) (s .pre .0 .0) (k .loop .i) (c .before .loop-test .taken) (s .pre .0 .1), k .before .table-named .ensures)
+    (s .pre .1 .0, s .pre .1 .1, part-width (now (a .rows)) (a .n) (lit< tt) (s .pre .0 .0) (s .pre .0 .1) (k .loop .i) (c .before .loop-test .taken), k .before .table-named .ensures)
 
 returns : tie.Need-returns Inv-loop μ-loop
 returns c = let k = c .before .before .before .before in
     let s = k .before .before .before .before in
     let a = s .args in (
       omega arith,
-      λ l h. search-here (now (a .rows)) (a .n) (s .pre .0 .0) (selects (now (a .q))) l h (k .loop .i) (c .before .before .before .loop-test .taken) (k .loop .inv .1 l h) (sym (c .if1 .taken) ∙ c .before .selects .ensures),
+      λ l h. find-here (now (a .rows)) (a .n) (lit< tt) (s .pre .0 .0) (selects (now (a .q))) l h (k .loop .i) (k .loop .inv .1 l h) (c .before .before .before .loop-test .taken) (sym (c .before .selects .ensures) ∙ c .if1 .taken),
     )
 
 add-i : tie.Need-add-i Inv-loop μ-loop
@@ -73,7 +74,7 @@ loop-again c = let k = c .before .before .before .before in
     let s = k .before .before .before .before in
     let a = s .args in (
       omega arith,
-      λ l h. search-past (now (a .rows)) (a .n) (s .pre .0 .0) (selects (now (a .q))) l h (k .loop .i) (c .before .before .before .loop-test .taken) (k .loop .inv .1 l h) (sym (c .if1 .left) ∙ c .before .selects .ensures),
+      λ l h. find-past (now (a .rows)) (a .n) (lit< tt) (s .pre .0 .0) (selects (now (a .q))) l h (k .loop .i) (k .loop .inv .1 l h) (c .before .before .before .loop-test .taken) (sym (c .before .selects .ensures) ∙ c .if1 .left),
     )
 
 returns-2 : tie.Need-returns-2 Inv-loop μ-loop
@@ -81,7 +82,7 @@ returns-2 c = let k = c .before in
     let s = k .before .before .before .before in
     let a = s .args in (
       omega arith,
-      λ l h. search-end (now (a .rows)) (a .n) (s .pre .0 .0) (selects (now (a .q))) l h (k .loop .i) (c .loop-test .left) (k .loop .inv .0) (k .loop .inv .1 l h),
+      λ l h. find-end (now (a .rows)) (a .n) (lit< tt) (s .pre .0 .0) (selects (now (a .q))) l h (k .loop .i) (k .loop .inv .1 l h) (k .loop .inv .0) (c .loop-test .left),
     )
 
 pub select-route-spec : {M : Type 1} → statement M

@@ -1,11 +1,12 @@
 use native.Mathlib.Omega.{arith}
-use Rattle.source.specs.Answer.{place-within, width-at, source-local, source-none, source-refused}
+use Rattle.source.specs.Answer.{width-at, source-local, source-none, source-refused}
 use borrow.Author.Needs.{needs}
 use Rattle.source.proofs.source.Statement.{statement}
 use Rattle.source.proofs.source.Tie as tie
 use Rattle.source.proofs.source.Reads as reads
 use Rattle.source.proofs.source.Lts as lts
 use Rattle.lookup.proofs.lookup4_in.Reads as lookup4-in-reads
+use Rattle.lookup.specs.Answer.{place-within}
 use Rattle.source.proofs.source4.Reads as source4-reads
 
 -- src/lib.rt:91:9

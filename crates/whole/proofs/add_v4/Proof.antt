@@ -1,8 +1,7 @@
 use mathlib.Core.Path.{refl}
 use native.Mathlib.Omega.{arith}
 use Rattle.definition.specs.Reference.Addresses.{addV4}
-use Rattle.state.specs.Holds.{sizes-of}
-use Rattle.bring.specs.Sound.{sound-long}
+use Rattle.state.specs.Holds.{sizes-of, sound-long}
 use Rattle.whole.specs.Copy.{comes-roomy}
 use Rattle.whole.specs.Room.{add-certain}
 use borrow.Author.Needs.{needs}

@@ -1,7 +1,8 @@
 use mathlib.Core.Path.{refl, sym, _∙_}
 use native.Mathlib.Omega.{arith}
 use Rattle.definition.specs.Reference.Addresses.{up}
-use Rattle.bring.specs.Sound.{sound-long, rows-are}
+use Rattle.state.specs.Holds.{sound-long}
+use Rattle.bring.specs.Sound.{rows-are}
 use Rattle.whole.specs.Copy.{copy-sound, copy-holds, take-room, Tried, tried-adds, adds-back, adds-left, told-full}
 use Prim.Native.Nat.{_*_}
 use borrow.Author.Needs.{needs}

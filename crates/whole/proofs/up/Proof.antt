@@ -2,8 +2,7 @@ use Prim.Native.Nat.{ℕ, _+_, _*_}
 use mathlib.Core.Path.{refl, ap}
 use native.Mathlib.Omega.{arith}
 use Rattle.definition.specs.Reference.Addresses.{up}
-use Rattle.state.specs.Holds.{sizes-of}
-use Rattle.bring.specs.Sound.{sound-long, sound-few}
+use Rattle.state.specs.Holds.{sizes-of, sound-long, sound-few}
 use Rattle.whole.specs.Copy.{adds-roomy}
 use Rattle.whole.specs.Room.{up-certain}
 use borrow.Author.Needs.{needs}

@@ -9,7 +9,7 @@ use lib.ListN.{length, getD, drop, drop-of-length-le}
 use borrow.Author.Tests.{eq-eqb, ne-eqb}
 use denote.Ref.{now}
 use Rattle.lists.specs.Lists.{any}
-use Rattle.words.specs.Scan.{any-next}
+use Rattle.lists.specs.Next.{any-next}
 use borrow.Author.Needs.{needs}
 use Rattle.words.proofs.among.Statement.{statement}
 use Rattle.words.proofs.among.Tie as tie
@@ -37,7 +37,7 @@ returns c =
     let i : ℕ = at-loop .i in
     let l = now (start .args .l) in
     let n : ℕ = start .args .n in
-    sym (at-loop .inv .1 ∙ any-next (eqb n) l i (at-loop-test .taken) ∙ ap (λ (b : Bool). b || any (eqb n) (drop (i + 1) l)) (eq-eqb n (getD l i 0) (sym (c .if1 .taken))))
+    sym (at-loop .inv .1 ∙ any-next l i 0 (at-loop-test .taken) (eqb n) ∙ ap (λ (b : Bool). b || any (eqb n) (drop (i + 1) l)) (eq-eqb n (getD l i 0) (sym (c .if1 .taken))))
 
 add-i : tie.Need-add-i Inv-loop μ-loop
 add-i c = search needs
@@ -54,7 +54,7 @@ loop-again c =
     let l = now (start .args .l) in
     let n : ℕ = start .args .n in (
       omega arith,
-      at-loop .inv .1 ∙ any-next (eqb n) l i (at-loop-test .taken) ∙ ap (λ (b : Bool). b || any (eqb n) (drop (i + 1) l)) (ne-eqb n (getD l i 0) (λ e. c .if1 .left (sym e))),
+      at-loop .inv .1 ∙ any-next l i 0 (at-loop-test .taken) (eqb n) ∙ ap (λ (b : Bool). b || any (eqb n) (drop (i + 1) l)) (ne-eqb n (getD l i 0) (λ e. c .if1 .left (sym e))),
     )
 
 returns-2 : tie.Need-returns-2 Inv-loop μ-loop

@@ -1,10 +1,6 @@
 -- `words::remove` meets its contract: zeros behind the run that moved are one run with it.
 -- Assumes nothing.
-use Prim.Native.Nat.{ℕ, _+_}
-use mathlib.Core.Path.{ap, _∙_}
-use mathlib.Core.List.{List}
 use denote.Ref.{now}
-use Rattle.lists.specs.Lists.{put, zeros}
 use Rattle.lists.specs.Put.{put-out}
 use borrow.Author.Needs.{needs}
 use Rattle.words.proofs.remove.Statement.{statement}
@@ -28,9 +24,8 @@ same-length c = search needs
 returns : tie.Need-returns
 returns c =
     let a = c .before .before .before .before .before .before .before .before .before .args in
-    c .before .before .clear .ensures
-    ∙ ap (λ (l : List ℕ). put (a .at + a .n) (zeros (a .k)) l) (c .before .before .before .before .before .before .move-down .ensures)
-    ∙ put-out (a .at) (a .k) (a .n) (now (a .s)) (c .before .before .before .before .before .before .before .before .before .pre)
+    rw (c .before .before .clear .ensures, c .before .before .before .before .before .before .move-down .ensures)
+    (put-out (a .at) (a .k) (a .n) (now (a .s)) (c .before .before .before .before .before .before .before .before .before .pre))
 
 pub remove-spec : {M : Type 1} → statement M
 remove-spec =

@@ -6,7 +6,7 @@ use mathlib.Core.List.{List}
 use native.Mathlib.Omega.{arith}
 use borrow.Author.Tests.{not-true, not-false}
 use Rattle.endian.specs.Laws.{words-whole}
-use Rattle.reply.specs.Told.{add-route4-told}
+use Rattle.changes.specs.Told.{add-route4-told}
 use Rattle.ffi.specs.Changed.{changed-no, changed-yes, request-room, as-words, value-few}
 use Rattle.ffi.specs.Stays.{add-route4-stays, stays-from}
 use Rattle.ffi.specs.Answer.{requestFits}

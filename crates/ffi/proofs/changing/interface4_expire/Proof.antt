@@ -4,7 +4,7 @@ use native.Mathlib.Omega.{arith}
 use mathlib.Core.Path.{refl}
 use borrow.Author.Tests.{not-true, not-false}
 use Rattle.endian.specs.Laws.{words-whole}
-use Rattle.reply.specs.Told.{expire-told}
+use Rattle.changes.specs.Told.{expire-told}
 use Rattle.ffi.specs.Changed.{changed-no, changed-yes, room, as-words, value-few}
 use Rattle.ffi.specs.Stays.{stays-quiet}
 use Rattle.ffi.specs.Quiet.{expire-stays}

@@ -3,8 +3,7 @@
 use Rattle.definition.specs.Step.{delV4Call}
 use mathlib.Core.Path.{ap, _∙_}
 use Rattle.reply.specs.Answer.{replyFrom}
-use Rattle.changes.specs.Answer.{doneBy}
-use Rattle.reply.specs.Told.{del-v4-told, small}
+use Rattle.changes.specs.Told.{del-v4-told, small}
 use lib.ListN.{length}
 use borrow.Author.Needs.{needs}
 use Rattle.ffi.proofs.on_words.interface4w_del_v4.Statement.{statement}
@@ -17,7 +16,7 @@ done-requires : tie.Need-done-requires
 done-requires c κs =
     let k = c .before .before .before .before in
     let a = k .before .before .before .before .before .before .args in
-    small (k .del-v4 .result) (delV4Call (a .request .now) (length (a .events .now)) (a .state .now) .reply) (k .del-v4 .ensures .0) (del-v4-told (a .state .now) (length (a .events .now)) (a .request .now))
+    small (k .del-v4 .result) (delV4Call (a .request .now) (length (a .events .now)) (a .state .now) .reply) (k .del-v4 .ensures .1 .0) (del-v4-told (a .state .now) (length (a .events .now)) (a .request .now))
 
 same-length : tie.Need-same-length
 same-length c = search needs
@@ -29,7 +28,7 @@ returns : tie.Need-returns
 returns c =
     let k = c .before .before .before .before .before in
     let a = k .before .before .before .before .before .before .args in
-    (c .done .ensures ∙ ap replyFrom (ap doneBy (k .del-v4 .ensures .0) ∙ del-v4-told (a .state .now) (length (a .events .now)) (a .request .now) .says), (k .del-v4 .ensures .1 .0, k .del-v4 .ensures .1 .1))
+    (c .done .ensures ∙ ap replyFrom (k .del-v4 .ensures .0), k .del-v4 .ensures .1 .1)
 
 pub interface4w-del-v4-spec : {M : Type 1} → statement M
 interface4w-del-v4-spec =

@@ -5,7 +5,7 @@ use lib.ListN.{length}
 use Rattle.definition.specs.Step.{dump4Call}
 use Rattle.dump.specs.Answer.{listedBy}
 use Rattle.reply.specs.Answer.{replyFrom}
-use Rattle.reply.specs.Listing.{dump4-lists, listed-small}
+use Rattle.dump.specs.Listing.{dump4-lists, listed-small}
 use borrow.Author.Needs.{needs}
 use Rattle.ffi.proofs.on_words.interface4w_dump4.Statement.{statement}
 use Rattle.ffi.proofs.on_words.interface4w_dump4.Tie as tie
@@ -26,7 +26,7 @@ returns : tie.Need-returns
 returns c =
     let k = c .before .before .before in
     let a = k .before .before .before .before .args in
-    (c .listed .ensures ∙ ap replyFrom (ap listedBy (k .dump4 .ensures .0) ∙ dump4-lists (a .state .now) (length (a .listing .now)) .says), k .dump4 .ensures .1)
+    (c .listed .ensures ∙ ap replyFrom (k .dump4 .ensures .0), k .dump4 .ensures .1 .1)
 
 pub interface4w-dump4-spec : {M : Type 1} → statement M
 interface4w-dump4-spec = tie.close (tie.spec dump4-requires listed-requires same-length returns)

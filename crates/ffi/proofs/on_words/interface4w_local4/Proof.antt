@@ -2,8 +2,6 @@
 -- Assumes nothing.
 use mathlib.Core.Path.{ap, _∙_}
 use Rattle.reply.specs.Answer.{replyFrom}
-use Rattle.interface.specs.Answer.{localBy}
-use Rattle.reply.specs.Reading.{local4-numbers}
 use borrow.Author.Needs.{needs}
 use Rattle.ffi.proofs.on_words.interface4w_local4.Statement.{statement}
 use Rattle.ffi.proofs.on_words.interface4w_local4.Tie as tie
@@ -18,7 +16,7 @@ returns : tie.Need-returns
 returns c =
     let k = c .before in
     let a = k .before .before .args in
-    c .local .ensures ∙ ap replyFrom (ap localBy (k .local4 .ensures) ∙ local4-numbers (a .state .now) (a .ip))
+    c .local .ensures ∙ ap replyFrom (k .local4 .ensures .0)
 
 pub interface4w-local4-spec : {M : Type 1} → statement M
 interface4w-local4-spec = tie.close (tie.spec local4-requires local-requires returns)

@@ -2,8 +2,6 @@
 -- Assumes nothing.
 use mathlib.Core.Path.{ap, _∙_}
 use Rattle.reply.specs.Answer.{replyFrom}
-use Rattle.interface.specs.Answer.{foundBy}
-use Rattle.reply.specs.Reading.{lookup4-numbers}
 use lib.ListN.{length}
 use borrow.Author.Needs.{needs}
 use Rattle.ffi.proofs.on_words.interface4w_lookup4.Statement.{statement}
@@ -22,7 +20,7 @@ returns : tie.Need-returns
 returns c =
     let k = c .before .before .before in
     let a = k .before .before .before .before .args in
-    (c .found .ensures ∙ ap replyFrom (ap foundBy (k .lookup4 .ensures .0) ∙ lookup4-numbers (a .state .now) (length (a .row .now)) (a .ip)), k .lookup4 .ensures .1)
+    (c .found .ensures ∙ ap replyFrom (k .lookup4 .ensures .0), k .lookup4 .ensures .1 .1)
 
 pub interface4w-lookup4-spec : {M : Type 1} → statement M
 interface4w-lookup4-spec = tie.close (tie.spec lookup4-requires found-requires same-length returns)

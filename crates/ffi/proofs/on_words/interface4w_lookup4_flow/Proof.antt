@@ -2,8 +2,6 @@
 -- Assumes nothing.
 use mathlib.Core.Path.{ap, _∙_}
 use Rattle.reply.specs.Answer.{replyFrom}
-use Rattle.interface.specs.Answer.{foundBy}
-use Rattle.reply.specs.Reading.{lookup4-flow-numbers}
 use lib.ListN.{length}
 use borrow.Author.Needs.{needs}
 use Rattle.ffi.proofs.on_words.interface4w_lookup4_flow.Statement.{statement}
@@ -22,7 +20,7 @@ returns : tie.Need-returns
 returns c =
     let k = c .before .before .before in
     let a = k .before .before .before .before .args in
-    (c .found .ensures ∙ ap replyFrom (ap foundBy (k .lookup4-flow .ensures .0) ∙ lookup4-flow-numbers (a .state .now) (length (a .row .now)) (a .ip) (a .tos) (a .oif)), k .lookup4-flow .ensures .1)
+    (c .found .ensures ∙ ap replyFrom (k .lookup4-flow .ensures .0), k .lookup4-flow .ensures .1 .1)
 
 pub interface4w-lookup4-flow-spec : {M : Type 1} → statement M
 interface4w-lookup4-flow-spec =

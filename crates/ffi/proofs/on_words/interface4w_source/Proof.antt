@@ -2,8 +2,6 @@
 -- Assumes nothing.
 use mathlib.Core.Path.{ap, _∙_}
 use Rattle.reply.specs.Answer.{replyFrom}
-use Rattle.interface.specs.Answer.{sourcedBy}
-use Rattle.reply.specs.Reading.{source-numbers}
 use borrow.Author.Needs.{needs}
 use Rattle.ffi.proofs.on_words.interface4w_source.Statement.{statement}
 use Rattle.ffi.proofs.on_words.interface4w_source.Tie as tie
@@ -18,7 +16,7 @@ returns : tie.Need-returns
 returns c =
     let k = c .before in
     let a = k .before .before .args in
-    c .sourced .ensures ∙ ap replyFrom (ap sourcedBy (k .source .ensures) ∙ source-numbers (a .state .now) (a .ip))
+    c .sourced .ensures ∙ ap replyFrom (k .source .ensures .0)
 
 pub interface4w-source-spec : {M : Type 1} → statement M
 interface4w-source-spec = tie.close (tie.spec source-requires sourced-requires returns)

@@ -9,7 +9,7 @@ use Rattle.definition.specs.Step.{dump4Call}
 use Rattle.endian.specs.Endian.{wordsOf}
 use Rattle.ffi.specs.Answer.{roomFits}
 use Rattle.endian.specs.Laws.{words-whole}
-use Rattle.reply.specs.Listing.{dump4-lists}
+use Rattle.dump.specs.Listing.{dump4-lists}
 use Rattle.ffi.specs.Changed.{room, wrote-no, wrote-yes, wrote-on, listing-words}
 use borrow.Author.Needs.{needs}
 use Rattle.ffi.proofs.reading.interface4_dump4.Statement.{statement}

@@ -10,7 +10,7 @@ use lib.Dec.{eqb}
 use lib.ListN.{length}
 use borrow.Author.Tests.{eqb-true}
 use Rattle.lists.specs.Lists.{Row}
-use Rattle.lists.specs.All.{cond-case, test-case}
+use Rattle.lists.specs.Bools.{cond-case, test-case}
 use Rattle.lists.specs.Rows.{sized}
 use Rattle.definition.specs.State.{State, sizes}
 use Rattle.definition.specs.Words.{stateSize, decode, wellFormed, within}
@@ -86,6 +86,10 @@ module _ (w : List ℕ) (events : ℕ) where
   pub del-route4-told : (q : Row) → Told (delRoute4Call q events w .reply)
   unfolding step
   del-route4-told q = told (Call.delRoute4 q events) _ w refl
+
+-- so a call whose answer is the reply's case promises the reply's numbers
+pub told-says : {x : Reply} {r : Done} → Told x → r ≡ doneOf x → doneBy r ≡ numbers x
+told-says t e = ap doneBy e ∙ t .says
 
 -- the count fits a word
 pub small : (d : Done) (r : Reply) → d ≡ doneOf r → Told r → doneBy d .value < 4294967296

@@ -8,7 +8,7 @@ use mathlib.Core.List.{List}
 use lib.Dec.{eqb, leb}
 use lib.ListN.{length}
 use borrow.Author.Tests.{eqb-true}
-use Rattle.lists.specs.All.{test-case}
+use Rattle.lists.specs.Bools.{test-case}
 use Rattle.lists.specs.Rows.{sized}
 use Rattle.definition.specs.Words.{decode}
 use Rattle.definition.specs.Call.{Reply, refusal, written}
@@ -16,10 +16,10 @@ use Rattle.definition.specs.Step.{dump4Call}
 use Rattle.definition.specs.Reference.Source.{dump4}
 use Rattle.definition.specs.Kept.Reading.{dump4-listing}
 use Rattle.interface.specs.Answer.{Numbers, numbers}
 use Rattle.dump.specs.Answer.{listedBy, listedOf}
 use Rattle.dump.specs.declared.Listed.{Listed}
 use Rattle.dump.specs.declared.Listed.the-variants.{Rows}
-use Rattle.reply.specs.Reading.{reads}
+use Rattle.interface.specs.Numbers.{reads}
 
 pub record Lists (r : Reply) : Type 0 where
   pub says : listedBy (listedOf r) ≡ numbers r
@@ -39,10 +39,13 @@ dump4-lists w room =
     let l = dump4-listing (decode w) g in
     record { says = refl; counts = refl; few = l .0; size = l .1 })
 
+pub dump4-says : (w : List ℕ) (room : ℕ) {r : Listed} → r ≡ listedOf (dump4Call room w .reply) → listedBy r ≡ numbers (dump4Call room w .reply)
+dump4-says w room e = ap listedBy e ∙ dump4-lists w room .says
+
 -- the count fits a word
-pub listed-small : (d : Listed) (r : Reply) → d ≡ listedOf r → Lists r → listedBy d .value < 4294967296
+pub listed-small : (d : Listed) (r : Reply) → listedBy d ≡ numbers r → Lists r → listedBy d .value < 4294967296
 listed-small d r e t =
-    let s : listedBy d .value ≡ r .value = ap (λ (x : Listed). listedBy x .value) e ∙ ap (λ (x : Numbers). x .value) (t .says) in
+    let s : listedBy d .value ≡ r .value = ap (λ (x : Numbers). x .value) e in
     omega (arith, t .counts, t .few)
 
 pub listed-rows-small : (d : Listed) (n : ℕ) → d ≡ Rows n → listedBy d .value < 4294967296 → n < 4294967296

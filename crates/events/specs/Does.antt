@@ -3,20 +3,24 @@
 use Prim.Native.Nat.{ℕ, _+_, _-_, _*_, _≤_}
 use mathlib.Core.Path.{_≡_, refl, sym, ap, _∙_}
 use mathlib.Core.Bool.{true}
-use mathlib.Core.List.{List, [], _∷_, _++_, append-nil}
+use mathlib.Core.List.{List, [], _∷_, _++_}
 use native.Mathlib.Omega.{arith}
 use lib.Dec.{eqb}
 use lib.ListN.{length, take, drop, length-append, length-drop}
 use lib.Seq.{length-take-le}
 use borrow.Author.Tests.{eq-eqb}
 use Rattle.lists.specs.Lists.{Row, flat, put}
-use Rattle.lists.specs.All.{all-append, and-both}
+use Rattle.lists.specs.Bools.{and-both}
+use Rattle.lists.specs.All.{all-append}
 use Rattle.lists.specs.Rows.{sized, length-flat, length-put}
-use Rattle.lists.specs.Put.{put-none, put-behind, put-part}
-use Rattle.lists.specs.At.{flat-append, flat-cons}
+use Rattle.lists.specs.Put.{put-no-rows, put-behind, put-part}
+use Rattle.lists.specs.At.{flat-append, flat-one}
 use Rattle.definition.specs.State.{State, Out, becomes, stays, also}
 use Rattle.state.specs.Holds.{Holds}
-use Rattle.events.specs.Step.{rest, Fits, Step}
+
+-- what is left of a buffer behind r rows
+abbrev pub rest : ℕ → List ℕ → List ℕ
+rest r ev = take (length ev - 34 * r) (drop (34 * r) ev)
 
 -- the words hold o's state, and the r rows told stand at the start of the buffer, behind which nothing changed
 pub record Does (o : Out) (w ev₀ ev : List ℕ) (r : ℕ) : Type 0 where
@@ -38,7 +42,7 @@ does-same e f t =
     }
 
 pub does-none : (st : State) {w ev : List ℕ} → Holds w st → Does (stays st) w ev ev 0
-does-none st {w} {ev} h = record { holds = h; count = refl; wide = refl; words = unfold flat in put-none 0 ev; room = omega arith }
+does-none st {w} {ev} h = record { holds = h; count = refl; wide = refl; words = put-no-rows ev; room = omega arith }
 
 -- one row
 pub does-one : (st : State) (row : Row) {w ev₀ ev : List ℕ} → Holds w st → length row ≡ 34 → 34 ≤ length ev₀ → ev ≡ put 0 row ev₀ → Does (becomes st (row ∷ [])) w ev₀ ev 1
@@ -47,7 +51,7 @@ does-one st row {w} {ev₀} h e l x =
       holds = h;
       count = refl;
       wide = and-both (eqb (length row) 34) true (eq-eqb (length row) 34 e) refl;
-      words = x ∙ ap (λ (y : List ℕ). put 0 y ev₀) (sym (flat-cons row [] ∙ unfold flat in append-nil row));
+      words = x ∙ ap (λ (y : List ℕ). put 0 y ev₀) (sym (flat-one row));
       room = omega arith;
     }
 
@@ -90,8 +94,3 @@ module _ {o : Out} {w ev₀ ev : List ℕ} {r : ℕ} (t : Does o w ev₀ ev r) w
             ∙ ap (λ (y : List ℕ). put 0 y ev₀) (sym (flat-append (o .told) (p .told)));
         room = omega (arith, does-rest, u .room);
       }
-
-  -- where a weight bounds how many rows may come
-  pub does-step : (weight : State → ℕ) {st : State} {s : List ℕ} → Fits weight st s ev₀ → r + weight (o .state) ≤ weight st → Step weight st o w ev₀ ev r
-  does-step weight f l =
-      record { holds = t .holds; count = t .count; wide = t .wide; words = t .words; less = l; room = f .room }
