@@ -9,6 +9,7 @@ ghost use Rattle.definition.specs.Step.{upCall, addV4Call};
 ghost use Rattle.interface.specs.Answer.{numbers};
 ghost use Rattle.changes.specs.Answer.{doneBy, doneOf};
 
+// An address is put in, or the one that is there changed where the request says so.
 pub fn add_v4(state: &mut [u32], q: &[u32], events: &mut [u32], clock: u64) -> Done
     ensures { λ r. ⌜ doneBy r ≡ numbers (addV4Call (now (q .entry)) (length (now (events .entry))) clock (now (state .entry)) .reply) ⌝ }
     ensures { λ r. ⌜ r ≡ doneOf (addV4Call (now (q .entry)) (length (now (events .entry))) clock (now (state .entry)) .reply) ⌝ }
@@ -28,6 +29,7 @@ pub fn add_v4(state: &mut [u32], q: &[u32], events: &mut [u32], clock: u64) -> D
     }
 }
 
+// The device goes up: 127.0.0.1 if it isn't there, then the routes of every address.
 pub fn up(state: &mut [u32], events: &mut [u32], clock: u64) -> Done
     ensures { λ r. ⌜ doneBy r ≡ numbers (upCall (length (now (events .entry))) clock (now (state .entry)) .reply) ⌝ }
     ensures { λ r. ⌜ r ≡ doneOf (upCall (length (now (events .entry))) clock (now (state .entry)) .reply) ⌝ }

@@ -13,6 +13,7 @@ pub enum Done {
     Rows(usize),
 }
 
+// The device goes down. It tells nothing.
 pub fn down(state: &mut [u32], events: &mut [u32]) -> Done
     ensures { λ r. ⌜ doneBy r ≡ numbers (downCall (length (now (events .entry))) (now (state .entry)) .reply) ⌝ }
     ensures { λ r. ⌜ r ≡ doneOf (downCall (length (now (events .entry))) (now (state .entry)) .reply) ⌝ }
@@ -30,6 +31,7 @@ pub fn down(state: &mut [u32], events: &mut [u32]) -> Done
 // The greatest clock to which the allowance can still be added.
 const CLOCK_LIMIT: u64 = 18446744073689551615;
 
+// Addresses whose time is up go, and those past their preferred time are marked.
 pub fn expire(state: &mut [u32], events: &mut [u32], clock: u64) -> Done
     ensures { λ r. ⌜ doneBy r ≡ numbers (expireCall (length (now (events .entry))) clock (now (state .entry)) .reply) ⌝ }
     ensures { λ r. ⌜ r ≡ doneOf (expireCall (length (now (events .entry))) clock (now (state .entry)) .reply) ⌝ }
@@ -54,6 +56,7 @@ fn public_of(d: request::Done) -> Done
     }
 }
 
+// A route is put in, or replaces one. A refusal by the reference may leave its table listed.
 pub fn add_route4(state: &mut [u32], q: &[u32], events: &mut [u32]) -> Done
     ensures { λ r. ⌜ doneBy r ≡ numbers (addRoute4Call (now (q .entry)) (length (now (events .entry))) (now (state .entry)) .reply) ⌝ }
     ensures { λ r. ⌜ r ≡ doneOf (addRoute4Call (now (q .entry)) (length (now (events .entry))) (now (state .entry)) .reply) ⌝ }
@@ -68,6 +71,7 @@ pub fn add_route4(state: &mut [u32], q: &[u32], events: &mut [u32]) -> Done
     public_of(request::add_route4(state, events, q))
 }
 
+// The first route that matches goes.
 pub fn del_route4(state: &mut [u32], q: &[u32], events: &mut [u32]) -> Done
     ensures { λ r. ⌜ doneBy r ≡ numbers (delRoute4Call (now (q .entry)) (length (now (events .entry))) (now (state .entry)) .reply) ⌝ }
     ensures { λ r. ⌜ r ≡ doneOf (delRoute4Call (now (q .entry)) (length (now (events .entry))) (now (state .entry)) .reply) ⌝ }
@@ -82,6 +86,7 @@ pub fn del_route4(state: &mut [u32], q: &[u32], events: &mut [u32]) -> Done
     public_of(request::del_route4(state, events, q))
 }
 
+// The first address that meets the conditions goes, with what goes with it.
 pub fn del_v4(state: &mut [u32], q: &[u32], events: &mut [u32]) -> Done
     ensures { λ r. ⌜ doneBy r ≡ numbers (delV4Call (now (q .entry)) (length (now (events .entry))) (now (state .entry)) .reply) ⌝ }
     ensures { λ r. ⌜ r ≡ doneOf (delV4Call (now (q .entry)) (length (now (events .entry))) (now (state .entry)) .reply) ⌝ }

@@ -12,6 +12,7 @@ pub enum Listed {
     Rows(usize),
 }
 
+// The route rows of the listed tables, in the order in which Linux lists tables.
 pub fn dump4(state: &[u32], listing: &mut [u32]) -> Listed
     ensures { λ r. ⌜ listedBy r ≡ numbers (dump4Call (length (now (listing .entry))) (now (state .entry)) .reply) ⌝ }
     ensures { λ r. ⌜ r ≡ listedOf (dump4Call (length (now (listing .entry))) (now (state .entry)) .reply) ⌝ }

@@ -83,6 +83,7 @@ fn look(s: &[u32], row: &mut [u32], f: Flow) -> Found
     }
 }
 
+// The route to a destination, in the row buffer.
 pub fn lookup4(state: &[u32], row: &mut [u32], ip: u32) -> Found
     ensures { λ r. ⌜ foundBy r ≡ numbers (lookup4Call (length (now (row .entry))) ip (now (state .entry)) .reply) ⌝ }
     ensures { λ r. ⌜ r ≡ foundOf (lookup4Call (length (now (row .entry))) ip (now (state .entry)) .reply) ⌝ }
@@ -104,6 +105,7 @@ pub fn lookup4(state: &[u32], row: &mut [u32], ip: u32) -> Found
     )
 }
 
+// The same for a type of service and a device, 0 for any.
 pub fn lookup4_flow(state: &[u32], row: &mut [u32], ip: u32, tos: u32, oif: u32) -> Found
     ensures { λ r. ⌜ foundBy r ≡ numbers (lookup4FlowCall (length (now (row .entry))) ip tos oif (now (state .entry)) .reply) ⌝ }
     ensures { λ r. ⌜ r ≡ foundOf (lookup4FlowCall (length (now (row .entry))) ip tos oif (now (state .entry)) .reply) ⌝ }
@@ -125,6 +127,7 @@ pub fn lookup4_flow(state: &[u32], row: &mut [u32], ip: u32, tos: u32, oif: u32)
     )
 }
 
+// Whether the address is the loopback's.
 pub fn local4(state: &[u32], ip: u32) -> Local
     ensures { λ r. ⌜ localBy r ≡ numbers (local4Call ip (now (state .entry)) .reply) ⌝ }
     ensures { λ r. ⌜ r ≡ localOf (local4Call ip (now (state .entry)) .reply) ⌝ }
@@ -136,6 +139,7 @@ pub fn local4(state: &[u32], ip: u32) -> Local
     Local::Is(view::local4(state, ip))
 }
 
+// The source address for a destination; 127.0.0.1 where there is no other.
 pub fn source(state: &[u32], ip: u32) -> Sourced
     ensures { λ r. ⌜ sourcedBy r ≡ numbers (sourceCall ip (now (state .entry)) .reply) ⌝ }
     ensures { λ r. ⌜ r ≡ sourcedOf (sourceCall ip (now (state .entry)) .reply) ⌝ }
@@ -147,6 +151,7 @@ pub fn source(state: &[u32], ip: u32) -> Sourced
     Sourced::Address(view::source(state, ip))
 }
 
+// The source address for a route, handed over as any row of words.
 pub fn source4(state: &[u32], row: &[u32], ip: u32) -> Chosen
     ensures { λ r. ⌜ chosenBy r ≡ numbers (source4Call (now (row .entry)) ip (now (state .entry)) .reply) ⌝ }
     ensures { λ r. ⌜ r ≡ chosenOf (source4Call (now (row .entry)) ip (now (state .entry)) .reply) ⌝ }
@@ -162,6 +167,7 @@ pub fn source4(state: &[u32], row: &[u32], ip: u32) -> Chosen
     }
 }
 
+// The address that is chosen for a scope, and for a destination if there is one.
 pub fn select4(state: &[u32], dst_present: u32, dst: u32, scope: u32) -> Chosen
     ensures { λ r. ⌜ chosenBy r ≡ numbers (select4Call «dst_present» dst scope (now (state .entry)) .reply) ⌝ }
     ensures { λ r. ⌜ r ≡ chosenOf (select4Call «dst_present» dst scope (now (state .entry)) .reply) ⌝ }
