@@ -1,9 +1,11 @@
-//! What else the Rust does that its comments would let one miss.
+//! What else the Rust does that its comments would let one miss, and what
+//! the port adds to it.
 use crate::call::{Call, Reply};
 use crate::checks::{Checks, lines};
+use crate::fit::CLOCK_LIMIT;
 use crate::script::{NewAddress, Route, Script, address, any, ip, route, started};
 use crate::words::{self, encode};
-use reference::{Lists, RouteRow};
+use reference::{Lists, Request, RouteRow};
 
 pub fn check(checks: &mut Checks) {
     refusal_order(checks);
@@ -14,6 +16,7 @@ pub fn check(checks: &mut Checks) {
     scopes(checks);
     space(checks);
     most_events(checks);
+    unfit(checks);
 }
 
 fn refusal_order(checks: &mut Checks) {
@@ -331,6 +334,31 @@ fn script(lists: &Lists) -> Script {
 }
 
 fn space(checks: &mut Checks) {
+    let lists = filled(64, 256, (1000..1032).collect());
+    let request = address("10.1.0.5/24").words();
+    let fit = request[..].try_into().expect("18 words");
+    let after = reference::run(
+        &lists,
+        &Request::AddV4 {
+            request: fit,
+            now: 0,
+        },
+    )
+    .lists;
+    checks.same(
+        "P1 the Rust has no limits",
+        [
+            after.addresses.len(),
+            after.routes.len(),
+            after.tables.len(),
+        ],
+        [65, 257, 34],
+    );
+    checks.same(
+        "P1 where the port has no space",
+        script(&lists).call(Call::AddV4 { request, now: 0 }).reply,
+        Reply::refused(203),
+    );
     let usual = || vec![254, 255];
     let changed = NewAddress {
         priority: 5,
@@ -339,21 +367,21 @@ fn space(checks: &mut Checks) {
     };
     let mut s = script(&filled(1, 256, usual()));
     checks.same(
-        "a change of priority at 256 routes",
+        "P1 a change of priority at 256 routes",
         s.add(changed).reply,
         Reply::refused(203),
     );
     let mut lists = filled(1, 255, usual());
     let mut s = script(&lists);
     s.add(changed);
-    checks.same("the same at 255", s.routes().len(), 255);
+    checks.same("P1 the same at 255", s.routes().len(), 255);
     let mut there: RouteRow = [0; 32];
     there[..10].copy_from_slice(&[255, ip("12.0.0.0"), 24, 0, 5, 2, 2, 254, 1, ip("12.0.0.1")]);
     there[12] = 1;
     lists.routes.push(there);
     let told = script(&lists).add(changed);
     checks.same(
-        "at 256 with the new row there already",
+        "P1 at 256 with the new row there already",
         told.reply,
         Reply::value(2),
     );
@@ -363,10 +391,10 @@ fn space(checks: &mut Checks) {
         ..route("10.2.0.0/24")
     };
     for (name, tables, table, number) in [
-        ("a bad request that names a 33rd table", 32, 7, 203),
-        ("a bad request that names a listed one", 32, 1000, 22),
-        ("255 at 31 tables without 254", 31, 255, 203),
-        ("254 at 31 tables", 31, 254, 22),
+        ("P1 a bad request that names a 33rd table", 32, 7, 203),
+        ("P1 a bad request that names a listed one", 32, 1000, 22),
+        ("P1 255 at 31 tables without 254", 31, 255, 203),
+        ("P1 254 at 31 tables", 31, 254, 22),
     ] {
         let mut s = script(&filled(0, 0, (1000..1000 + tables).collect()));
         checks.same(name, s.add_route(bad(table)).reply, Reply::refused(number));
@@ -374,7 +402,7 @@ fn space(checks: &mut Checks) {
     let mut s = script(&filled(64, 0, usual()));
     let told = s.add(address("12.0.0.1/24"));
     checks.same(
-        "a duplicate at 64 addresses",
+        "P1 a duplicate at 64 addresses",
         told.reply,
         Reply::refused(17),
     );
@@ -391,9 +419,9 @@ fn space(checks: &mut Checks) {
         ..again
     };
     for (name, ask, number) in [
-        ("a duplicate at 256 routes", again, 17),
-        ("no create flag at 256 routes", new(0), 2),
-        ("a new row at 256 routes", new(0x400), 203),
+        ("P1 a duplicate at 256 routes", again, 17),
+        ("P1 no create flag at 256 routes", new(0), 2),
+        ("P1 a new row at 256 routes", new(0x400), 203),
     ] {
         checks.same(name, s.add_route(ask).reply, Reply::refused(number));
     }
@@ -427,5 +455,51 @@ fn most_events(checks: &mut Checks) {
     let told = s.expire(2_000_000_000).text;
     let of = |name: &str| told.iter().filter(|t| t.starts_with(name)).count();
     let counts = (of("NewAddr4"), of("DelAddr4"), of("DelRoute4"), told.len());
-    checks.same("383 event rows in one expire", counts, (63, 64, 256, 383));
+    checks.same(
+        "P2 383 event rows in one expire",
+        counts,
+        (63, 64, 256, 383),
+    );
+}
+
+/// What the Rust's types leave no room for, or where it would stop.
+fn unfit(checks: &mut Checks) {
+    let mut refused = |name: &str, s: &mut Script, call: Call, number| {
+        checks.same(name, s.call(call).reply, Reply::refused(number));
+    };
+    let ip = ip("10.1.0.5");
+    let mut s = Script::default();
+    s.state.pop();
+    let call = Call::Local4 { ip };
+    refused("P3 a state of 9,506 words", &mut s, call.clone(), 200);
+    let mut s = Script::default();
+    s.state[2] = 2;
+    refused("P4 table 0 listed twice", &mut s, call, 201);
+    let s = &mut started();
+    let mut row = vec![0; 20];
+    row[2] = 33;
+    let call = Call::Left { row, now: 0 };
+    refused("P4 left of a row of prefix 33", s, call, 201);
+    let long = NewAddress {
+        label: "sixteen-bytes-xx",
+        ..address("10.1.0.5/24")
+    };
+    for (name, new) in [
+        ("P5 prefix 33", address("10.1.0.5/33").up()),
+        ("P5 a label of 16 bytes", long),
+    ] {
+        let request = new.words();
+        refused(name, s, Call::AddV4 { request, now: 0 }, 202);
+    }
+    let mut request = any("10.2.0.0/24").deleting();
+    request[13..16].copy_from_slice(&[1, 1, 17]);
+    let call = Call::DelRoute4 { request };
+    refused("P5 a metric's index 17", s, call, 202);
+    let now = CLOCK_LIMIT + 1;
+    refused(
+        "P6 a clock within 20 ms of its end",
+        s,
+        Call::Expire { now },
+        202,
+    );
 }

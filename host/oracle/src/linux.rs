@@ -86,11 +86,12 @@ fn zero_values(checks: &mut Checks) {
         ..any("10.2.0.0/24")
     });
     checks.same("L5 delete a route, gateway 0.0.0.0", told.reply.number, 3);
+    let mut s = Script::default();
     s.add(NewAddress {
         broadcast: zero,
-        ..address("10.1.0.5/24").up()
+        ..address("10.1.0.5/24")
     });
-    let row = words::address_at(&s.state, 1);
+    let row = words::address_at(&s.state, 0);
     checks.same(
         "L5 broadcast 0.0.0.0 is kept as present",
         (row[0], row[3]),

@@ -61,32 +61,34 @@ fn weak_type_of_service(checks: &mut Checks) {
         priority,
         ..route("10.2.0.0/24").up()
     };
-    let mut first = |name: &str, rows: [Route; 2], answer: &str| {
+    for (name, rows, answer) in [
+        (
+            "R5 a row of 255 without tos beside one of 254 with the flow's",
+            [of(255, 0, 0), of(254, 8, 0)],
+            "255 10.2.0.0/24 kind 1",
+        ),
+        (
+            "R5 within 254 the row with the flow's tos",
+            [of(254, 0, 0), of(254, 8, 0)],
+            "254 10.2.0.0/24 kind 1 tos 8",
+        ),
+        (
+            "R5 a row of 255 beside one of 254 of smaller priority",
+            [of(255, 0, 10), of(254, 0, 5)],
+            "255 10.2.0.0/24 kind 1 priority 10",
+        ),
+        (
+            "R5 within 254 the row of smaller priority",
+            [of(254, 0, 10), of(254, 0, 5)],
+            "254 10.2.0.0/24 kind 1 priority 5",
+        ),
+    ] {
         let mut s = Script::default();
-        s.add_route(rows[0]);
-        s.add_route(rows[1]);
+        for row in rows {
+            s.add_route(row);
+        }
         checks.same(name, s.flow("10.2.0.1", 8).text, lines(&[answer]));
-    };
-    first(
-        "R5 a row of 255 without tos beside one of 254 with the flow's",
-        [of(255, 0, 0), of(254, 8, 0)],
-        "255 10.2.0.0/24 kind 1",
-    );
-    first(
-        "R5 within 254 the row with the flow's tos",
-        [of(254, 0, 0), of(254, 8, 0)],
-        "254 10.2.0.0/24 kind 1 tos 8",
-    );
-    first(
-        "R5 a row of 255 beside one of 254 of smaller priority",
-        [of(255, 0, 10), of(254, 0, 5)],
-        "255 10.2.0.0/24 kind 1 priority 10",
-    );
-    first(
-        "R5 within 254 the row of smaller priority",
-        [of(254, 0, 10), of(254, 0, 5)],
-        "254 10.2.0.0/24 kind 1 priority 5",
-    );
+    }
 }
 
 fn special_addresses(checks: &mut Checks) {
