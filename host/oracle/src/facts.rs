@@ -491,15 +491,16 @@ fn unfit(checks: &mut Checks) {
         let request = new.words();
         refused(name, s, Call::AddV4 { request, now: 0 }, 202);
     }
+    s.add_route(route("10.2.0.0/24").up());
     let mut request = any("10.2.0.0/24").deleting();
     request[13..16].copy_from_slice(&[1, 1, 17]);
     let call = Call::DelRoute4 { request };
     refused("P5 a metric's index 17", s, call, 202);
+    s.add(NewAddress {
+        valid: 1,
+        ..address("10.1.0.5/24").up()
+    });
     let now = CLOCK_LIMIT + 1;
-    refused(
-        "P6 a clock within 20 ms of its end",
-        s,
-        Call::Expire { now },
-        202,
-    );
+    let call = Call::Expire { now };
+    refused("P6 a clock within 20 ms of its end", s, call, 202);
 }
