@@ -120,6 +120,15 @@ fn lifetimes_end() {
 }
 
 #[test]
+fn a_request_carries_no_life() {
+    let mut lo = Addresses::new();
+    let mut new = v4("10.1.0.5", 24);
+    new.life.valid = 10;
+    lo.add_v4(new, Lifetimes::FOREVER, false, false, 0).unwrap();
+    assert_eq!(lo.v4()[0].life.valid, 0);
+}
+
+#[test]
 fn routes() {
     let mut lo = up();
     let metrics: Metrics = core::array::from_fn(|i| i as u32);

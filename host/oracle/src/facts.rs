@@ -1,9 +1,11 @@
-//! What else the Rust does that its comments would let one miss.
+//! What else the Rust does that its comments would let one miss, and what
+//! the port adds to it.
 use crate::call::{Call, Reply};
 use crate::checks::{Checks, lines};
-use crate::script::{NewAddress, Route, Script, address, ip, route};
+use crate::fit::CLOCK_LIMIT;
+use crate::script::{NewAddress, Route, Script, address, any, ip, route, started};
 use crate::words::{self, encode};
-use reference::{Lists, RouteRow};
+use reference::{Lists, Request, RouteRow};
 
 pub fn check(checks: &mut Checks) {
     refusal_order(checks);
@@ -14,6 +16,7 @@ pub fn check(checks: &mut Checks) {
     scopes(checks);
     space(checks);
     most_events(checks);
+    unfit(checks);
 }
 
 fn refusal_order(checks: &mut Checks) {
@@ -64,15 +67,6 @@ fn refusal_order(checks: &mut Checks) {
         },
         7,
     );
-    number(
-        "D3 a rejecting kind with a device is 22",
-        Route {
-            kind: 6,
-            oif: 2,
-            ..up
-        },
-        22,
-    );
 }
 
 fn gateways(checks: &mut Checks) {
@@ -81,13 +75,22 @@ fn gateways(checks: &mut Checks) {
         gateway: Some(ip(to)),
         ..route("10.2.0.0/24").up()
     };
-    let mut s = Script::default();
-    s.up(0);
+    let mut s = started();
     let told = s.add_route(Route {
         oif: 2,
         ..via("127.0.0.1")
     });
-    checks.same("D3 a gateway with oif 2 is 101", told.reply.number, 101);
+    checks.same("D3 a gateway with device 2 is 101", told.reply.number, 101);
+    let told = s.add_route(Route {
+        kind: 6,
+        oif: 2,
+        ..route("10.2.0.0/24").up()
+    });
+    checks.same(
+        "D3 a rejecting kind with a device is 22",
+        told.reply.number,
+        22,
+    );
     let onlink = Route {
         flags: 4,
         ..via("10.9.0.1")
@@ -106,21 +109,14 @@ fn gateways(checks: &mut Checks) {
     );
 }
 
-/// An address replaced with another priority.
+/// An address that is there, replaced.
 fn changes(checks: &mut Checks) {
-    let old = NewAddress {
-        broadcast: Some(ip("10.1.0.77")),
-        scope: 7,
-        ..address("10.1.0.5/24")
-    };
+    let old = address("10.1.0.5/24");
     let mut s = Script::default();
     s.add(old);
     let told = s.add(NewAddress {
         priority: 5,
         replace: true,
-        broadcast: None,
-        scope: 9,
-        flags: 0x200,
         ..old.up()
     });
     checks.same(
@@ -132,35 +128,59 @@ fn changes(checks: &mut Checks) {
             "NewAddr4 10.1.0.5/24",
         ]),
     );
-    let row = words::address_at(&s.state, 0);
-    checks.same(
-        "C3 a change leaves broadcast, scope and other flags",
-        (row[4], row[5], row[6]),
-        (ip("10.1.0.77"), 7, 0x80),
-    );
-    // valid forever leaves the stored seconds
+    // a row's first 16 words are those of a request that names all it holds
+    let held = |s: &Script| s.state[words::ADDRESSES_AT..][..16].to_vec();
+    let row = |all: NewAddress| all.words()[..16].to_vec();
+    let first = NewAddress {
+        broadcast: Some(ip("10.1.0.77")),
+        ..old
+    };
+    let taken = NewAddress {
+        proto: 4,
+        priority: 5,
+        valid: 20,
+        preferred: 10,
+        ..first
+    };
     let mut s = Script::default();
-    s.add(NewAddress {
-        valid: 10,
-        preferred: 5,
-        ..address("10.1.0.5/24")
-    });
+    s.add(first);
     s.add(NewAddress {
         replace: true,
-        ..address("10.1.0.5/24")
+        broadcast: None,
+        scope: 9,
+        flags: 0x200,
+        label: "lo:1",
+        ..taken
     });
-    let row = words::address_at(&s.state, 0);
+    checks.same(
+        "C3 a change takes priority, proto and lifetimes, and nothing else",
+        held(&s),
+        row(taken),
+    );
+    let ending = NewAddress {
+        valid: 10,
+        preferred: 5,
+        ..old
+    };
+    let mut s = Script::default();
+    s.add(ending);
+    s.add(NewAddress {
+        replace: true,
+        ..old
+    });
     checks.same(
         "C4 valid forever leaves the stored seconds",
-        (row[14], row[15], row[6]),
-        (10, 5, 0x80),
+        held(&s),
+        row(NewAddress {
+            flags: 0x80,
+            ..ending
+        }),
     );
 }
 
 /// A peer's /32 prefix route counts as the local one.
 fn strays(checks: &mut Checks) {
-    let mut s = Script::default();
-    s.up(0);
+    let mut s = started();
     s.add(address("10.1.0.5/32").up());
     s.add(NewAddress {
         address: ip("10.1.0.9"),
@@ -170,21 +190,29 @@ fn strays(checks: &mut Checks) {
         prefsrc: Some(ip("10.1.0.5")),
         ..route("10.2.0.0/24").up()
     });
-    s.del_route(Route {
-        table: 255,
-        kind: 2,
-        scope: 254,
-        oif: 0,
-        ..route("10.1.0.5/32")
-    });
     let mut request = vec![0; 11];
     request[2..5].copy_from_slice(&[1, ip("10.1.0.9"), 32]);
+    let del = Call::DelV4 { request };
+    let local = |dst| Route {
+        table: 255,
+        ..any(dst)
+    };
+    s.del_route(local("10.1.0.5/32"));
     checks.same(
         "C5 main routes fall while another address has the same local",
-        s.call(Call::DelV4 { request }).text,
+        s.clone().call(del.clone()).text,
         lines(&[
             "DelAddr4 10.1.0.5/32",
             "DelRoute4 255 10.1.0.9/32 kind 2 from 10.1.0.5",
+            "DelRoute4 254 10.2.0.0/24 kind 1 from 10.1.0.5",
+        ]),
+    );
+    s.del_route(local("10.1.0.9/32"));
+    checks.same(
+        "C5 and though the row that goes was not there",
+        s.call(del).text,
+        lines(&[
+            "DelAddr4 10.1.0.5/32",
             "DelRoute4 254 10.2.0.0/24 kind 1 from 10.1.0.5",
         ]),
     );
@@ -202,8 +230,7 @@ fn no_events(checks: &mut Checks) {
         s.add_route(twice).reply,
         Reply::default(),
     );
-    let mut s = Script::default();
-    s.up(0);
+    let mut s = started();
     let mut lists = words::decode(&s.state);
     lists.tables.clear();
     s.state = encode(&lists);
@@ -216,7 +243,7 @@ fn no_events(checks: &mut Checks) {
     let mut s = Script::default();
     s.add(address("10.1.0.5/24"));
     checks.same(
-        "an address added while down lists both",
+        "C7 an address added while down lists both",
         s.tables(),
         vec![254, 255],
     );
@@ -224,29 +251,27 @@ fn no_events(checks: &mut Checks) {
 
 /// A smaller number is a wider scope.
 fn scopes(checks: &mut Checks) {
+    let of = |scope, text| NewAddress {
+        scope,
+        ..address(text)
+    };
+    let select = |s: &mut Script, scope| {
+        let (present, dst) = (0, 0);
+        let chosen = s.call(Call::Select4 {
+            present,
+            dst,
+            scope,
+        });
+        (chosen.reply.present, chosen.reply.value)
+    };
+    let none = (0, 0);
     let mut s = Script::default();
-    s.add(NewAddress {
-        scope: 254,
-        ..address("10.1.0.5/24")
-    });
-    let told = s.call(Call::Select4 {
-        present: 0,
-        dst: 0,
-        scope: 0,
-    });
-    checks.same(
-        "C8 select4 has no second choice",
-        told.reply,
-        Reply::default(),
-    );
+    s.add(of(254, "10.1.0.5/24"));
+    checks.same("C8 select4 has no second choice", select(&mut s, 0), none);
     let second = |[first, second]: [u32; 2]| {
         let mut s = Script::default();
-        for (text, scope) in [("10.1.0.5/24", first), ("10.2.0.5/24", second)] {
-            s.add(NewAddress {
-                scope,
-                ..address(text)
-            });
-        }
+        s.add(of(first, "10.1.0.5/24"));
+        s.add(of(second, "10.2.0.5/24"));
         words::address_at(&s.state, 1)[0]
     };
     checks.same(
@@ -259,6 +284,27 @@ fn scopes(checks: &mut Checks) {
         second([0, 253]),
         ip("10.1.0.5"),
     );
+    let mut s = Script::default();
+    s.add(of(200, "10.1.0.5/24"));
+    for (scope, chosen) in [(199, none), (200, (1, ip("10.1.0.5")))] {
+        checks.same(
+            &format!("C9 select4 of scope {scope} beside an address of 200"),
+            select(&mut s, scope),
+            chosen,
+        );
+    }
+    for (scope, number) in [(253, 22), (254, 0)] {
+        let told = Script::default().add_route(Route {
+            kind: 2,
+            scope,
+            ..route("10.2.0.0/24").up()
+        });
+        checks.same(
+            &format!("C9 a local route of scope {scope}"),
+            told.reply.number,
+            number,
+        );
+    }
 }
 
 /// A state with `routes` rows that no address wants.
@@ -288,6 +334,31 @@ fn script(lists: &Lists) -> Script {
 }
 
 fn space(checks: &mut Checks) {
+    let lists = filled(64, 256, (1000..1032).collect());
+    let request = address("10.1.0.5/24").words();
+    let fit = request[..].try_into().expect("18 words");
+    let after = reference::run(
+        &lists,
+        &Request::AddV4 {
+            request: fit,
+            now: 0,
+        },
+    )
+    .lists;
+    checks.same(
+        "P1 the Rust has no limits",
+        [
+            after.addresses.len(),
+            after.routes.len(),
+            after.tables.len(),
+        ],
+        [65, 257, 34],
+    );
+    checks.same(
+        "P1 where the port has no space",
+        script(&lists).call(Call::AddV4 { request, now: 0 }).reply,
+        Reply::refused(203),
+    );
     let usual = || vec![254, 255];
     let changed = NewAddress {
         priority: 5,
@@ -296,21 +367,21 @@ fn space(checks: &mut Checks) {
     };
     let mut s = script(&filled(1, 256, usual()));
     checks.same(
-        "a change of priority at 256 routes",
+        "P1 a change of priority at 256 routes",
         s.add(changed).reply,
         Reply::refused(203),
     );
     let mut lists = filled(1, 255, usual());
     let mut s = script(&lists);
     s.add(changed);
-    checks.same("the same at 255", s.routes().len(), 255);
+    checks.same("P1 the same at 255", s.routes().len(), 255);
     let mut there: RouteRow = [0; 32];
     there[..10].copy_from_slice(&[255, ip("12.0.0.0"), 24, 0, 5, 2, 2, 254, 1, ip("12.0.0.1")]);
     there[12] = 1;
     lists.routes.push(there);
     let told = script(&lists).add(changed);
     checks.same(
-        "at 256 with the new row there already",
+        "P1 at 256 with the new row there already",
         told.reply,
         Reply::value(2),
     );
@@ -320,10 +391,10 @@ fn space(checks: &mut Checks) {
         ..route("10.2.0.0/24")
     };
     for (name, tables, table, number) in [
-        ("a bad request that names a 33rd table", 32, 7, 203),
-        ("a bad request that names a listed one", 32, 1000, 22),
-        ("255 at 31 tables without 254", 31, 255, 203),
-        ("254 at 31 tables", 31, 254, 22),
+        ("P1 a bad request that names a 33rd table", 32, 7, 203),
+        ("P1 a bad request that names a listed one", 32, 1000, 22),
+        ("P1 255 at 31 tables without 254", 31, 255, 203),
+        ("P1 254 at 31 tables", 31, 254, 22),
     ] {
         let mut s = script(&filled(0, 0, (1000..1000 + tables).collect()));
         checks.same(name, s.add_route(bad(table)).reply, Reply::refused(number));
@@ -331,7 +402,7 @@ fn space(checks: &mut Checks) {
     let mut s = script(&filled(64, 0, usual()));
     let told = s.add(address("12.0.0.1/24"));
     checks.same(
-        "a duplicate at 64 addresses",
+        "P1 a duplicate at 64 addresses",
         told.reply,
         Reply::refused(17),
     );
@@ -348,9 +419,9 @@ fn space(checks: &mut Checks) {
         ..again
     };
     for (name, ask, number) in [
-        ("a duplicate at 256 routes", again, 17),
-        ("no create flag at 256 routes", new(0), 2),
-        ("a new row at 256 routes", new(0x400), 203),
+        ("P1 a duplicate at 256 routes", again, 17),
+        ("P1 no create flag at 256 routes", new(0), 2),
+        ("P1 a new row at 256 routes", new(0x400), 203),
     ] {
         checks.same(name, s.add_route(ask).reply, Reply::refused(number));
     }
@@ -384,5 +455,52 @@ fn most_events(checks: &mut Checks) {
     let told = s.expire(2_000_000_000).text;
     let of = |name: &str| told.iter().filter(|t| t.starts_with(name)).count();
     let counts = (of("NewAddr4"), of("DelAddr4"), of("DelRoute4"), told.len());
-    checks.same("383 event rows in one expire", counts, (63, 64, 256, 383));
+    checks.same(
+        "P2 383 event rows in one expire",
+        counts,
+        (63, 64, 256, 383),
+    );
+}
+
+/// What the Rust's types leave no room for, or where it would stop.
+fn unfit(checks: &mut Checks) {
+    let mut refused = |name: &str, s: &mut Script, call: Call, number| {
+        checks.same(name, s.call(call).reply, Reply::refused(number));
+    };
+    let ip = ip("10.1.0.5");
+    let mut s = Script::default();
+    s.state.pop();
+    let call = Call::Local4 { ip };
+    refused("P3 a state of 9,506 words", &mut s, call.clone(), 200);
+    let mut s = Script::default();
+    s.state[2] = 2;
+    refused("P4 table 0 listed twice", &mut s, call, 201);
+    let s = &mut started();
+    let mut row = vec![0; 20];
+    row[2] = 33;
+    let call = Call::Left { row, now: 0 };
+    refused("P4 left of a row of prefix 33", s, call, 201);
+    let long = NewAddress {
+        label: "sixteen-bytes-xx",
+        ..address("10.1.0.5/24")
+    };
+    for (name, new) in [
+        ("P5 prefix 33", address("10.1.0.5/33").up()),
+        ("P5 a label of 16 bytes", long),
+    ] {
+        let request = new.words();
+        refused(name, s, Call::AddV4 { request, now: 0 }, 202);
+    }
+    s.add_route(route("10.2.0.0/24").up());
+    let mut request = any("10.2.0.0/24").deleting();
+    request[13..16].copy_from_slice(&[1, 1, 17]);
+    let call = Call::DelRoute4 { request };
+    refused("P5 a metric's index 17", s, call, 202);
+    s.add(NewAddress {
+        valid: 1,
+        ..address("10.1.0.5/24").up()
+    });
+    let now = CLOCK_LIMIT + 1;
+    let call = Call::Expire { now };
+    refused("P6 a clock within 20 ms of its end", s, call, 202);
 }

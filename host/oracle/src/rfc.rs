@@ -13,26 +13,19 @@ pub fn check(checks: &mut Checks) {
 }
 
 fn longest_match(checks: &mut Checks) {
-    let mut s = Script::default();
-    s.add_route(route("10.0.0.0/8").up());
-    s.add_route(Route {
-        table: 253,
-        ..route("10.2.0.0/24").up()
-    });
-    checks.same(
-        "R1 a longer row of 253 loses to a shorter one of 254",
-        s.lookup("10.2.0.1").text,
-        lines(&["254 10.0.0.0/8 kind 1"]),
-    );
-    s.add_route(Route {
-        table: 100,
-        ..route("10.2.0.1/32").up()
-    });
-    checks.same(
-        "R1 and so does one of a private table",
-        s.lookup("10.2.0.1").text,
-        lines(&["254 10.0.0.0/8 kind 1"]),
-    );
+    for (table, dst) in [(253, "10.2.0.0/24"), (100, "10.2.0.1/32")] {
+        let mut s = Script::default();
+        s.add_route(route("10.0.0.0/8").up());
+        s.add_route(Route {
+            table,
+            ..route(dst).up()
+        });
+        checks.same(
+            &format!("R1 a longer row of {table} loses to a shorter one of 254"),
+            s.lookup("10.2.0.1").text,
+            lines(&["254 10.0.0.0/8 kind 1"]),
+        );
+    }
     let mut s = Script::default();
     s.add_route(route("10.0.0.0/8").up());
     s.add_route(route("10.2.0.0/24").rejecting(9));
@@ -59,26 +52,42 @@ fn type_of_service(checks: &mut Checks) {
     }
 }
 
-/// Of rows as long, the first in the list answers: by table, then by tos.
+/// Of rows as long, the first in the list answers: by table, then by tos,
+/// then by priority.
 fn weak_type_of_service(checks: &mut Checks) {
-    for (table, first) in [
-        (255, "255 10.2.0.0/24 kind 1"),
-        (254, "254 10.2.0.0/24 kind 1 tos 8"),
+    let of = |table, tos, priority| Route {
+        table,
+        tos,
+        priority,
+        ..route("10.2.0.0/24").up()
+    };
+    for (name, rows, answer) in [
+        (
+            "R5 a row of 255 without tos beside one of 254 with the flow's",
+            [of(255, 0, 0), of(254, 8, 0)],
+            "255 10.2.0.0/24 kind 1",
+        ),
+        (
+            "R5 within 254 the row with the flow's tos",
+            [of(254, 0, 0), of(254, 8, 0)],
+            "254 10.2.0.0/24 kind 1 tos 8",
+        ),
+        (
+            "R5 a row of 255 beside one of 254 of smaller priority",
+            [of(255, 0, 10), of(254, 0, 5)],
+            "255 10.2.0.0/24 kind 1 priority 10",
+        ),
+        (
+            "R5 within 254 the row of smaller priority",
+            [of(254, 0, 10), of(254, 0, 5)],
+            "254 10.2.0.0/24 kind 1 priority 5",
+        ),
     ] {
         let mut s = Script::default();
-        s.add_route(Route {
-            table,
-            ..route("10.2.0.0/24").up()
-        });
-        s.add_route(Route {
-            tos: 8,
-            ..route("10.2.0.0/24").up()
-        });
-        checks.same(
-            &format!("R5 a row of {table} without tos beside one of 254 with the flow's"),
-            s.flow("10.2.0.1", 8).text,
-            lines(&[first]),
-        );
+        for row in rows {
+            s.add_route(row);
+        }
+        checks.same(name, s.flow("10.2.0.1", 8).text, lines(&[answer]));
     }
 }
 
@@ -89,7 +98,7 @@ fn special_addresses(checks: &mut Checks) {
         "224.0.0.5/32",
         "10.1.0.255/24",
     ] {
-        let told = Script::default().add(address(text).up());
+        let told = Script::default().add(address(text));
         checks.same(
             &format!("R4 {text} is taken as an address"),
             told.reply.number,

@@ -35,6 +35,8 @@ pub struct NewAddress {
     pub broadcast: Option<u32>,
     pub scope: u32,
     pub flags: u32,
+    pub proto: u32,
+    pub label: &'static str,
     pub priority: u32,
     pub valid: u32,
     pub preferred: u32,
@@ -42,7 +44,7 @@ pub struct NewAddress {
     pub up: bool,
 }
 
-/// `10.1.0.5/24`: no broadcast, lasting, the device down.
+/// `10.1.0.5/24`: no broadcast, label `lo`, lasting, the device down.
 pub fn address(text: &str) -> NewAddress {
     let (local, prefix) = net(text);
     NewAddress {
@@ -52,6 +54,8 @@ pub fn address(text: &str) -> NewAddress {
         broadcast: None,
         scope: 0,
         flags: 0,
+        proto: 0,
+        label: "lo",
         priority: 0,
         valid: FOREVER,
         preferred: FOREVER,
@@ -67,8 +71,8 @@ impl NewAddress {
     pub fn words(&self) -> Vec<u32> {
         let mut w = vec![self.local, self.address, self.prefix];
         w.extend(optional(self.broadcast));
-        w.extend([self.scope, self.flags, 0]);
-        w.extend([2, u32::from_le_bytes(*b"lo\0\0"), 0, 0, 0]);
+        w.extend([self.scope, self.flags, self.proto]);
+        w.extend(words::label(self.label.as_bytes()));
         w.extend([self.priority, self.valid, self.preferred]);
         w.extend([u32::from(self.replace), u32::from(self.up)]);
         w
@@ -113,6 +117,16 @@ pub fn route(text: &str) -> Route {
         request: CREATE,
         error: 0,
         up: false,
+    }
+}
+
+/// A route to delete, by its destination and tos alone.
+pub fn any(text: &str) -> Route {
+    Route {
+        kind: 0,
+        scope: 255,
+        oif: 0,
+        ..route(text)
     }
 }
 
@@ -174,6 +188,13 @@ impl Default for Script {
             state: words::empty(),
         }
     }
+}
+
+/// The state after the first `up`.
+pub fn started() -> Script {
+    let mut script = Script::default();
+    script.up(0);
+    script
 }
 
 thread_local! {

@@ -49,6 +49,17 @@ fn put(words: &mut [u32], values: &[u32]) {
     words[..values.len()].copy_from_slice(values);
 }
 
+/// A label's length and its four words.
+pub fn label(text: &[u8]) -> [u32; 5] {
+    let mut bytes = [0; 16];
+    bytes[..text.len()].copy_from_slice(text);
+    let mut words = [text.len() as u32; 5];
+    for (word, four) in words[1..].iter_mut().zip(bytes.as_chunks().0) {
+        *word = u32::from_le_bytes(*four);
+    }
+    words
+}
+
 /// The lists of a well-formed state.
 pub fn decode(state: &[u32]) -> Lists {
     let [addresses, routes, tables] = [0, 1, 2].map(|i| state[i] as usize);

@@ -6,14 +6,12 @@ use crate::call::Call;
 use crate::fit::CLOCK_LIMIT;
 use crate::rng::Rng;
 use crate::words::{self, ADDRESSES_AT, ROUTES_AT, TABLES_AT};
-use reference::{AddressRow, Lists, RouteRow};
+use reference::{Lists, RouteRow};
 
-/// What is done to an address row that could stand in a state.
-type OnAddress = fn(&mut Rng, &mut AddressRow);
-/// What is done to a route row.
-type OnRoute = fn(&mut Rng, &mut RouteRow);
+/// What is done to a row that could stand in a state.
+type Damage<const N: usize> = fn(&mut Rng, &mut [u32; N]);
 
-pub const ADDRESS_CLAUSES: [(&str, OnAddress); 8] = [
+pub const ADDRESS_CLAUSES: [(&str, Damage<20>); 8] = [
     ("address prefix", |rng, a| a[2] = over(rng, 33)),
     ("broadcast presence", |rng, a| a[3] = over(rng, 2)),
     ("absent broadcast", |_, a| a[3..5].copy_from_slice(&[0, 1])),
@@ -26,7 +24,7 @@ pub const ADDRESS_CLAUSES: [(&str, OnAddress); 8] = [
     }),
 ];
 
-pub const ROUTE_CLAUSES: [(&str, OnRoute); 13] = [
+pub const ROUTE_CLAUSES: [(&str, Damage<32>); 13] = [
     ("route len", |rng, r| {
         r[1] = 0;
         r[2] = over(rng, 33);
@@ -93,18 +91,12 @@ pub fn state(rng: &mut Rng, which: usize) -> (&'static str, Vec<u32>) {
 pub fn of_lists(rng: &mut Rng, which: usize, lists: &Lists) -> (&'static str, Vec<u32>) {
     let mut state = states::encoded(lists);
     if let Some((name, damage)) = ADDRESS_CLAUSES.get(which) {
-        let i = rng.below(lists.addresses.len());
-        let mut row = lists.addresses[i];
-        damage(rng, &mut row);
-        state[ADDRESSES_AT + 20 * i..][..20].copy_from_slice(&row);
+        spoil(rng, *damage, &lists.addresses, &mut state[ADDRESSES_AT..]);
         return (name, state);
     }
     let which = which - ADDRESS_CLAUSES.len();
     if let Some((name, damage)) = ROUTE_CLAUSES.get(which) {
-        let i = rng.below(lists.routes.len());
-        let mut row = lists.routes[i];
-        damage(rng, &mut row);
-        state[ROUTES_AT + 32 * i..][..32].copy_from_slice(&row);
+        spoil(rng, *damage, &lists.routes, &mut state[ROUTES_AT..]);
         return (name, state);
     }
     let which = which - ROUTE_CLAUSES.len();
@@ -131,6 +123,14 @@ pub fn of_lists(rng: &mut Rng, which: usize, lists: &Lists) -> (&'static str, Ve
         _ => set_routes(&mut state, &disordered(rng, which - 8)),
     }
     (STATE_CLAUSES[which], state)
+}
+
+/// Damages one of `rows`, which stand in `words`.
+fn spoil<const N: usize>(rng: &mut Rng, by: Damage<N>, rows: &[[u32; N]], words: &mut [u32]) {
+    let i = rng.below(rows.len());
+    let mut row = rows[i];
+    by(rng, &mut row);
+    words[N * i..][..N].copy_from_slice(&row);
 }
 
 fn set_routes(state: &mut [u32], rows: &[RouteRow]) {

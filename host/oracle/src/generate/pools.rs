@@ -1,5 +1,6 @@
 //! Few values of each kind, so that calls meet each other's rows.
 use crate::rng::Rng;
+use crate::words;
 
 pub const SECOND: u64 = 1_000_000_000;
 pub const FOREVER: u32 = u32::MAX;
@@ -99,20 +100,13 @@ pub fn mask(len: u32) -> u32 {
 
 /// A label's length and four words.
 pub fn label(rng: &mut Rng) -> [u32; 5] {
-    let text: &[u8] = match rng.below(10) {
+    words::label(match rng.below(10) {
         0 => b"",
         1 => b"lo:1",
         2 => b"fifteen-bytes-x",
         3 => b"lo\0",
         _ => b"lo",
-    };
-    let mut bytes = [0u8; 16];
-    bytes[..text.len()].copy_from_slice(text);
-    let mut words = [text.len() as u32; 5];
-    for (word, four) in words[1..].iter_mut().zip(bytes.chunks_exact(4)) {
-        *word = u32::from_le_bytes([four[0], four[1], four[2], four[3]]);
-    }
-    words
+    })
 }
 
 /// Seventeen metrics: mostly none.
