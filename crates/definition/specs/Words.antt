@@ -91,6 +91,7 @@ unusedZero w =
     && allZero (span (routesAt + Route.size * routeCount w) (8192 - Route.size * routeCount w) w)
     && allZero (drop (tablesAt + tableCount w) w)
 
+-- document 01's well-formed: counts keep to their limits, rows and tables are fit, and what isn't in use is 0
 unfoldable pub wellFormed : List ℕ → Bool
 wellFormed w =
     leb (addressCount w) addressLimit

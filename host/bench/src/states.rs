@@ -17,7 +17,12 @@ pub const SIZES: [[usize; 3]; 3] = [[0, 0, 0], [16, 32, 4], [62, 250, 30]];
 /// A state of this size: after `up`, addresses with a /32 row each, half of
 /// them with a lifetime, and routes to /24s, half of them in the main table
 /// and half in private ones.
-pub fn of_size([addresses, routes, tables]: [usize; 3]) -> Vec<u32> {
+pub fn of_size(size: [usize; 3]) -> Vec<u32> {
+    numbered(size, 1)
+}
+
+/// The same, the private tables' numbers this far apart.
+fn numbered([addresses, routes, tables]: [usize; 3], apart: u32) -> Vec<u32> {
     let mut script = Script::default();
     if addresses > 0 {
         script.up(0);
@@ -38,7 +43,7 @@ pub fn of_size([addresses, routes, tables]: [usize; 3]) -> Vec<u32> {
     while (script.state[1] as usize) < routes {
         let table = if i % 2 == 1 && tables > 2 {
             private += 1;
-            100 + (private % (tables - 2)) as u32
+            100 + apart * (private % (tables - 2)) as u32
         } else {
             254
         };
@@ -145,6 +150,11 @@ pub fn special() -> Vec<Measured> {
             Call::Lookup4 { ip: ip("99.0.0.1") },
         ),
         of("dump4, 64/256/32", of_size([64, 256, 32]), Call::Dump4),
+        of(
+            "dump4 of private tables with one low byte, 64/256/32",
+            numbered([64, 256, 32], 256),
+            Call::Dump4,
+        ),
         of(
             "del_v4 of one address, 64/256/32",
             of_size([64, 256, 32]),

@@ -215,6 +215,7 @@ addedOver q now none st =
     let new = cond (any (λ old. sameSubnet old q) (st .addresses)) (asSecondary fresh) fresh in
     goes (newAddress new (eqb (upAtAddV4 q) 1) st)
 
+-- an address that is there is changed where the request says so, else 17; another one is put in
 unfoldable pub addV4 : Row → ℕ → State → Outcome
 addV4 q now st = addedOver q now (first (sameAddress q) (st .addresses)) st
 

@@ -109,6 +109,7 @@ lookupIn st f =
 abbrev pub flowTo : ℕ → Flow
 flowTo ip = record { ip = ip; tos = 0; scope = 0; oif = 0 }
 
+-- the call: no tos and no device asked for
 unfoldable pub lookup4 : State → ℕ → Found
 lookup4 st ip = lookupIn st (flowTo ip)
 

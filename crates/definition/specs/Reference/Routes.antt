@@ -97,6 +97,7 @@ reachedBy q (route r) =
     (cond (eqb (upAtAddRoute4 q) 0) (refused 100) (by (eqb (scope r) linkScope)))
     (refused 22)
 
+-- on link the gateway need not be reached; else a route must lead to it
 unfoldable pub gateway4 : Row → State → Reached
 gateway4 q st = cond (onlinkFlag q) (onlinkCheck q st) (reachedBy q (gatewayRoute q st))
 
