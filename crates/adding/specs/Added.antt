@@ -1,20 +1,17 @@
 -- add_v4 by its cases: an address that is there, changed or refused, and a new one.
 -- Assumes nothing.
 use Prim.Native.Nat.{ℕ, _≤_, _<_}
-use native.Mathlib.Omega.{arith}
-use mathlib.Core.Path.{_≡_, refl, sym, ap, subst, _∙_}
+use mathlib.Core.Path.{_≡_, refl, sym, ap, _∙_}
 use mathlib.Core.Bool.{Bool, true, false, cond}
 use mathlib.Core.List.{List, []}
 use mathlib.Core.Option.{Option, none, some}
 use lib.Dec.{eqb}
 use lib.ListN.{length, getD, getElem?}
 use borrow.Author.Tests.{eq-eqb, ne-eqb}
-use Rattle.lists.specs.Lists.{Row, any, first}
-use Rattle.lists.specs.Bools.{cond-case}
+use Rattle.lists.specs.Lists.{Row, first}
 use Rattle.lists.specs.Place.{placeOf, first-at, nothing-from, something-at}
 use Rattle.layout.specs.Request.{replaceAsked, upAtAddV4}
-use Rattle.definition.specs.State.{State, Out, stays}
-use Rattle.definition.specs.Words.{fitState}
+use Rattle.definition.specs.State.{State}
 use Rattle.definition.specs.Reference.Addresses.{Outcome, goes, refused, step, sameAddress, newAddress, changeV4, addedOver, addV4, loopback}
 use Rattle.definition.specs.Kept.Keeps.{Keeps}
 use Rattle.definition.specs.Kept.Addresses.{addV4-keeps, step-kept, loopback-fit}

@@ -1,13 +1,11 @@
 -- What a changing call comes to, in the words and the event rows: a step, a refusal that leaves all as it was, or no room.
 -- Assumes nothing.
-use Prim.Native.Nat.{ℕ, _+_, _-_, _*_, _≤_}
+use Prim.Native.Nat.{ℕ, _-_, _≤_}
 use native.Mathlib.Omega.{arith}
 use mathlib.Core.Path.{_≡_, refl, sym, ap, subst, _∙_}
 use mathlib.Core.Bool.{Bool, true, false, cond}
-use mathlib.Core.List.{List, []}
-use lib.ListN.{length, take, drop}
-use Rattle.lists.specs.Bools.{test-case, true-false}
-use Rattle.lists.specs.Lists.{put, flat}
+use mathlib.Core.List.{List}
+use lib.ListN.{length}
 use Rattle.definition.specs.State.{State, Out, stays}
 use Rattle.definition.specs.Words.{within}
 use Rattle.definition.specs.Reference.Addresses.{Outcome, goes, refused, step}

@@ -2,9 +2,9 @@
 -- Assumes nothing.
 use Prim.Native.Nat.{ℕ, _+_, _-_, _*_, _≤_, _<_}
 use native.Mathlib.Omega.{arith}
-use mathlib.Core.Path.{_≡_, refl, sym, ap, subst, _∙_}
-use mathlib.Core.Bool.{Bool, true, false}
-use mathlib.Core.List.{List, [], _∷_, _++_}
+use mathlib.Core.Path.{_≡_, sym, ap, subst, _∙_}
+use mathlib.Core.Bool.{true}
+use mathlib.Core.List.{List, [], _++_}
 use lib.ListN.{length, getD, take, drop}
 use Rattle.lists.specs.Lists.{Row, all, flat, put}
 use Rattle.lists.specs.At.{all-take, all-at}
@@ -22,14 +22,14 @@ use Rattle.definition.specs.Kept.Keeps.{Keeps, through-keeps, keeps-fit}
 use Rattle.definition.specs.Kept.Rows.{candidates-fit}
 use Rattle.definition.specs.Kept.Addresses.{bring-keeps}
 use Rattle.definition.specs.Kept.Growing as Growing
-use Rattle.state.specs.Holds.{Holds, Valid, count-addresses, Sound, sound-valid}
+use Rattle.state.specs.Holds.{Holds, count-addresses, Sound}
 use Rattle.events.specs.Does.{does-length, rest}
 use Rattle.steps.specs.Adds.{Adds, joined, holds-within, adds-rows, adds-also, adds-stop}
 use Rattle.steps.specs.Through.{Covered, covered-through, adds-start, adds-next, adds-full-end, adds-end}
 use Rattle.steps.specs.declared.Told.{Told}
 use Rattle.steps.specs.declared.Told.the-variants.{Rows, Full}
 use Rattle.kernel.specs.Add.{kernelAdd4-covered}
-use Rattle.bring.specs.Sound.{AddsFrom, Leaves, adds-holds, adds-sound, through-leaves, kernelAdd4-leaves}
+use Rattle.bring.specs.Sound.{AddsFrom, Leaves, adds-sound, through-leaves, kernelAdd4-leaves}
 use Rattle.bring.specs.Bring.{block-rows, block-ready}
 use Rattle.adding.specs.Added.{loopback-keeps}
 

@@ -7,7 +7,6 @@ ghost use Prim.Native.Nat.{_≤_, _<_};
 ghost use lib.ListN.{length};
 ghost use Rattle.lists.specs.Lists.{put};
 ghost use Rattle.kind.specs.Kind.{isKind};
-ghost use Rattle.layout.specs.Route.{scope};
 ghost use Rattle.definition.specs.Reference.Routes.{tableNamed, badPrefix, deadFlags, onlinkFlag, unsupported, then, refuse, mark, formCheck, askedRoute};
 
 // The first number that isn't 0.

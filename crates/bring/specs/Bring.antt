@@ -2,25 +2,24 @@
 -- Assumes nothing.
 use Prim.Native.Nat.{ℕ, _+_, _-_, _*_, _≤_, _<_}
 use native.Mathlib.Omega.{arith}
-use mathlib.Core.Path.{_≡_, refl, sym, ap, subst, _∙_}
-use mathlib.Core.Bool.{Bool, true}
+use mathlib.Core.Path.{_≡_, sym, ap, subst, _∙_}
+use mathlib.Core.Bool.{true}
 use mathlib.Core.List.{List, [], _++_}
 use lib.Dec.{lit<}
 use lib.ListN.{length, getD, take, drop}
 use Rattle.lists.specs.Lists.{Row, all, flat, put}
 use Rattle.lists.specs.At.{all-take}
 use Rattle.lists.specs.Laid.{Laid, Lays, laid-length, laid-part}
-use Rattle.lists.specs.Pass.{part, part-fit, laid-rows}
+use Rattle.lists.specs.Pass.{part, laid-rows}
 use Rattle.lists.specs.Block.{block-laid}
 use Rattle.layout.specs.Route.{fitRoute}
-use Rattle.definition.specs.State.{State, Out, through}
-use Rattle.definition.specs.Words.{fitState}
+use Rattle.definition.specs.State.{through}
 use Rattle.definition.specs.Reference.Insert.{kernelAdd4}
 use Rattle.definition.specs.Reference.Addresses.{bring}
 use Rattle.definition.specs.Kept.Fit.{sized-routes}
 use Rattle.definition.specs.Kept.Keeps.{Keeps, through-keeps, keeps-fit}
 use Rattle.definition.specs.Kept.Addresses.{kernelAdd4-keeps}
-use Rattle.state.specs.Holds.{Holds, Valid, Sound, sound-valid}
+use Rattle.state.specs.Holds.{Valid, Sound, sound-valid}
 use Rattle.events.specs.Does.{does-length, rest}
 use Rattle.steps.specs.Adds.{Adds, joined, holds-within, adds-rows}
 use Rattle.steps.specs.Through.{adds-start, adds-next, adds-full-end, adds-end}

@@ -3,39 +3,37 @@
 use Prim.Native.Nat.{ℕ, _+_, _-_, _*_, _≤_, _<_}
 use native.Mathlib.Omega.{arith}
 use mathlib.Core.Path.{_≡_, refl, sym, ap, subst, _∙_}
-use mathlib.Core.Bool.{Bool, true, false, cond}
+use mathlib.Core.Bool.{true, false}
 use mathlib.Core.List.{List, [], _∷_, _++_}
-use lib.Dec.{leb}
 use lib.ListN.{length, getD, set, take, drop, length-take}
 use Rattle.lists.specs.Lists.{Row, put, span, replaceFirst}
 use Rattle.lists.specs.Place.{placeOf, replace-at}
 use Rattle.lists.specs.At.{all-at}
-use Rattle.lists.specs.Bools.{cond-case, true-false}
+use Rattle.lists.specs.Bools.{cond-case}
 use Rattle.lists.specs.Put.{put-whole}
 use Rattle.layout.specs.Address as Address
-use Rattle.layout.specs.Address.{fitAddress, prefix, local}
+use Rattle.layout.specs.Address.{fitAddress, local}
 use Rattle.layout.specs.Route.{fitRoute}
 use Rattle.layout.specs.Request.{fitAddV4}
 use Rattle.layout.specs.Event.{newAddr4}
-use Rattle.definition.specs.State.{State, Out, sizes, becomes, stays, also, withAddresses}
-use Rattle.definition.specs.Words.{within, fitState, addressCount}
+use Rattle.definition.specs.State.{State, Out, sizes, becomes, withAddresses}
+use Rattle.definition.specs.Words.{fitState, addressCount}
 use Rattle.definition.specs.Reference.Insert.{kernelAdd4, kernelDel4}
 use Rattle.definition.specs.Reference.Addresses.{prefixRoute, changedTo, reroutes, moved, changeV4, sameAddress}
-use Rattle.definition.specs.Kept.Fit.{fit-state, length-address, length-route, fields-address}
-use Rattle.definition.specs.Kept.Keeps.{keeps-fit}
+use Rattle.definition.specs.Kept.Fit.{length-address, length-route, fields-address}
 use Rattle.definition.specs.Kept.Rows.{subnet-fit, changedTo-fit}
-use Rattle.definition.specs.Kept.Addresses.{kernelAdd4-keeps, moved-keeps}
+use Rattle.definition.specs.Kept.Addresses.{moved-keeps}
 use Rattle.definition.specs.Kept.Shrinking.{kernelDel4-away}
 use Rattle.definition.specs.Kept.Peaks.{kernelDel4-under}
 use Rattle.definition.specs.Kept.Step.{covered}
 use Rattle.candidates.specs.Rows.{subnetRoute}
-use Rattle.state.specs.Holds.{Holds, Valid, count-addresses, Sound, sound-valid}
+use Rattle.state.specs.Holds.{Holds, count-addresses, Sound}
 use Rattle.state.specs.Change.{address-at}
 use Rattle.events.specs.Does.{Does, does-one, rest}
-use Rattle.steps.specs.Adds.{Adds, joined, holds-within, does-adds, full-adds, adds-none, adds-also, adds-stop, adds-rows}
+use Rattle.steps.specs.Adds.{Adds, holds-within, does-adds, adds-none, adds-also, adds-stop, adds-rows}
 use Rattle.steps.specs.declared.Told.{Told}
 use Rattle.steps.specs.declared.Told.the-variants.{Rows, Full}
-use Rattle.bring.specs.Sound.{AddsFrom, Leaves, adds-holds, adds-sound, stays-leaves, also-leaves, kernelAdd4-leaves}
+use Rattle.bring.specs.Sound.{AddsFrom, adds-holds, adds-sound, also-leaves, kernelAdd4-leaves}
 use Rattle.bring.specs.New.{length-told}
 
 -- ---- the prefix route that an address gets, as it is written into a block of its size

@@ -1,29 +1,29 @@
 -- A new address: put in and told, then the routes that it brings.
 -- Assumes nothing.
-use Prim.Native.Nat.{ℕ, _+_, _-_, _*_, _≤_, _<_}
+use Prim.Native.Nat.{ℕ, _+_, _-_, _*_, _≤_}
 use native.Mathlib.Omega.{arith}
-use mathlib.Core.Path.{_≡_, refl, sym, ap, subst, _∙_}
+use mathlib.Core.Path.{_≡_, sym, ap, subst, _∙_}
 use mathlib.Core.Bool.{Bool, true, false, _&&_}
 use mathlib.Core.List.{List, [], _∷_, _++_}
 use lib.Dec.{leb}
-use lib.ListN.{length, getD, take, drop, length-append}
+use lib.ListN.{length, take, drop, length-append}
 use borrow.Author.Tests.{lt-leb}
 use Rattle.lists.specs.Lists.{Row, all, flat, put, zeros}
 use Rattle.lists.specs.Rows.{length-zeros, length-put}
-use Rattle.lists.specs.At.{insertAt, length-insertAt}
+use Rattle.lists.specs.At.{insertAt}
 use Rattle.lists.specs.Laid.{Laid, Lays}
 use Rattle.layout.specs.Address.{fitAddress}
 use Rattle.layout.specs.Route.{fitRoute}
 use Rattle.layout.specs.Event.{newAddr4}
-use Rattle.definition.specs.State.{State, Out, sizes, becomes, withAddresses}
-use Rattle.definition.specs.Words.{within, fitState, addressCount}
+use Rattle.definition.specs.State.{State, becomes, withAddresses}
+use Rattle.definition.specs.Words.{fitState, addressCount}
 use Rattle.definition.specs.Reference.Addresses.{candidates, bring, place4, newAddress}
 use Rattle.definition.specs.Kept.Fit.{fit-state, state-fit, length-address, fields-address}
 use Rattle.definition.specs.Kept.Keeps.{fit-addresses}
 use Rattle.definition.specs.Kept.Rows.{candidates-fit}
 use Rattle.definition.specs.Kept.Addresses.{place4-fit}
 use Rattle.definition.specs.Kept.Growing.{length-place4}
-use Rattle.state.specs.Holds.{Holds, Valid, count-addresses, Sound}
+use Rattle.state.specs.Holds.{Holds, count-addresses}
 use Rattle.events.specs.Does.{does-one, rest}
 use Rattle.steps.specs.Adds.{Adds, joined, holds-within, does-adds, full-adds, adds-also, adds-stop}
 use Rattle.steps.specs.declared.Told.{Told}

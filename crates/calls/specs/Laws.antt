@@ -9,12 +9,12 @@ use lib.Dec.{eqb, leb, ltb}
 use borrow.Author.Tests.{ne-eqb}
 use Rattle.lists.specs.Lists.{Row, flat, put}
 use Rattle.lists.specs.Bools.{cond-case, cond-true, cond-false}
-use Rattle.lists.specs.Put.{put-none}
+use Rattle.lists.specs.Put.{put-no-rows}
 use Rattle.layout.specs.Address.{optional, fitAddress}
 use Rattle.layout.specs.Route.{fitRoute}
 use Rattle.definition.specs.Words.{decode}
 use Rattle.definition.specs.Call.{Reply, valued, optionally}
-use Rattle.definition.specs.Step.{Result, reading, upCall, downCall, addV4Call, delV4Call, expireCall, addRoute4Call, delRoute4Call, dump4Call, lookup4Call, lookup4FlowCall, local4Call, source4Call, sourceCall, select4Call, leftCall}
+use Rattle.definition.specs.Step.{Result, reading, delRoute4Call, dump4Call, lookup4Call, lookup4FlowCall, local4Call, source4Call, sourceCall, select4Call, leftCall}
 use Rattle.definition.specs.Reference.Lookup as Lookup
 use Rattle.definition.specs.Reference.Source.{source, source4, select4, present}
 use Rattle.interface.specs.Answer.{Numbers, numbers}
@@ -70,10 +70,6 @@ pub left-quiet : (row : Row) (clock : ℕ) → leftCall row clock .rows ≡ []
 unfolding leftCall
 left-quiet row clock = cond-case (λ (r : Reply). r .rows ≡ []) (fitAddress row) (λ e. refl) (λ e. refl)
 
-kept : (b : List ℕ) → b ≡ put 0 (flat []) b
-unfolding flat
-kept b = put-none 0 b
-
 -- ---- a call made, under its number
 -- one that changes, by what its own contract says
 module _ (code : ℕ) (q : Row) (clock room : ℕ) (w : List ℕ) where
@@ -110,7 +106,7 @@ module _ (code : ℕ) (row : Row) (a b c room : ℕ) (w : List ℕ) where
   -- and writes no row
   pub answers : (x : Result) {bu : List ℕ} {r : Rep.Reply} (n : Numbers) → x ≡ readBy code row a b c room w → r ≡ replyFrom n → n ≡ numbers (x .reply) → x .reply .rows ≡ []
       → Did (readBy code row a b c room w) bu r w bu
-  answers x {bu} n e f g q = writes x n e f g (kept bu ∙ ap (λ (l : List Row). put 0 (flat l) bu) (sym q))
+  answers x {bu} n e f g q = writes x n e f g (put-no-rows bu ∙ ap (λ (l : List Row). put 0 (flat l) bu) (sym q))
 
   pub read-rest : (code ≡ 8 → ⊥) → (code ≡ 9 → ⊥) → (code ≡ 10 → ⊥) → (code ≡ 11 → ⊥) → (code ≡ 12 → ⊥) → (code ≡ 13 → ⊥) → (code ≡ 14 → ⊥)
       → _≡_ {A = Result} (record { reply = leftCall row (clockOf a b); words = w }) (readBy code row a b c room w)

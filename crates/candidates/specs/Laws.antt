@@ -4,24 +4,24 @@ use Prim.Native.Nat.{ℕ, _+_, _*_, _≤_}
 use native.Mathlib.Nat.{add-zero, zero-add, add-assoc}
 use native.Mathlib.Omega.{arith}
 use mathlib.Core.Path.{_≡_, refl, sym, ap, _∙_}
-use mathlib.Core.Bool.{Bool, true, false, cond, not, _&&_}
+use mathlib.Core.Bool.{Bool, true, false}
 use mathlib.Core.List.{List, [], _∷_, _++_, map, append-nil, append-assoc}
-use lib.Dec.{eqb, ltb}
+use lib.Dec.{eqb}
 use lib.ListN.{length, length-append}
 use borrow.Author.Tests.{eq-eqb}
-use Rattle.lists.specs.Lists.{Row, all, keep, zeros, put, flat}
+use Rattle.lists.specs.Lists.{Row, keep, zeros, put, flat}
 use Rattle.lists.specs.All.{all-append}
 use Rattle.lists.specs.Rows.{sized, length-zeros, length-flat}
 use Rattle.lists.specs.Put.{put-none, put-behind}
-use Rattle.lists.specs.At.{flat-append, flat-cons}
+use Rattle.lists.specs.At.{flat-append}
 use Rattle.prefix.specs.Mask.{network, broadcast}
 use Rattle.layout.specs.Address as Address
-use Rattle.layout.specs.Address.{address, prefix, secondary, noPrefixRoute}
+use Rattle.layout.specs.Address.{address, prefix}
 use Rattle.definition.specs.Reference.Lookup.{localKind, broadcastKind}
-use Rattle.definition.specs.Reference.Addresses.{kernelRoute, localRoute, prefixRoute, upRoutes, candidates, primaryOf, only, namesBroadcast, ownNetwork}
+use Rattle.definition.specs.Reference.Addresses.{kernelRoute, localRoute, prefixRoute, upRoutes, candidates, primaryOf, only, namesBroadcast}
 use Rattle.definition.specs.Reference.Removal.{anyPriority, ofKind, leaving}
 use Rattle.subnet.specs.Brings.{bringsPrefix, bringsBroadcast}
-use Rattle.candidates.specs.Rows.{subnetRoute, namedRoutes, prefixRoutes, subnetRoutes, scopeOf, Appended}
+use Rattle.candidates.specs.Rows.{namedRoutes, prefixRoutes, subnetRoutes, scopeOf, Appended}
 
 -- ---- a row's words
 pub route-words : (dst len priority kind source scope : ℕ) → scope ≡ scopeOf kind

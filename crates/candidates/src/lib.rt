@@ -1,14 +1,12 @@
 // The routes that an address brings, and those that go with it, as rows written into a lent block.
 ghost use mathlib.Core.Path.{_≡_};
-ghost use mathlib.Core.Bool.{true, cond};
 ghost use mathlib.Core.List.{List};
-ghost use Prim.Native.Nat.{ℕ, _+_, _*_, _≤_};
-ghost use lib.Dec.{eqb};
+ghost use Prim.Native.Nat.{_+_, _*_, _≤_};
 ghost use lib.ListN.{length};
 ghost use Rattle.lists.specs.Lists.{Row, put, flat};
 ghost use Rattle.lists.specs.Laid.{Laid, Lays};
 ghost use Rattle.prefix.specs.Mask.{network};
-ghost use Rattle.layout.specs.Address.{address, prefix, fitAddress};
+ghost use Rattle.layout.specs.Address.{prefix, fitAddress};
 ghost use Rattle.definition.specs.Reference.Addresses.{kernelRoute, upRoutes, candidates};
 ghost use Rattle.definition.specs.Reference.Removal.{leaving};
 ghost use Rattle.candidates.specs.Rows.{namedRoutes, prefixRoutes, subnetRoutes, subnetRoute, scopeOf, Appended};

@@ -8,7 +8,7 @@ use lib.Dec.{eqb}
 use lib.ListN.{length}
 use borrow.Author.Tests.{ne-eqb, eqb-true, leb-true}
 use Rattle.lists.specs.Bools.{and-left, and-right}
-use Rattle.lists.specs.Lists.{Row, flat, put}
+use Rattle.lists.specs.Lists.{flat, put}
 use Rattle.definition.specs.State.{State, Out, sizes}
 use Rattle.definition.specs.Words.{within, stateSize, encode, decode, wellFormed}
 use Rattle.definition.specs.Call.{refusal, written}

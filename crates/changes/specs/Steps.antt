@@ -1,13 +1,12 @@
 -- The answers of calls that only take away: their steps always keep to the limits, and the buffer has room for what they tell.
-use Prim.Native.Nat.{ℕ, _+_, _*_, _≤_}
+use Prim.Native.Nat.{ℕ, _≤_}
 use native.Mathlib.Omega.{arith}
-use mathlib.Core.Path.{_≡_, refl, sym, ap, _∙_}
+use mathlib.Core.Path.{_≡_, refl, ap, _∙_}
 use mathlib.Core.Bool.{Bool, true, _&&_}
 use mathlib.Core.List.{List}
 use lib.Dec.{leb}
 use lib.ListN.{length}
 use borrow.Author.Tests.{leb-true}
-use Rattle.lists.specs.Lists.{flat, put}
 use Rattle.lists.specs.Count.{count-most}
 use Rattle.lists.specs.Bools.{and-iff}
 use Rattle.lists.specs.Put.{put-no-rows}

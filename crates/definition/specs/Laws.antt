@@ -3,3 +3,4 @@ pub mod Lookup
 pub mod Expire
 pub mod Private
 pub mod Refusals
+pub mod Order

@@ -1,10 +1,10 @@
 -- The state as 9,507 words, and when words are a state (document 01, "The state, words of 32 bits").
-use Prim.Native.Nat.{ℕ, zero, suc, _+_, _*_, _-_}
-use mathlib.Core.Bool.{Bool, true, false, not, _&&_}
-use mathlib.Core.List.{List, [], _∷_, _++_}
+use Prim.Native.Nat.{ℕ, _+_, _*_, _-_}
+use mathlib.Core.Bool.{Bool, not, _&&_}
+use mathlib.Core.List.{List, _∷_, _++_}
 use lib.Dec.{eqb, leb}
 use lib.ListN.{length, getD, drop}
-use Rattle.lists.specs.Lists.{Row, all, among, pairwise, eqRow, allZero, flat, pad, span, chop}
+use Rattle.lists.specs.Lists.{Row, all, pairwise, eqRow, allZero, flat, pad, span, chop}
 use Rattle.layout.specs.Address as Address
 use Rattle.layout.specs.Route as Route
 use Rattle.layout.specs.Address.{fitAddress}

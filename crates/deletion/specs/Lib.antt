@@ -1,4 +1,3 @@
-pub mod Front
 pub mod Strays
 pub mod Delete
 pub mod Sweep

@@ -16,7 +16,7 @@ use Rattle.definition.specs.State.{State, Out, becomes, also, through, withRout
 use Rattle.definition.specs.Reference.Insert.{named, kernelDel4}
 use Rattle.definition.specs.Reference.Removal.{straysFrom}
 use Rattle.events.specs.Turns.{Like}
-use Rattle.deletion.specs.Front.{any-joined, first-behind, remove-behind}
+use Rattle.lists.specs.Front.{none-joined, first-behind, remove-behind}
 
 pub named-self : (r : Row) → named r r ≡ true
 unfolding named
@@ -44,7 +44,7 @@ module _ (q : Row → Bool) (both : (p r : Row) → q p ≡ true → named p r �
       let on = behind front l c in
       rw (e, self) (record { leaves = on .leaves; tells = ap (λ (m : List Row). delRoute4 x ∷ m) (on .tells) }))
       (λ e.
-      let on = behind (front ++ (x ∷ [])) l (any-joined q front (x ∷ []) c (rw e)) in
+      let on = behind (front ++ (x ∷ [])) l (none-joined q front (x ∷ []) c (rw e)) in
       rw e (rw (append-assoc front (x ∷ []) l, append-assoc front (x ∷ []) (keep (λ r. not (q r)) l)) at on))
 
   pub all-go : Like (through kernelDel4 (keep q (st .routes)) st) (becomes (withRoutes (keep (λ r. not (q r)) (st .routes)) st) (map delRoute4 (keep q (st .routes))))

@@ -20,10 +20,10 @@ use Rattle.definition.specs.State.{State, becomes, withRoutes}
 use Rattle.definition.specs.Words.{routeCount}
 use Rattle.definition.specs.Reference.Removal.{straysFrom}
 use Rattle.definition.specs.Kept.Shrinking.{weight}
-use Rattle.state.specs.Holds.{sizedR, count-routes}
+use Rattle.state.specs.Holds.{sizedR}
 use Rattle.retain.specs.Retain.{rowsOf, keep-next, routes-of, lentRow, lent-span, Turned, turned-stays, turned-goes, Keeping, keeping-start, keeping-few, keeping-row, keeping-turn, keeping-end}
 use Rattle.events.specs.Does.{rest}
-use Rattle.events.specs.Step.{Fits, Ready, Step, step-same}
+use Rattle.events.specs.Step.{Fits, Step, step-same}
 use Rattle.deletion.specs.Strays.{straysGo, stray-named, all-go}
 
 -- row i was looked at behind j that stay: it is told if it passes, and stays otherwise

@@ -1,15 +1,8 @@
 // Main routes that fall with their preferred source, told from the start of what is lent of the events.
 ghost use mathlib.Core.Path.{_≡_};
-ghost use mathlib.Core.List.{List};
 ghost use Prim.Native.Nat.{_+_, _*_, _≤_, _<_};
 ghost use lib.ListN.{length};
-ghost use Rattle.lists.specs.Lists.{Row};
-ghost use Rattle.lists.specs.Laid.{Laid, Lays};
-ghost use Rattle.lists.specs.Place.{placeOf};
-ghost use Rattle.layout.specs.Route.{fitRoute};
 ghost use Rattle.definition.specs.State.{State};
-ghost use Rattle.definition.specs.Words.{routeCount};
-ghost use Rattle.definition.specs.Reference.Insert.{named, kernelDel4};
 ghost use Rattle.definition.specs.Reference.Removal.{straysFrom};
 ghost use Rattle.definition.specs.Kept.Shrinking.{weight};
 ghost use Rattle.events.specs.Step.{Fits, Ready, Step};

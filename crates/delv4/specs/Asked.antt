@@ -1,28 +1,27 @@
 -- The first address that meets a request's conditions goes.
 -- Assumes nothing.
-use Prim.Native.Nat.{ℕ, zero, suc, _+_, _-_, _*_, _^_, _≤_, _<_}
+use Prim.Native.Nat.{ℕ, _+_, _-_, _*_, _^_, _≤_, _<_}
 use mathlib.Core.Path.{_≡_, refl, sym, ap, _∙_}
-use mathlib.Core.Bool.{Bool, true, false, cond, not, _&&_, _||_}
+use mathlib.Core.Bool.{Bool, true, false, _&&_, _||_}
 use mathlib.Core.List.{List, []}
-use mathlib.Core.Option.{Option, none, some}
 use native.Mathlib.Omega.{arith}
 use lib.Dec.{eqb}
 use lib.ListN.{length, getD, getElem?}
-use borrow.Author.Tests.{eqb-true, eqb-false, eq-eqb, ne-eqb}
+use borrow.Author.Tests.{eqb-true, eq-eqb, ne-eqb}
 use Rattle.lists.specs.Lists.{Row, any, first, eqRow}
-use Rattle.lists.specs.Bools.{and-iff, and-both, and-left, and-right, fails, true-false}
+use Rattle.lists.specs.Bools.{and-iff, and-both, true-false}
 use Rattle.lists.specs.All.{eqRow-refl}
 use Rattle.lists.specs.Place.{placeOf, first-at, nothing-from, something-at}
 use Rattle.layout.specs.Address.{local, prefix, label, labelLength}
 use Rattle.layout.specs.Request.{localPresent, localGiven, addressPresent, addressGiven, prefixGiven, labelPresent, labelLengthGiven, labelGiven}
 use Rattle.definition.specs.State.{State, Out}
 use Rattle.definition.specs.Words.{addressCount}
-use Rattle.definition.specs.Reference.Addresses.{covers, Outcome, goes, refused}
+use Rattle.definition.specs.Reference.Addresses.{covers, goes, refused}
 use Rattle.definition.specs.Reference.Removal.{deletes, delV4, removeV4}
 use Rattle.definition.specs.Kept.Shrinking.{weight}
 use Rattle.state.specs.Holds.{Holds, count-addresses}
 use Rattle.events.specs.Step.{Fits, Step}
-use Rattle.removal.specs.Gone.{any-here}
+use Rattle.lists.specs.Front.{any-here}
 use Rattle.removal.specs.One.{addressRow, lent-address}
 use Rattle.delv4.specs.declared.Deleted.{Deleted}
 use Rattle.delv4.specs.declared.Deleted.the-variants.{Rows, Nothing}

@@ -1,16 +1,16 @@
 -- The answer of a listing: document 01's number and values for each case, and the case for each reply.
-use Prim.Native.Nat.{ℕ, _≤_}
-use mathlib.Core.Path.{_≡_, refl, sym, ap, _∙_}
-use mathlib.Core.Bool.{Bool, true, cond}
+use Prim.Native.Nat.{ℕ}
+use mathlib.Core.Path.{_≡_, sym, ap, _∙_}
+use mathlib.Core.Bool.{true, cond}
 use mathlib.Core.List.{List}
 use lib.Dec.{eqb, leb}
 use lib.ListN.{length}
 use borrow.Author.Tests.{ne-eqb}
-use Rattle.lists.specs.Lists.{Row, flat, put}
+use Rattle.lists.specs.Lists.{flat, put}
 use Rattle.lists.specs.Put.{put-no-rows}
 use Rattle.definition.specs.Words.{decode}
 use Rattle.definition.specs.Call.{Reply, refusal, written}
-use Rattle.definition.specs.Step.{reading, dump4Call, listingRoom}
+use Rattle.definition.specs.Step.{dump4Call, listingRoom}
 use Rattle.definition.specs.Reference.Source.{dump4}
 use Rattle.interface.specs.Answer.{Numbers, refusedBy, valuing}
 use Rattle.interface.specs.Laws.{checked, read-refused, read-answered}

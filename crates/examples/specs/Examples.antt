@@ -3,19 +3,18 @@
 -- rows that the calls write, and the tables listed afterwards.
 use Prim.Native.Nat.{ℕ, _+_, _*_}
 use mathlib.Core.Path.{_≡_, refl}
-use mathlib.Core.Bool.{Bool, true, false, not}
+use mathlib.Core.Bool.{Bool, false}
 use mathlib.Core.List.{List, [], _∷_, _++_, map}
-use lib.ListN.{length}
-use Rattle.lists.specs.Lists.{Row, any, zeros}
+use Rattle.lists.specs.Lists.{Row, any}
 use Rattle.prefix.specs.Mask.{mask}
 use Rattle.layout.specs.Event.{newAddr4, delAddr4, newRoute4, delRoute4}
-use Rattle.definition.specs.State.{State, empty}
-use Rattle.definition.specs.Reference.Lookup.{Flow, fits}
+use Rattle.definition.specs.State.{empty}
+use Rattle.definition.specs.Reference.Lookup.{fits}
 use Rattle.definition.specs.Reference.Source.{below}
-use Rattle.definition.specs.Words.{encode, decode, tableCount}
+use Rattle.definition.specs.Words.{encode, decode}
 use Rattle.definition.specs.Call.{Call, Reply, refusal, valued, written, foundRow}
 use Rattle.definition.specs.Reference.Lookup.Found.{route}
-use Rattle.definition.specs.Step.{step, Result, eventRoom}
+use Rattle.definition.specs.Step.{step, eventRoom}
 use Rattle.definition.specs.Computing.{computing}
 
 -- ---- the table's terms

@@ -1,21 +1,20 @@
 -- The turns of `expire`, as the code makes them.
 -- Assumes nothing.
-use Prim.Native.Nat.{ℕ, zero, suc, _+_, _-_, _*_, _^_, _≤_, _<_}
+use Prim.Native.Nat.{ℕ, _+_, _-_, _*_, _≤_, _<_}
 use mathlib.Core.Path.{_≡_, refl, sym, ap, _∙_}
-use mathlib.Core.Bool.{Bool, true, false, cond, not, _&&_, _||_}
+use mathlib.Core.Bool.{Bool, true, false, cond, not, _&&_}
 use mathlib.Core.List.{List, [], _∷_, _++_}
 use native.Mathlib.Omega.{arith}
 use lib.Bits.{bitAnd}
 use lib.Dec.{eqb, ltb}
 use lib.ListN.{length, getD, take, drop, set, length-append}
 use borrow.Author.Tests.{lt-ltb, le-ltb, ltb-true, ltb-false}
-use Rattle.lists.specs.Lists.{Row, all, any, eqRow, put, zeros}
+use Rattle.lists.specs.Lists.{Row, any, eqRow, put, zeros}
 use Rattle.lists.specs.Bools.{cond-true, cond-false, test-case}
 use Rattle.lists.specs.All.{eqRow-refl}
 use Rattle.lists.specs.At.{all-at}
 use Rattle.lists.specs.Rows.{length-zeros}
 use Rattle.life.specs.Life.{reached}
-use Rattle.layout.specs.Flags.{hasBit}
 use Rattle.layout.specs.Bits.{has-and}
 use Rattle.layout.specs.Address.{fitAddress, valid, preferred, changed, flags, permanent, deprecated}
 use Rattle.layout.specs.Event.{newAddr4}
@@ -25,15 +24,15 @@ use Rattle.definition.specs.Reference.Removal.{removeV4, due, fades, faded, exp
 use Rattle.definition.specs.Kept.Fit.{length-address}
 use Rattle.definition.specs.Kept.Rows.{faded-fit}
 use Rattle.definition.specs.Kept.Shrinking.{weight}
-use Rattle.state.specs.Holds.{Holds, Valid, count-addresses, holds-long}
+use Rattle.state.specs.Holds.{Holds, count-addresses}
 use Rattle.events.specs.Does.{rest}
-use Rattle.events.specs.Step.{Fits, Ready, Step, rest-fits, step-one, step-none, step-also}
-use Rattle.events.specs.Turns.{Like, like-refl, like-sym, like-trans, also-like, also-assoc, Going, going-start, going-end, going-fits}
+use Rattle.events.specs.Step.{Fits, Ready, Step, step-one, step-none, step-also}
+use Rattle.events.specs.Turns.{like-refl, like-sym, like-trans, also-like, also-assoc, Going, going-start, going-end, going-fits}
 use Rattle.deletion.specs.Delete.{step-eq}
 use Rattle.leave.specs.Turns.{step-facts}
-use Rattle.removal.specs.Gone.{any-here}
-use Rattle.removal.specs.One.{Present, addressRow, lent-address, put-row}
-use Rattle.expiry.specs.Turn.{stirs, expireTurn, Quiet, nextPlace, expire-turn, expire-none, live-lighter, turn-fewer}
+use Rattle.lists.specs.Front.{any-here}
+use Rattle.removal.specs.One.{addressRow, lent-address, put-row}
+use Rattle.expiry.specs.Turn.{expireTurn, Quiet, nextPlace, expire-turn, expire-none, live-lighter, turn-fewer}
 
 -- ---- the tests
 pub due-is : (allowance now : ℕ) (a : Row) (over : Bool) → over ≡ reached allowance (valid a) (changed a) now

@@ -1,26 +1,24 @@
 -- `expire` address by address: one that is due goes and all begins again, one that fades is marked, and behind a front
 -- of addresses that do neither what is left is `expire` itself.
 -- Assumes nothing.
-use Prim.Native.Nat.{ℕ, zero, suc, _+_, _-_, _*_, _/_, _%_, _^_, _≤_, _<_}
+use Prim.Native.Nat.{ℕ, suc, _+_, _-_, _*_, _/_, _%_, _^_, _≤_, _<_}
 use mathlib.Core.Path.{_≡_, refl, sym, ap, _∙_}
-use mathlib.Core.Bool.{Bool, true, false, cond, not, _&&_, _||_}
+use mathlib.Core.Bool.{Bool, true, false, cond, not, _||_}
 use mathlib.Core.List.{List, [], _∷_, _++_, map, append-nil, append-assoc}
 use mathlib.Core.Option.{Option, none, some}
 use native.Mathlib.Omega.{arith}
-use native.Mathlib.Numerals.{add-one}
 use lib.Dec.{eqb, ltb}
 use borrow.Author.Tests.{lt-ltb, le-ltb, not-true}
 use lib.ListN.{length, getD, take, drop, set, length-set, length-append}
 use lib.Seq.{set-split, take-all, take-at, length-take-le, split-at}
 use Rattle.lists.specs.Lists.{Row, all, any, keep, first, until, onward, removeFirst, eqRow}
-use Rattle.lists.specs.Bools.{or-false, or-left, or-right, and-iff, test-case, cond-case, fails, true-false}
+use Rattle.lists.specs.Bools.{or-false, or-left, and-iff, test-case, cond-case, fails, true-false}
 use Rattle.lists.specs.All.{any-none, eqRow-refl}
 use Rattle.lists.specs.At.{all-at}
-use Rattle.lists.specs.Count.{tick, tick-one, tick-none, count, count-append, length-removeFirst, length-removeFirst-most}
-use Rattle.life.specs.Life.{reached, clock}
+use Rattle.lists.specs.Count.{tick-one, tick-none, count, count-append, length-removeFirst, length-removeFirst-most}
 use Rattle.life.specs.Laws.{clock-words}
 use Rattle.layout.specs.Flags.{hasBit, setBit, clearBit}
-use Rattle.layout.specs.Address.{fitAddress, permanent, deprecated, valid, preferred, changed, flags}
+use Rattle.layout.specs.Address.{fitAddress, deprecated, changed, flags}
 use Rattle.layout.specs.Event.{newAddr4}
 use Rattle.definition.specs.State.{State, Out, becomes, stays, also, through, withAddresses}
 use Rattle.definition.specs.Reference.Addresses.{rewritten}
@@ -29,8 +27,8 @@ use Rattle.definition.specs.Laws.Expire.{expire-last, expire-again}
 use Rattle.definition.specs.Kept.Fit.{length-address}
 use Rattle.definition.specs.Kept.Shrinking.{weight, live, faded-marked, removeOne-removes}
 use Rattle.events.specs.Turns.{Like, like-refl, like-sym, like-trans, like-eq, stays-also, also-like, also-assoc}
-use Rattle.deletion.specs.Front.{any-joined, first-front, front-more}
-use Rattle.removal.specs.Gone.{goesWith, secondaries, remove-parts, primary-there, any-here}
+use Rattle.lists.specs.Front.{none-joined, first-front, front-more, any-here}
+use Rattle.removal.specs.Gone.{goesWith, secondaries, remove-parts, primary-there}
 
 -- ---- an address that is marked
 small : (x b q : ℕ) → x < 128 → q ≡ x / 32 → b ≡ q % 2 → (b * 32 ≤ x) × (x - b * 32 + 32 < 128)
@@ -205,7 +203,7 @@ module _ (allowance now : ℕ) where
             ap (take (i + 1)) (split ∙ sym (append-assoc (take i l) (faded a ∷ []) rest))
             ∙ take-at (take i l ++ (faded a ∷ [])) rest (i + 1) (length-append (take i l) (faded a ∷ []) ∙ ap (λ (n : ℕ). n + 1) long)
             in
-            rw there (any-joined stirs (take i l) (faded a ∷ []) clean (rw two))
+            rw there (none-joined stirs (take i l) (faded a ∷ []) clean (rw two))
 
     -- none is left
     pub expire-none : length l ≤ i → Like (expire allowance now st) (stays st)

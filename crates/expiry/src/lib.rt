@@ -1,11 +1,10 @@
 // Addresses at the end of their lives: one that is due goes, and all begins again; one that fades is marked and told.
 use life::Nanoseconds;
 ghost use mathlib.Core.Path.{_≡_};
-ghost use mathlib.Core.Bool.{Bool, true, cond};
-ghost use mathlib.Core.List.{List, _∷_, []};
-ghost use Prim.Native.Nat.{ℕ, _+_, _*_, _≤_, _<_};
+ghost use mathlib.Core.Bool.{true};
+ghost use Prim.Native.Nat.{_+_, _*_, _≤_, _<_};
 ghost use lib.ListN.{length, set};
-ghost use Rattle.lists.specs.Lists.{Row, put};
+ghost use Rattle.lists.specs.Lists.{put};
 ghost use Rattle.layout.specs.Address.{fitAddress};
 ghost use Rattle.layout.specs.Event.{newAddr4};
 ghost use Rattle.definition.specs.State.{State, withAddresses};

@@ -1,17 +1,16 @@
 -- What the code's tests of a request's pairs come to.
 -- Assumes nothing.
 use Prim.Native.Nat.{ℕ, _+_, _*_, _≤_, _<_}
-use mathlib.Core.Path.{_≡_, refl, sym, ap, _∙_}
+use mathlib.Core.Path.{_≡_, ap, _∙_}
 use mathlib.Core.Bool.{Bool, true, false, _&&_, and-true, and-false}
-use mathlib.Core.List.{List}
 use native.Mathlib.Omega.{arith}
 use lib.Dec.{leb, lit<}
-use lib.ListN.{length, getD, take, drop}
+use lib.ListN.{getD, drop}
 use borrow.Author.Tests.{le-leb, lt-leb}
 use Rattle.lists.specs.Lists.{Row, all}
 use Rattle.lists.specs.Chop.{chopFrom, chop-start, pass-all, pass-all-end, chop-word-from}
 use Rattle.layout.specs.Address.{optional}
-use Rattle.layout.specs.Request.{pairIndex, pairCount, pairs, fitPairs, fitRouteWords, fitDelRoute4, listPresent}
+use Rattle.layout.specs.Request.{pairIndex, pairCount, fitPairs, fitRouteWords, fitDelRoute4, listPresent}
 
 -- ---- pairs
 abbrev pub fitPair : Row → Bool

@@ -2,29 +2,29 @@
 -- Assumes nothing.
 use Prim.Native.Nat.{ℕ, _+_, _*_, _≤_, _<_, max}
 use mathlib.Core.Path.{_≡_, refl, sym, ap, _∙_, fun-ext}
-use mathlib.Core.Bool.{Bool, true, false, cond, not, _&&_, _||_, or-self, Bool·not-not}
+use mathlib.Core.Bool.{Bool, true, false, _&&_, _||_, or-self, Bool·not-not}
 use mathlib.Core.List.{List, [], _∷_}
-use mathlib.Core.Option.{Option, none, some}
+use mathlib.Core.Option.{some}
 use native.Mathlib.Omega.{arith}
-use lib.Dec.{eqb, leb, ltb, lit<}
+use lib.Dec.{eqb, lit<}
 use lib.ListN.{length, getD, getElem?}
-use borrow.Author.Tests.{eq-eqb, ne-eqb, lt-ltb, le-ltb}
+use borrow.Author.Tests.{eq-eqb, ne-eqb}
 use Rattle.lists.specs.Lists.{Row, keep}
 use Rattle.lists.specs.Laid.{Laid, laid-word}
 use Rattle.kind.specs.Kind.{errorOf}
-use Rattle.layout.specs.Route.{fitRoute, table, kind, scope, gatewayPresent, gateway}
+use Rattle.layout.specs.Route.{fitRoute, kind, scope, gateway}
 use Rattle.layout.specs.Request.{oif, upAtAddRoute4}
-use Rattle.definition.specs.Reference.Lookup.{Flow, Found, route, answer, longest, together, fits, typeSet, localTable, mainTable, defaultTable}
-use Rattle.definition.specs.Reference.Addresses.{linkScope, hostScope}
+use Rattle.definition.specs.Reference.Lookup.{Flow, Found, route, answer, longest, together, fits, typeSet, localTable, mainTable}
+use Rattle.definition.specs.Reference.Addresses.{linkScope}
 use Rattle.definition.specs.Reference.Routes as Routes
-use Rattle.definition.specs.Reference.Routes.{by, refused, tableNamed, onlinkFlag, then, refuse, toGateway, usable, foundOr, reachedBy, plain}
+use Rattle.definition.specs.Reference.Routes.{refused, tableNamed, onlinkFlag, toGateway, usable, reachedBy}
 use Rattle.lookup.specs.AddrType.{typeRows}
 use Rattle.lookup.specs.Answer.{lookupRows, foundBy}
 use Rattle.lists.specs.Place.{nothing-from, something-at}
 use Rattle.lists.specs.Pass.{laid-rows}
 use Rattle.lookup.specs.declared.Looked.{Looked}
 use Rattle.lookup.specs.declared.Looked.the-variants.{At, Refused}
-use Rattle.gateway.specs.Rows.{settled, onlinkNumber, onlinkRows, gatewayRows, rowReached, gateway4Rows, reachRows}
+use Rattle.gateway.specs.Rows.{settled, onlinkNumber, onlinkRows, gatewayRows, rowReached, gateway4Rows}
 
 -- ---- the sets
 upper-set : (t : ℕ) → (eqb t localTable || eqb t mainTable) ≡ true → together t ≡ (λ u. eqb u 255 || eqb u 254)

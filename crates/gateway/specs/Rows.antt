@@ -2,7 +2,7 @@
 -- Assumes nothing.
 use Prim.Native.Nat.{ℕ}
 use mathlib.Core.Path.{_≡_, refl}
-use mathlib.Core.Bool.{Bool, true, false, cond, not, _||_}
+use mathlib.Core.Bool.{Bool, true, cond, not, _||_}
 use mathlib.Core.List.{List}
 use lib.Dec.{eqb, leb, ltb}
 use Rattle.lists.specs.Lists.{Row}

@@ -3,7 +3,7 @@ use lookup::Flow;
 use lookup::Looked;
 ghost use mathlib.Core.Path.{_≡_};
 ghost use mathlib.Core.Bool.{true};
-ghost use Prim.Native.Nat.{ℕ, _+_, _*_, _<_, max};
+ghost use Prim.Native.Nat.{_+_, _*_, _<_, max};
 ghost use mathlib.Core.List.{List, []};
 ghost use lib.ListN.{length, getD, getElem?};
 ghost use Rattle.lists.specs.Lists.{Row};

@@ -1,12 +1,12 @@
 -- What an insertion is to do, as a place among the rows.
 -- Assumes nothing.
-use Prim.Native.Nat.{ℕ, suc, _+_, _-_, _*_, _^_, _≤_, _<_}
+use Prim.Native.Nat.{ℕ, _-_, _^_, _≤_, _<_}
 use mathlib.Core.Path.{_≡_, refl, sym, ap, _∙_}
 use mathlib.Core.Bool.{Bool, true, false, cond, not}
-use mathlib.Core.List.{List, [], _∷_, _++_}
-use mathlib.Core.Option.{Option, none, some}
+use mathlib.Core.List.{List, []}
+use mathlib.Core.Option.{some}
 use native.Mathlib.Omega.{arith}
-use lib.Dec.{eqb, ltb, leb}
+use lib.Dec.{eqb, leb}
 use lib.Bits.{bitAnd}
 use lib.ListN.{length, getD, set, getElem?, length-set}
 use borrow.Author.Tests.{lt-ltb, le-ltb, le-leb, lt-leb}
@@ -19,12 +19,10 @@ use Rattle.layout.specs.Route.{alike}
 use Rattle.definition.specs.State.{State, withRoutes}
 use Rattle.definition.specs.Words.{ordered, fitState}
 use Rattle.definition.specs.Kept.Fit.{fit-state}
-use Rattle.state.specs.Holds.{Holds, count-routes}
-use Rattle.lists.specs.Laid.{Laid}
-use Rattle.layout.specs.Route.{fitRoute}
+use Rattle.state.specs.Holds.{Holds}
 use Rattle.lists.specs.Bools.{cond-case}
 use Rattle.definition.specs.Reference.Insert as Insert
-use Rattle.definition.specs.Reference.Insert.{ahead, behind, insert4, isRow, exclFlag, replaceFlag, createFlag, appendFlag}
+use Rattle.definition.specs.Reference.Insert.{ahead, insert4, exclFlag, replaceFlag, createFlag, appendFlag}
 use Rattle.insert.specs.Run.{Run, run-alike, run-within, run-ahead, run-behind, run-place}
 use Rattle.insert.specs.declared.Plan.{Plan}
 use Rattle.insert.specs.declared.Plan.the-variants.{Add, Replace, Keep, Refuse}

@@ -1,14 +1,14 @@
 -- Among ordered rows those alike a new one stand together: where they begin and end, found in one pass.
 -- Assumes nothing.
-use Prim.Native.Nat.{ℕ, zero, suc, _+_, _-_, _*_, _≤_, _<_}
+use Prim.Native.Nat.{ℕ, suc, _+_, _-_, _≤_, _<_}
 use mathlib.Core.Path.{_≡_, refl, sym, ap, _∙_}
-use mathlib.Core.Bool.{Bool, true, false, cond, not, _||_, Bool·not-not, or-false}
+use mathlib.Core.Bool.{Bool, true, false, not, _||_, Bool·not-not, or-false}
 use mathlib.Core.List.{List, [], _∷_, _++_}
 use native.Mathlib.Omega.{arith}
 use lib.Dec.{ltb}
-use lib.ListN.{length, getD, set, take, drop, take-append-drop}
+use lib.ListN.{length, getD, take, drop, take-append-drop}
 use lib.Seq.{drop-cons, take-all, length-take-le}
-use Rattle.lists.specs.Lists.{Row, all, any, first, eqRow, pairwise}
+use Rattle.lists.specs.Lists.{Row, all, any, eqRow, pairwise}
 use Rattle.lists.specs.Bools.{test-case, fails, true-false, or-case, not-both, false-not}
 use Rattle.lists.specs.All.{all-mono, all-cons, eqRow-true, pairwise-head, pairwise-tail}
 use Rattle.lists.specs.At.{insertAt}

@@ -1,6 +1,6 @@
 -- The answers of the calls that read: document 01's number and values for each case, and the case for each reply.
 use Prim.Native.Nat.{ℕ}
-use mathlib.Core.Bool.{Bool, cond}
+use mathlib.Core.Bool.{cond}
 use mathlib.Core.List.{List, [], _∷_}
 use lib.Dec.{eqb}
 use Rattle.lists.specs.Lists.{Row}

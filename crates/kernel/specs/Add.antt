@@ -1,22 +1,22 @@
 -- One of the kernel's routes added: what comes of it, by what came of the insertion.
 -- Assumes nothing.
-use Prim.Native.Nat.{ℕ, suc, _+_, _≤_, _<_}
-use mathlib.Core.Path.{_≡_, refl, sym, ap, _∙_}
-use mathlib.Core.Bool.{Bool, true, false, cond, _&&_}
-use mathlib.Core.List.{List, [], _∷_, _++_}
+use Prim.Native.Nat.{ℕ, _≤_, _<_}
+use mathlib.Core.Path.{_≡_, refl, sym, _∙_}
+use mathlib.Core.Bool.{Bool, true, false, _&&_}
+use mathlib.Core.List.{List}
 use native.Mathlib.Omega.{arith}
 use lib.Dec.{leb}
 use lib.ListN.{length}
 use borrow.Author.Tests.{lt-leb}
 use Rattle.lists.specs.Lists.{Row, put}
 use Rattle.lists.specs.Bools.{test-case}
-use Rattle.layout.specs.Route.{table, fitRoute}
+use Rattle.layout.specs.Route.{table}
 use Rattle.layout.specs.Event.{newRoute4}
-use Rattle.definition.specs.State.{State, Out, sizes, withRoutes, withTables}
+use Rattle.definition.specs.State.{State, sizes, withRoutes}
 use Rattle.definition.specs.Words.{within, fitState}
 use Rattle.definition.specs.Reference.Insert as Insert
 use Rattle.definition.specs.Reference.Insert.{listTable, create4, insert4, inserted, kernelAdd4}
-use Rattle.definition.specs.Kept.Fit.{fit-state, state-fit, length-route}
+use Rattle.definition.specs.Kept.Fit.{fit-state, state-fit}
 use Rattle.definition.specs.Kept.Addresses.{create4-fit}
 use Rattle.state.specs.Holds.{Holds, Valid}
 use Rattle.state.specs.Change.{tables-at}
@@ -24,10 +24,9 @@ use Rattle.tables.specs.Listed.{tablesOf}
 use Rattle.insert.specs.Plan.{answerOf, rowsAfter, InsertedInto}
 use Rattle.insert.specs.declared.Inserted.{Inserted}
 use Rattle.insert.specs.declared.Inserted.the-variants.{Put, Nothing, Refused, Full}
-use Rattle.events.specs.Does.{does-none, does-one}
+use Rattle.events.specs.Does.{does-one}
 use Rattle.steps.specs.Adds.{Adds, holds-within, does-adds, full-adds, adds-none}
 use Rattle.steps.specs.Through.{Covered}
-use Rattle.steps.specs.declared.Told.{Told}
 use Rattle.steps.specs.declared.Told.the-variants as Tell
 
 -- a list past its limit

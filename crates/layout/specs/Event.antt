@@ -1,6 +1,6 @@
 -- An event row: 34 words, what it is, the flags of a new route or 0, the address or route row, zeros (document 01).
 use Prim.Native.Nat.{ℕ}
-use mathlib.Core.List.{List, [], _∷_, _++_}
+use mathlib.Core.List.{_∷_, _++_}
 use Rattle.lists.specs.Lists.{Row, zeros}
 
 -- the words of a row

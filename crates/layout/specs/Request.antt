@@ -1,11 +1,11 @@
 -- The requests that a host hands over as words, and when one is fit (document 01: otherwise 202). Every word is a value of 32 bits;
 -- a field that is narrower in the reference keeps to its width, and what is absent is 0.
 use Prim.Native.Nat.{ℕ, _+_, _*_, _^_}
-use mathlib.Core.Bool.{Bool, _&&_, _||_}
+use mathlib.Core.Bool.{Bool, _&&_}
 use mathlib.Core.List.{List}
-use lib.Dec.{eqb, leb, ltb}
+use lib.Dec.{leb, ltb}
 use lib.ListN.{getD, take, drop}
-use Rattle.lists.specs.Lists.{Row, all, span, chop}
+use Rattle.lists.specs.Lists.{Row, all, chop}
 use Rattle.layout.specs.Address.{optional, fitLabel, prefix, broadcastPresent, broadcast, scope, proto, labelLength, label}
 use Rattle.layout.specs.Route as Route
 

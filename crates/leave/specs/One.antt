@@ -1,29 +1,27 @@
 -- What goes with an address, step by step: those of its routes that none wants, what falls with it, the device's routes.
 -- Assumes nothing.
-use Prim.Native.Nat.{ℕ, zero, suc, _+_, _-_, _*_, _≤_, _<_}
-use mathlib.Core.Path.{_≡_, refl, sym, ap, _∙_}
-use mathlib.Core.Bool.{Bool, true, false, cond, not, _&&_, _||_}
+use Prim.Native.Nat.{ℕ, suc, _+_, _-_, _≤_, _<_}
+use mathlib.Core.Path.{_≡_, refl, ap, _∙_}
+use mathlib.Core.Bool.{Bool, cond, not, _&&_}
 use mathlib.Core.List.{List, [], _∷_, _++_, append-nil}
 use native.Mathlib.Omega.{arith}
 use native.Mathlib.Numerals.{add-one}
 use lib.Dec.{eqb}
-use lib.ListN.{length, getD, take, drop, drop-of-length-le, length-append}
+use lib.ListN.{length, getD, drop, drop-of-length-le}
 use lib.Seq.{drop-cons}
-use Rattle.lists.specs.Lists.{Row, any, keep, removeFirst, eqRow}
+use Rattle.lists.specs.Lists.{Row, any, keep}
 use Rattle.lists.specs.Bools.{test-case, cond-case}
-use Rattle.lists.specs.Count.{count, length-removeFirst, count-removeFirst}
+use Rattle.lists.specs.Count.{count}
 use Rattle.layout.specs.Address.{local}
 use Rattle.layout.specs.Route as Route
-use Rattle.layout.specs.Event.{delAddr4}
-use Rattle.definition.specs.State.{State, Out, becomes, stays, also, through, withAddresses}
+use Rattle.definition.specs.State.{State, Out, stays, also, through}
 use Rattle.definition.specs.Reference.Lookup.{mainTable, localKind, listed, local4}
 use Rattle.definition.specs.Reference.Insert.{kernelDel4}
-use Rattle.definition.specs.Reference.Removal.{wanted, leaving, unwanted, ofKind, straysFrom, fall, disable, removeOne}
-use Rattle.definition.specs.Kept.Shrinking.{weight, live, kernelDel4-away, through-away, disable-away}
+use Rattle.definition.specs.Reference.Removal.{wanted, ofKind, straysFrom, fall, disable}
+use Rattle.definition.specs.Kept.Shrinking.{weight, live, kernelDel4-away, disable-away}
 use Rattle.state.specs.Holds.{Holds}
-use Rattle.events.specs.Does.{rest}
-use Rattle.events.specs.Step.{Fits, Step, step-same, step-one, step-rows}
-use Rattle.events.specs.Turns.{Like, like-refl, like-sym, like-trans, like-eq, stays-also, also-like}
+use Rattle.events.specs.Step.{Step}
+use Rattle.events.specs.Turns.{Like, like-refl, like-sym, like-trans, stays-also, also-like}
 
 -- ---- routes that none wants
 -- a route goes unless an address wants it

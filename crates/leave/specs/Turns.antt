@@ -1,30 +1,27 @@
 -- The steps of what goes with an address, as the code makes them.
 -- Assumes nothing.
-use Prim.Native.Nat.{ℕ, zero, suc, _+_, _-_, _*_, _≤_, _<_}
-use mathlib.Core.Path.{_≡_, refl, sym, ap, subst, _∙_}
-use mathlib.Core.Bool.{Bool, true, false, cond, not, _&&_, _||_, and-true, and-false}
-use mathlib.Core.List.{List, [], _∷_, _++_}
+use Prim.Native.Nat.{ℕ, _+_, _-_, _*_, _≤_, _<_}
+use mathlib.Core.Path.{_≡_, refl, sym, ap, _∙_}
+use mathlib.Core.Bool.{Bool, true, false, cond, not, _&&_, and-true, and-false}
+use mathlib.Core.List.{List, [], _++_}
 use native.Mathlib.Omega.{arith}
-use lib.Dec.{eqb, lit<}
+use lib.Dec.{lit<}
 use lib.ListN.{length, getD, take, drop}
 use Rattle.lists.specs.Lists.{Row, any, keep}
 use Rattle.lists.specs.Bools.{cond-true, cond-false, cond-case}
 use Rattle.lists.specs.Count.{count-most}
 use Rattle.lists.specs.Keep.{keep-nothing}
-use Rattle.lists.specs.Laid.{Laid, Lays, laid-part}
+use Rattle.lists.specs.Laid.{Laid, laid-part}
 use Rattle.lists.specs.Pass.{part, laid-rows}
-use Rattle.layout.specs.Address.{fitAddress}
 use Rattle.definition.specs.State.{State, Out, stays, also, through}
-use Rattle.definition.specs.Words.{addressCount}
 use Rattle.definition.specs.Reference.Lookup.{mainTable, listed, local4}
 use Rattle.definition.specs.Reference.Insert.{kernelDel4}
 use Rattle.definition.specs.Reference.Removal.{wanted, straysFrom, disable}
 use Rattle.definition.specs.Kept.Shrinking.{weight, live, kernelDel4-away, through-away, stays-away, Away}
 use Rattle.state.specs.Holds.{Holds, Valid, holds-long}
-use Rattle.view.specs.Parts.{addressPart}
 use Rattle.events.specs.Does.{rest}
 use Rattle.events.specs.Step.{Fits, Ready, Step, rest-fits, step-none, step-length, step-rows, step-also}
-use Rattle.events.specs.Turns.{Going, like-refl, like-eq, going-start, going-turn, going-end}
+use Rattle.events.specs.Turns.{Going, like-eq, going-start, going-turn, going-end}
 use Rattle.deletion.specs.Strays.{straysGo}
 use Rattle.deletion.specs.Delete.{step-eq}
 use Rattle.leave.specs.One.{unlessWanted, from, from-start, from-turn, from-end, loses, fallFrom, step-quiet, disable-quiet}

@@ -1,12 +1,10 @@
 // What goes with an address: those of its routes that none wants, the main rows that fall with it, the device's routes.
 ghost use mathlib.Core.Path.{_≡_};
-ghost use mathlib.Core.Bool.{Bool};
 ghost use mathlib.Core.List.{List};
-ghost use Prim.Native.Nat.{ℕ, _+_, _*_, _≤_, _<_};
+ghost use Prim.Native.Nat.{_+_, _*_, _<_};
 ghost use lib.ListN.{length};
 ghost use Rattle.lists.specs.Lists.{Row, any};
 ghost use Rattle.lists.specs.Laid.{Laid, Lays};
-ghost use Rattle.layout.specs.Address.{fitAddress};
 ghost use Rattle.definition.specs.State.{State, through};
 ghost use Rattle.definition.specs.Reference.Removal.{wanted, straysFrom};
 ghost use Rattle.definition.specs.Kept.Shrinking.{weight};

@@ -1,11 +1,11 @@
 -- Rows written from the start of a block of words on: the block's part is those rows.
 -- Assumes nothing.
-use Prim.Native.Nat.{ℕ, suc, _+_, _-_, _*_, _<_}
+use Prim.Native.Nat.{ℕ, _+_, _-_, _*_}
 use native.Mathlib.Omega.{arith}
-use mathlib.Core.Path.{_≡_, refl, sym, ap, _∙_}
+use mathlib.Core.Path.{_≡_}
 use mathlib.Core.Bool.{Bool, true}
-use mathlib.Core.List.{List, [], _++_, append-assoc}
-use lib.ListN.{length, getD, take, drop}
+use mathlib.Core.List.{List}
+use lib.ListN.{length, take, drop}
 use lib.Seq.{take-at}
 use Rattle.lists.specs.Lists.{Row, all, flat, put}
 use Rattle.lists.specs.Rows.{sized, length-flat}

@@ -1,8 +1,8 @@
 -- A pass over rows that lie one after the other in a list: what is left of them from row i on.
 -- Assumes nothing.
 use Prim.Native.Nat.{ℕ, zero, suc, _+_, _-_, _*_, _≤_, _<_}
-use mathlib.Core.Path.{_≡_, refl, sym, ap, _∙_}
-use mathlib.Core.Bool.{Bool, true, _&&_, and-assoc, and-true}
+use mathlib.Core.Path.{_≡_, sym, ap, _∙_}
+use mathlib.Core.Bool.{Bool, _&&_, and-assoc, and-true}
 use mathlib.Core.List.{List, [], _∷_, _++_}
 use native.Mathlib.Nat.{mul-zero, mul-suc, not-suc-le-zero, le-of-suc-le-suc}
 use native.Mathlib.Omega.{arith}

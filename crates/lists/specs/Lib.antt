@@ -17,3 +17,4 @@ pub mod Block
 pub mod Cut
 pub mod Mapped
 pub mod Next
+pub mod Front

@@ -1,13 +1,13 @@
 -- A row of rows laid out as words is a part of the words.
-use Prim.Native.Nat.{ℕ, zero, suc, _+_, _-_, _*_, _≤_, _<_}
-use native.Mathlib.Nat.{mul-zero, mul-suc, add-comm, not-suc-le-zero, le-of-suc-le-suc}
+use Prim.Native.Nat.{ℕ, zero, suc, _+_, _-_, _*_, _<_}
+use native.Mathlib.Nat.{mul-zero, mul-suc, not-suc-le-zero, le-of-suc-le-suc}
 use native.Mathlib.Omega.{arith}
-use mathlib.Core.Path.{_≡_, refl, sym, ap, _∙_}
+use mathlib.Core.Path.{_≡_}
 use mathlib.Core.Bool.{true}
 use mathlib.Core.List.{List, [], _∷_, _++_}
 use lib.Dec.{eqb}
 use lib.ListN.{length, getD, take, drop}
-use lib.Seq.{take-at, drop-append-add, drop-drop}
+use lib.Seq.{take-at, drop-append-add}
 use borrow.Author.Tests.{eqb-true}
 use Rattle.lists.specs.Lists.{Row, flat}
 use Rattle.lists.specs.Bools.{and-left, and-right}

@@ -1,10 +1,10 @@
 -- What an address is to a table, by the rows and whether the table is listed.
 use Prim.Native.Nat.{ℕ, _+_, _*_, _≤_, _<_}
 use native.Mathlib.Omega.{arith}
-use mathlib.Core.Path.{_≡_, refl, sym, ap, _∙_}
-use mathlib.Core.Bool.{Bool, true, false, cond, _&&_, _||_}
+use mathlib.Core.Path.{_≡_, refl}
+use mathlib.Core.Bool.{Bool, true, cond, _&&_, _||_}
 use mathlib.Core.List.{List, []}
-use mathlib.Core.Option.{Option, none, some}
+use mathlib.Core.Option.{some}
 use lib.Dec.{eqb, lit<}
 use lib.ListN.{length, getD, getElem?}
 use borrow.Author.Tests.{eq-eqb, ne-eqb}

@@ -2,7 +2,7 @@
 use Prim.Native.Nat.{ℕ, zero, suc, _+_, _*_, _≤_, _<_}
 use native.Mathlib.Omega.{arith}
 use mathlib.Core.Path.{_≡_, refl, sym, ap, _∙_, fun-ext}
-use mathlib.Core.Bool.{Bool, true, false, cond, not, _&&_, _||_, or-self}
+use mathlib.Core.Bool.{Bool, true, false, cond, _&&_, _||_, or-self}
 use mathlib.Core.List.{List, [], _∷_}
 use mathlib.Core.Option.{Option, none, some}
 use lib.Dec.{eqb, lit<}
@@ -11,10 +11,9 @@ use lib.ListN.{length, getD, getElem?}
 use Rattle.lists.specs.Lists.{Row}
 use Rattle.kind.specs.Kind.{errorOf}
 use Rattle.lists.specs.Laid.{Laid, laid-word}
-use Rattle.layout.specs.Route.{kind, table, fitRoute}
+use Rattle.layout.specs.Route.{kind, fitRoute}
 use Rattle.definition.specs.State.{State}
-use Rattle.definition.specs.Reference.Lookup as Lookup
-use Rattle.definition.specs.Reference.Lookup.{Flow, Found, route, refused, answer, together, typeSet, settled, ruling, lookupIn, kindFound, listed, fits, mainTable, localTable, defaultTable, netUnreachable, again}
+use Rattle.definition.specs.Reference.Lookup.{Flow, Found, route, refused, answer, together, settled, ruling, lookupIn, listed, mainTable, defaultTable, netUnreachable, again}
 use Rattle.lists.specs.Place.{nothing-from, something-at}
 use Rattle.lists.specs.Pass.{laid-rows}
 use Rattle.lookup.specs.declared.Ruling.{Ruling}

@@ -1,6 +1,6 @@
 -- The best row so far, as a pass over the rows keeps it: one row more at the end.
-use Prim.Native.Nat.{ℕ, zero, suc, _+_, _≤_, _<_}
-use native.Mathlib.Nat.{le-refl, not-suc-le-zero, le-of-suc-le-suc}
+use Prim.Native.Nat.{ℕ, _+_, _≤_, _<_}
+use native.Mathlib.Nat.{le-refl}
 use native.Mathlib.Numerals.{add-one}
 use native.Mathlib.Omega.{arith}
 use mathlib.Core.Path.{_≡_, refl, sym, ap, _∙_}
@@ -10,7 +10,7 @@ use mathlib.Core.Option.{Option, none, some}
 use lib.Dec.{leb, ltb, leb·zero}
 use lib.ListN.{length, getD, take, getElem?}
 use lib.Seq.{take-suc, take-all}
-use borrow.Author.Tests.{ltb-true, ltb-false, lt-ltb, le-ltb}
+use borrow.Author.Tests.{ltb-true, ltb-false}
 use Rattle.lists.specs.Place.{nothing-from, something-at}
 use Rattle.lists.specs.Lists.{Row, keep}
 use Rattle.layout.specs.Route.{len}

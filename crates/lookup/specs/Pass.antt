@@ -4,8 +4,8 @@ use native.Mathlib.Omega.{arith}
 use mathlib.Core.Path.{_≡_}
 use mathlib.Core.Bool.{Bool, true, false, _&&_}
 use mathlib.Core.List.{List, []}
-use lib.Dec.{eqb, leb, lit<}
-use lib.ListN.{length, getD, getElem?}
+use lib.Dec.{leb, lit<}
+use lib.ListN.{length, getElem?}
 use Rattle.lists.specs.Lists.{Row, keep}
 use Rattle.lists.specs.Laid.{Laid, Lays, laid-part}
 use Rattle.lists.specs.Pass.{part, laid-rows, part-width, part-fit}

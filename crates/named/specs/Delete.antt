@@ -1,10 +1,10 @@
 -- A route deleted: the first that is named.
 -- Assumes nothing.
 use Prim.Native.Nat.{ℕ, suc, _+_, _-_, _*_, _≤_, _<_}
-use mathlib.Core.Path.{_≡_, refl, sym, ap, _∙_}
-use mathlib.Core.Bool.{Bool, true, false, cond, _&&_}
-use mathlib.Core.List.{List, [], _∷_, _++_}
-use mathlib.Core.Option.{Option, none, some}
+use mathlib.Core.Path.{_≡_, sym, ap, _∙_}
+use mathlib.Core.Bool.{false}
+use mathlib.Core.List.{List, [], _++_}
+use mathlib.Core.Option.{none, some}
 use native.Mathlib.Omega.{arith}
 use lib.ListN.{length, getD, getElem?, take, drop, length-drop}
 use lib.Seq.{length-take-le}
@@ -20,7 +20,7 @@ use Rattle.definition.specs.State.{State, withRoutes}
 use Rattle.definition.specs.Words.{routeCount}
 use Rattle.definition.specs.Reference.Insert.{named, kernelDel4}
 use Rattle.definition.specs.Kept.Shrinking.{weight, live, kernelDel4-away}
-use Rattle.state.specs.Holds.{Holds, Valid, sizedR, count-routes}
+use Rattle.state.specs.Holds.{Holds, sizedR, count-routes}
 use Rattle.state.specs.Change.{route-at}
 use Rattle.events.specs.Does.{Does, does-none, does-one}
 use Rattle.events.specs.Step.{Fits, Ready, Step, does-step}

@@ -2,15 +2,15 @@
 -- Assumes nothing.
 use Prim.Native.Nat.{ℕ, _+_, _*_, _≤_, _<_}
 use native.Mathlib.Omega.{arith}
-use mathlib.Core.Path.{_≡_, refl, sym, ap, _∙_}
+use mathlib.Core.Path.{_≡_, sym, ap, _∙_}
 use mathlib.Core.Bool.{Bool, true, false, cond}
-use mathlib.Core.List.{List, [], _∷_, _++_, append-nil}
+use mathlib.Core.List.{List, []}
 use lib.Dec.{lit<}
-use lib.ListN.{length, getD, take, drop, drop-of-length-le}
+use lib.ListN.{length, take, drop, drop-of-length-le}
 use lib.Seq.{take-all}
 use Rattle.lists.specs.Lists.{Row, any, put}
 use Rattle.lists.specs.At.{insertAt}
-use Rattle.lists.specs.Laid.{Laid, Lays, laid-part}
+use Rattle.lists.specs.Laid.{Laid, laid-part}
 use Rattle.lists.specs.Pass.{part, laid-rows}
 use Rattle.lists.specs.Put.{put-whole}
 use Rattle.layout.specs.Address.{secondary, fitAddress}

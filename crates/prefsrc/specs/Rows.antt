@@ -1,7 +1,7 @@
 -- A preferred source's check, by the rows and whether the two tables are listed.
 -- Assumes nothing.
 use Prim.Native.Nat.{ℕ}
-use mathlib.Core.Path.{_≡_, refl, sym, ap, _∙_, fun-ext}
+use mathlib.Core.Path.{_≡_, refl, ap, fun-ext}
 use mathlib.Core.Bool.{Bool, true, false, cond, not, _&&_, _||_, or-self}
 use mathlib.Core.List.{List}
 use lib.Dec.{eqb}

@@ -1,36 +1,28 @@
 -- A primary's secondaries go in one pass: the list is fixed at the start, but each of its rows is the first equal one
 -- behind a front of rows that stay.
 -- Assumes nothing.
-use Prim.Native.Nat.{ℕ, zero, suc, _+_, _-_, _*_, _≤_, _<_}
+use Prim.Native.Nat.{ℕ, suc, _+_, _-_, _≤_, _<_}
 use mathlib.Core.Path.{_≡_, refl, sym, ap, _∙_}
-use mathlib.Core.Bool.{Bool, true, false, cond, not, _&&_, _||_}
+use mathlib.Core.Bool.{Bool, true, false, cond, not, _&&_}
 use mathlib.Core.List.{List, [], _∷_, _++_}
 use native.Mathlib.Omega.{arith}
 use lib.ListN.{length, getD, take, drop, drop-of-length-le}
 use Rattle.lists.specs.Lists.{Row, all, any, keep, removeFirst, eqRow}
-use Rattle.lists.specs.Bools.{fails, true-false, test-case, or-left, or-right, not-so}
-use Rattle.lists.specs.All.{any-none, eqRow-refl, eqRow-true, all-head, all-tail, all-mono, all-kept}
+use Rattle.lists.specs.Bools.{fails, true-false, test-case}
+use Rattle.lists.specs.All.{any-none, eqRow-refl, eqRow-true, all-head, all-tail, all-kept}
 use Rattle.lists.specs.At.{removeAt, length-removeAt}
-use Rattle.lists.specs.Count.{any-count, count-any, times, times-less, tick-none}
+use Rattle.lists.specs.Count.{any-count, count-any, times-less, tick-none}
 use Rattle.layout.specs.Address.{secondary}
-use Rattle.definition.specs.State.{State, Out, becomes, stays, also, through}
+use Rattle.definition.specs.State.{State, Out, stays, also, through}
 use Rattle.definition.specs.Reference.Addresses.{sameSubnet}
 use Rattle.definition.specs.Reference.Removal.{removeOne, goneWith, removeV4}
 use Rattle.definition.specs.Kept.Shrinking.{removeOne-removes}
 use Rattle.events.specs.Turns.{Like, like-refl, like-sym, like-trans, like-eq, stays-also, also-like, through-one, through-append}
-use Rattle.deletion.specs.Front.{first-front, remove-front, front-more, keep-here, keep-past, take-removed, drop-removed}
+use Rattle.lists.specs.Front.{remove-front, front-more, keep-here, keep-past, take-removed, drop-removed}
 
 -- b goes with the primary a
 abbrev pub goesWith : Row → Row → Bool
 goesWith a b = not (secondary a) && (secondary b && sameSubnet a b)
-
-pub goes-secondary : (a b : Row) → goesWith a b ≡ true → secondary b ≡ true
-goes-secondary a b h = go (secondary a) (secondary b) h
-  where
-    go : (s t : Bool) → not s && (t && sameSubnet a b) ≡ true → t ≡ true
-    go s true h = refl
-    go true false h = h
-    go false false h = h
 
 pub goes-not-self : (a : Row) → goesWith a a ≡ false
 goes-not-self a = go (secondary a)
@@ -50,12 +42,6 @@ gone-with l a = go (secondary a)
     go : (s : Bool) → cond s (a ∷ []) (keep (λ b. secondary b && sameSubnet a b) l ++ (a ∷ [])) ≡ keep (λ b. not s && (secondary b && sameSubnet a b)) l ++ (a ∷ [])
     go true = ap (λ (m : List Row). m ++ (a ∷ [])) (sym (keep-never l))
     go false = refl
-
--- an element at a place is in the list
-pub any-here : {A : Type 0} (p : A → Bool) (l : List A) (i : ℕ) (d : A) → i < length l → p (getD l i d) ≡ true → any p l ≡ true
-any-here p [] i d b e = absurd (omega arith)
-any-here p (x ∷ l) zero d b e = or-left (p x) (any p l) e
-any-here p (x ∷ l) (suc i) d b e = or-right (p x) (any p l) (any-here p l i d (omega arith) e)
 
 -- another row gone, a row is still there
 pub still-there : (a x : Row) (l : List Row) → eqRow a x ≡ false → any (eqRow a) l ≡ true → any (eqRow a) (removeFirst (eqRow x) l) ≡ true

@@ -1,21 +1,22 @@
 -- One address goes: itself, told, and then what goes with it.
 -- Assumes nothing.
-use Prim.Native.Nat.{ℕ, zero, suc, _+_, _-_, _*_, _≤_, _<_}
+use Prim.Native.Nat.{ℕ, suc, _+_, _-_, _*_, _≤_, _<_}
 use mathlib.Core.Path.{_≡_, refl, sym, ap, _∙_}
-use mathlib.Core.Bool.{Bool, true, false, cond, not, _&&_, _||_}
-use mathlib.Core.List.{List, [], _∷_, _++_, map, append-nil}
+use mathlib.Core.Bool.{Bool, true, false, not, _&&_}
+use mathlib.Core.List.{List, [], _∷_, _++_, map}
 use native.Mathlib.Omega.{arith}
 use lib.Dec.{eqb, ltb}
 use borrow.Author.Tests.{eq-eqb}
-use lib.ListN.{length, getD, take, drop, drop-of-length-le, length-append}
-use lib.Seq.{take-at, drop-at}
+use lib.ListN.{length, getD, take, drop, length-append}
+use lib.Seq.{take-at}
 use Rattle.lists.specs.Lists.{Row, any, all, keep, removeFirst, eqRow, put, flat, zeros, span}
 use Rattle.lists.specs.Bools.{or-case, cond-true, cond-false, and-both}
-use Rattle.lists.specs.All.{all-first, eqRow-true, eqRow-refl, all-head, all-tail, all-append, all-map, all-keep}
+use Rattle.lists.specs.All.{eqRow-true, eqRow-refl, all-head, all-tail, all-append, all-map, all-keep}
 use Rattle.lists.specs.At.{removeAt}
 use Rattle.lists.specs.Rows.{length-zeros, sized, length-flat}
-use Rattle.lists.specs.Count.{count, length-removeFirst, count-removeFirst}
-use Rattle.lists.specs.Laid.{Laid, Lays}
+use Rattle.lists.specs.Put.{put-whole}
+use Rattle.lists.specs.Count.{length-removeFirst, count-removeFirst}
+use Rattle.lists.specs.Laid.{Laid}
 use Rattle.lists.specs.Place.{placeOf, remove-at, any-at}
 use Rattle.prefix.specs.Mask.{network, broadcast}
 use Rattle.layout.specs.Address as Address
@@ -30,16 +31,16 @@ use Rattle.definition.specs.Reference.Addresses.{kernelRoute, localRoute, upRou
 use Rattle.definition.specs.Reference.Removal.{anyPriority, ofKind, wanted, leaving, unwanted, fall, disable, removeOne, removeV4}
 use Rattle.definition.specs.Kept.Fit.{length-address}
 use Rattle.definition.specs.Kept.Shrinking.{weight, live}
-use Rattle.state.specs.Holds.{Holds, Valid, holds-long, count-addresses}
+use Rattle.state.specs.Holds.{Holds, holds-long, count-addresses}
 use Rattle.state.specs.Change.{address-at, fit-address-at}
 use Rattle.events.specs.Does.{rest}
-use Rattle.events.specs.Step.{Fits, Ready, Step, rest-fits, step-same, step-one, step-also, step-none, step-length, step-rows}
+use Rattle.events.specs.Step.{Fits, Ready, Step, rest-fits, step-same, step-one, step-also, step-none}
 use Rattle.events.specs.Turns.{Like, like-refl, like-sym, like-trans, like-eq, also-like, also-assoc, Going, going-start, going-turn, going-end}
 use Rattle.candidates.specs.Laws.{route-long}
 use Rattle.deletion.specs.Delete.{step-eq}
 use Rattle.leave.specs.One.{unlessWanted, unwanted-turns, loses, fallFrom, fall-from}
 use Rattle.leave.specs.Turns.{anyRow, routesGo, step-facts}
-use Rattle.removal.specs.Gone.{goesWith, goneTurn, any-here, secondaries, remove-parts, primary-there, pass, Passed, pass-start, gone-turn, pass-end, placeAt}
+use Rattle.removal.specs.Gone.{goesWith, goneTurn, any-here, secondaries, remove-parts, primary-there, pass, Passed, pass-start, gone-turn, pass-end}
 
 -- ---- an address that is there
 pub record Present (a : Row) (s ev : List ℕ) : Type 0 where
@@ -101,10 +102,7 @@ address-end {s} y i b =
 
 -- a row of 20 words over a row of 20 words
 pub put-row : (r l : List ℕ) → length r ≡ 20 → length l ≡ 20 → put 0 r l ≡ r
-unfolding put
-put-row r l e f =
-    let none : drop (0 + length r) l ≡ [] = drop-of-length-le l {i = 0 + length r} (omega arith) in
-    rw none (append-nil r)
+put-row r l e f = put-whole r l (e ∙ sym f)
 
 -- the routes that leave are rows of 32 words
 route-sized : (dst len priority kind source : ℕ) → eqb (length (kernelRoute dst len priority kind source)) 32 ≡ true

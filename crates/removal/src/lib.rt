@@ -1,8 +1,8 @@
 // Addresses taken out, with the routes that go with them.
 ghost use mathlib.Core.Path.{_≡_};
-ghost use mathlib.Core.Bool.{Bool, true};
+ghost use mathlib.Core.Bool.{true};
 ghost use mathlib.Core.List.{List};
-ghost use Prim.Native.Nat.{ℕ, _+_, _*_, _≤_, _<_};
+ghost use Prim.Native.Nat.{_+_, _*_, _<_};
 ghost use lib.ListN.{length};
 ghost use Rattle.lists.specs.Lists.{Row, any, eqRow};
 ghost use Rattle.lists.specs.Laid.{Laid, Lays};

@@ -2,7 +2,7 @@
 -- Assumes nothing.
 use Prim.Native.Nat.{ℕ, _≤_, _<_}
 use mathlib.Core.Path.{_≡_, sym, ap, _∙_}
-use mathlib.Core.Bool.{Bool, true, false, cond, _&&_, and-false}
+use mathlib.Core.Bool.{Bool, true, false, _&&_, and-false}
 use mathlib.Core.List.{List, [], _∷_}
 use native.Mathlib.Omega.{arith}
 use lib.Dec.{eqb, leb}
@@ -15,15 +15,14 @@ use Rattle.layout.specs.Route.{fitRoute}
 use Rattle.layout.specs.Request.{nlmFlags, fitAddRoute4}
 use Rattle.layout.specs.Event.{newRoute4}
 use Rattle.definition.specs.State.{State, sizes, withRoutes}
-use Rattle.definition.specs.Words.{within, fitState}
+use Rattle.definition.specs.Words.{within}
 use Rattle.definition.specs.Kept.Rows.{askedRoute-fit}
 use Rattle.definition.specs.Kept.Fit.{length-route}
 use Rattle.definition.specs.Reference.Insert as Insert
 use Rattle.definition.specs.Reference.Insert.{listTable, create4, insert4}
-use Rattle.definition.specs.Reference.Addresses.{Outcome}
 use Rattle.definition.specs.Reference.Routes as Routes
 use Rattle.definition.specs.Reference.Routes.{by, tableNamed, formCheck, insertedAs, askedRoute, addRoute4}
-use Rattle.state.specs.Holds.{Holds, Valid, Sound}
+use Rattle.state.specs.Holds.{Holds}
 use Rattle.state.specs.Change.{tables-at}
 use Rattle.tables.specs.Listed.{tablesOf}
 use Rattle.insert.specs.Plan.{answerOf, rowsAfter, InsertedInto}

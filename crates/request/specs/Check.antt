@@ -6,7 +6,7 @@ use mathlib.Core.Bool.{Bool, true, false, cond, not, _&&_, _||_, or-false, and-f
 use mathlib.Core.List.{List}
 use lib.Dec.{eqb}
 use borrow.Author.Tests.{eq-eqb, ne-eqb, eqb-true, ltb-true}
-use Rattle.lists.specs.Lists.{Row, among, any}
+use Rattle.lists.specs.Lists.{Row, among}
 use Rattle.lists.specs.Bools.{test-case, and-iff}
 use Rattle.lists.specs.Split.{among-more}
 use Rattle.layout.specs.Route.{prefsrcPresent, scope}

@@ -1,10 +1,10 @@
 -- The ways out of a deletion.
 -- Assumes nothing.
 use Prim.Native.Nat.{ℕ, _+_, _-_, _*_, _≤_, _<_}
-use mathlib.Core.Path.{_≡_, refl, sym, ap, _∙_}
+use mathlib.Core.Path.{_≡_, sym, ap, _∙_}
 use mathlib.Core.Bool.{Bool, true, false}
 use mathlib.Core.List.{List, []}
-use mathlib.Core.Option.{Option, none, some}
+use mathlib.Core.Option.{none, some}
 use native.Mathlib.Omega.{arith}
 use lib.ListN.{length, getD, take, drop, getElem?}
 use Rattle.lists.specs.Lists.{Row, among, first, removeFirst, put, span}
@@ -22,7 +22,7 @@ use Rattle.state.specs.Change.{route-at, fit-route-at}
 use Rattle.tables.specs.Listed.{tablesOf}
 use Rattle.view.specs.Parts.{listed-there}
 use Rattle.request.specs.Done.{Requested, request-refused, request-told}
-use Rattle.request.specs.declared.Done.the-variants.{Rows, Refused, Full}
+use Rattle.request.specs.declared.Done.the-variants.{Rows, Refused}
 
 -- row i, as it is lent
 abbrev pub routeRow : List ℕ → ℕ → Row

@@ -1,6 +1,6 @@
 -- What a request comes to over words: its answer, the state that the words hold, and the rows told. Full: a list would pass its limit, and all is as it was.
 -- Assumes nothing.
-use Prim.Native.Nat.{ℕ, _≤_}
+use Prim.Native.Nat.{ℕ}
 use mathlib.Core.Path.{_≡_, refl, sym, ap, _∙_}
 use mathlib.Core.Bool.{Bool, true, false, cond}
 use mathlib.Core.List.{List, [], _∷_}
@@ -9,7 +9,7 @@ use lib.ListN.{length}
 use Rattle.lists.specs.Lists.{Row, flat, put}
 use Rattle.lists.specs.Put.{put-no-rows}
 use Rattle.lists.specs.At.{flat-one}
-use Rattle.definition.specs.State.{State, Out, sizes, becomes}
+use Rattle.definition.specs.State.{State, sizes, becomes}
 use Rattle.definition.specs.Words.{within}
 use Rattle.definition.specs.Reference.Addresses.{Outcome, goes, refused}
 use Rattle.state.specs.Holds.{Holds}

@@ -12,7 +12,6 @@ ghost use Rattle.definition.specs.Reference.Routes.{by, tableNamed, insertedAs,
 ghost use Rattle.definition.specs.Reference.Lookup.{listed};
 ghost use Rattle.definition.specs.Reference.Insert.{listTable, create4, insert4};
 ghost use Rattle.state.specs.Holds.{Holds, Valid, Sound};
-ghost use Rattle.lists.specs.Lists.{among};
 ghost use Rattle.tables.specs.Listed.{tablesOf};
 ghost use Rattle.gateway.specs.Rows.{reachedOf};
 ghost use Rattle.layout.specs.Route.{fitRoute};

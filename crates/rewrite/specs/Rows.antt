@@ -2,10 +2,10 @@
 -- Assumes nothing.
 use Prim.Native.Nat.{ℕ, _≤_}
 use native.Mathlib.Omega.{arith}
-use mathlib.Core.Path.{_≡_, refl, sym, ap, _∙_}
-use mathlib.Core.List.{List, [], _∷_}
+use mathlib.Core.Path.{_≡_, sym, _∙_}
+use mathlib.Core.List.{[], _∷_}
 use lib.ListN.{length, getD}
-use Rattle.lists.specs.Lists.{Row, put}
+use Rattle.lists.specs.Lists.{Row}
 use Rattle.life.specs.Life.{lowWord, highWord, storedSeconds, seconds, nanoseconds, lifeSet}
 use Rattle.life.specs.declared.Life.{Life}
 use Rattle.life.specs.declared.Lifetimes.{Lifetimes}

@@ -3,10 +3,10 @@
 use Prim.Native.Nat.{ℕ, _+_, _*_, _≤_, _<_}
 use mathlib.Core.Path.{_≡_, sym, ap, ap₂, _∙_}
 use mathlib.Core.Bool.{Bool, true, false, _&&_, _||_, and-assoc}
-use mathlib.Core.List.{List, []}
+use mathlib.Core.List.{[]}
 use native.Mathlib.Omega.{arith}
 use lib.Dec.{eqb, leb, lit<}
-use lib.ListN.{length, getD, take, drop}
+use lib.ListN.{getD, take, drop}
 use borrow.Author.Tests.{leb-true}
 use Rattle.lists.specs.Lists.{Row, all, chop}
 use Rattle.lists.specs.Bools.{and-iff}

@@ -1,7 +1,7 @@
 // The row that a request to delete a route names.
 ghost use mathlib.Core.Path.{_≡_};
 ghost use mathlib.Core.Bool.{true};
-ghost use Prim.Native.Nat.{ℕ, _*_, _≤_};
+ghost use Prim.Native.Nat.{_*_, _≤_};
 ghost use mathlib.Core.List.{List};
 ghost use lib.ListN.{length};
 ghost use Rattle.lists.specs.Lists.{Row};

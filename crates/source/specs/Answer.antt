@@ -1,10 +1,10 @@
 -- What is answered for a route's row and for a destination.
 use Prim.Native.Nat.{ℕ, _+_, _-_, _*_, _<_}
 use native.Mathlib.Omega.{arith}
-use mathlib.Core.Path.{_≡_, refl, sym, ap, _∙_}
-use mathlib.Core.Bool.{Bool, true, false, cond}
+use mathlib.Core.Path.{_≡_, sym, ap, _∙_}
+use mathlib.Core.Bool.{Bool, true, false}
 use mathlib.Core.List.{List, []}
-use mathlib.Core.Option.{Option, none, some}
+use mathlib.Core.Option.{some}
 use lib.Dec.{eqb}
 use lib.ListN.{length, getD, take, drop, length-take, length-drop}
 use borrow.Author.Tests.{eq-eqb, ne-eqb}
@@ -13,7 +13,7 @@ use Rattle.lists.specs.Bools.{test-case}
 use Rattle.lists.specs.Laid.{Laid, laid-length, laid-part}
 use Rattle.layout.specs.Route.{kind, prefsrcPresent, prefsrc, gatewayPresent, gateway, scope, fitRoute}
 use Rattle.definition.specs.Reference.Lookup.{Found, flowTo, localKind}
-use Rattle.definition.specs.Reference.Source.{select4, source4, sourceFor, orValue}
+use Rattle.definition.specs.Reference.Source.{select4, source4, orValue}
 use Rattle.lookup.specs.Answer.{foundBy, lookupRows}
 use Rattle.lookup.specs.declared.Looked.{Looked}
 use Rattle.lookup.specs.declared.Looked.the-variants.{At, Refused}

@@ -1,6 +1,6 @@
 -- A pass over addresses laid out as words that keeps the place of the first eligible one.
 use Prim.Native.Nat.{ℕ, _+_, _*_, _≤_, _<_}
-use native.Mathlib.Nat.{add-zero, le-refl}
+use native.Mathlib.Nat.{add-zero}
 use native.Mathlib.Omega.{arith}
 use mathlib.Core.Path.{_≡_, refl, sym, ap, _∙_}
 use mathlib.Core.Bool.{Bool, true, false, _&&_}
@@ -8,7 +8,7 @@ use mathlib.Core.List.{List, []}
 use mathlib.Core.Option.{Option, none, some}
 use lib.Dec.{eqb, lit<}
 use lib.ListN.{length, getD, drop, getElem?}
-use borrow.Author.Tests.{eqb-true, eqb-false, eq-eqb, leb-true}
+use borrow.Author.Tests.{eqb-true, eqb-false, leb-true}
 use Rattle.lists.specs.Lists.{Row, first}
 use Rattle.lists.specs.Bools.{test-case, and-left, and-right, and-rest}
 use Rattle.lists.specs.Laid.{Laid, Lays, laid-part, laid-word}

@@ -1,6 +1,6 @@
 // The source address for a destination, over rows of addresses and routes.
 ghost use mathlib.Core.Path.{_≡_};
-ghost use Prim.Native.Nat.{ℕ, _+_, _*_, _≤_, _<_};
+ghost use Prim.Native.Nat.{_+_, _*_, _≤_, _<_};
 ghost use mathlib.Core.List.{List};
 ghost use lib.ListN.{length, getD};
 ghost use Rattle.lists.specs.Lists.{Row};

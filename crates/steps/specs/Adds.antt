@@ -1,16 +1,15 @@
 -- Steps that may lack room: what they tell, unless a list passed its limit; then nothing is said of what they left.
 -- Assumes nothing.
-use Prim.Native.Nat.{ℕ, _+_, _-_, _*_, _≤_, max}
+use Prim.Native.Nat.{ℕ, _+_, _-_, _*_, max}
 use mathlib.Core.Path.{_≡_, refl, sym, ap, _∙_}
 use mathlib.Core.Bool.{Bool, true, false, cond, _&&_}
-use mathlib.Core.List.{List, [], _∷_, _++_}
+use mathlib.Core.List.{List, _++_}
 use native.Mathlib.Omega.{arith}
 use lib.Dec.{leb}
-use lib.ListN.{length, take, drop, length-append}
+use lib.ListN.{length, take, drop}
 use borrow.Author.Tests.{leb-true, leb-false, le-leb, lt-leb}
-use Rattle.lists.specs.Lists.{Row}
-use Rattle.lists.specs.Bools.{test-case, true-false, and-left, and-right, and-iff}
-use Rattle.definition.specs.State.{State, Sizes, Out, sizes, most, becomes, stays, also}
+use Rattle.lists.specs.Bools.{test-case, true-false, and-iff}
+use Rattle.definition.specs.State.{State, Sizes, Out, sizes, most, stays, also}
 use Rattle.definition.specs.Words.{within}
 use Rattle.state.specs.Holds.{Holds}
 use Rattle.events.specs.Does.{Does, does-none, does-also, rest}

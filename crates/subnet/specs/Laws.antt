@@ -3,8 +3,8 @@
 use Prim.Native.Nat.{ℕ, _*_, _≤_, _<_}
 use native.Mathlib.Omega.{arith}
 use native.Mathlib.Nat.{add-zero}
-use mathlib.Core.Path.{_≡_, refl, sym, ap, _∙_}
-use mathlib.Core.Bool.{Bool, true, false}
+use mathlib.Core.Path.{_≡_, sym, ap, _∙_}
+use mathlib.Core.Bool.{true, false}
 use mathlib.Core.List.{List, []}
 use lib.Dec.{lit<}
 use lib.ListN.{length, getD, getElem?}
@@ -12,9 +12,9 @@ use borrow.Author.Tests.{leb-true}
 use Rattle.lists.specs.Lists.{Row, first}
 use Rattle.lists.specs.Laid.{Laid, Lays, laid-word}
 use Rattle.lists.specs.Place.{placeOf, first-at, nothing-from, something-at}
-use Rattle.lists.specs.Pass.{part, part-width, part-fit, laid-rows}
+use Rattle.lists.specs.Pass.{part, part-fit, laid-rows}
 use Rattle.layout.specs.Address.{local, prefix, secondary, fitAddress}
-use Rattle.definition.specs.Reference.Addresses.{localOr, primaryOf}
+use Rattle.definition.specs.Reference.Addresses.{primaryOf}
 use Rattle.definition.specs.Kept.Fit.{fields-address, length-address}
 use Rattle.subnet.specs.Brings.{primaryFor}
 

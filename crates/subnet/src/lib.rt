@@ -1,9 +1,7 @@
 // Tests of one address row, and the primary whose subnet an address is in.
 ghost use mathlib.Core.Path.{_≡_};
-ghost use mathlib.Core.Bool.{true, not, _&&_};
 ghost use mathlib.Core.List.{List};
-ghost use Prim.Native.Nat.{ℕ, _*_, _≤_};
-ghost use lib.Dec.{ltb};
+ghost use Prim.Native.Nat.{_*_, _≤_};
 ghost use lib.ListN.{length};
 ghost use Rattle.lists.specs.Lists.{Row};
 ghost use Rattle.lists.specs.Laid.{Laid, Lays};

@@ -4,9 +4,8 @@ ghost use Prim.Native.Nat.{_≤_};
 ghost use lib.ListN.{length};
 ghost use Rattle.lists.specs.Lists.{among};
 ghost use Rattle.definition.specs.State.{State, withTables};
-ghost use Rattle.definition.specs.Words.{tableCount};
 ghost use Rattle.definition.specs.Reference.Insert.{addTable, listTable, create4};
-ghost use Rattle.state.specs.Holds.{Holds, Valid, Sized};
+ghost use Rattle.state.specs.Holds.{Holds, Valid};
 ghost use Rattle.tables.specs.Listed.{tablesOf};
 
 pub fn listed(s: &[u32], t: u32) -> bool

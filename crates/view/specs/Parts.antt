@@ -2,17 +2,16 @@
 use Prim.Native.Nat.{ℕ, _+_, _-_, _*_, _≤_}
 use native.Mathlib.Omega.{arith}
 use mathlib.Core.Path.{_≡_, refl, sym, ap, subst, _∙_}
-use mathlib.Core.Bool.{Bool, true}
-use mathlib.Core.List.{List, [], _∷_, _++_, append-assoc}
+use mathlib.Core.List.{List, _++_, append-assoc}
 use lib.ListN.{length, take, drop}
 use lib.Seq.{take-at, drop-at}
-use Rattle.lists.specs.Lists.{Row, flat, pad, zeros, span, among}
+use Rattle.lists.specs.Lists.{flat, pad, zeros, among}
 use Rattle.lists.specs.Rows.{length-flat}
 use Rattle.lists.specs.Laid.{Laid, Lays, laid-length}
 use Rattle.layout.specs.Address.{fitAddress}
 use Rattle.layout.specs.Route.{fitRoute}
 use Rattle.definition.specs.State.{State}
-use Rattle.definition.specs.Words.{addressCount, routeCount, tableCount}
+use Rattle.definition.specs.Words.{addressCount, routeCount}
 use Rattle.definition.specs.Reference.Lookup.{listed}
 use Rattle.state.specs.Holds.{Holds, Valid, counts, behindAddresses, beforeRoutes, encode-addresses, encode-routes, sizedA, sizedR, atRoutes, count-addresses, count-routes, sizes-valid}
 use Rattle.state.specs.Change.{tables-at}

@@ -1,16 +1,14 @@
 // Whether some address wants a route, without a list of the wanted ones: an address is asked directly.
 ghost use mathlib.Core.Path.{_≡_};
-ghost use mathlib.Core.Bool.{Bool, true, _&&_, _||_};
+ghost use mathlib.Core.Bool.{true};
 ghost use mathlib.Core.List.{List};
-ghost use Prim.Native.Nat.{ℕ, _*_, _≤_};
-ghost use lib.Dec.{eqb};
+ghost use Prim.Native.Nat.{_*_, _≤_};
 ghost use lib.ListN.{length};
 ghost use Rattle.lists.specs.Lists.{Row, any};
 ghost use Rattle.lists.specs.Laid.{Laid, Lays};
 ghost use Rattle.layout.specs.Address.{prefix, fitAddress};
 ghost use Rattle.layout.specs.Route.{dst, len, kind, fitRoute};
-ghost use Rattle.definition.specs.Reference.Addresses.{candidates};
-ghost use Rattle.definition.specs.Reference.Removal.{sameRoute, wanted, straysFrom};
+ghost use Rattle.definition.specs.Reference.Removal.{wanted, straysFrom};
 ghost use Rattle.wanted.specs.Wants.{wantsLocal, wantsBroadcast, wants};
 
 // Whether a wants a local route: to its own address or to its network. Most addresses have another length, so that is asked first.

@@ -3,8 +3,8 @@
 use Prim.Native.Nat.{ℕ, _+_, _-_, _*_, _≤_}
 use native.Mathlib.Omega.{arith}
 use mathlib.Core.Path.{_≡_, refl, sym, ap, subst, _∙_}
-use mathlib.Core.Bool.{Bool, true, false, cond}
-use mathlib.Core.List.{List, [], _++_}
+use mathlib.Core.Bool.{Bool, true, cond}
+use mathlib.Core.List.{List}
 use lib.ListN.{length, take, drop, length-take}
 use lib.Seq.{take-at}
 use Rattle.lists.specs.Bools.{test-case, true-false}
@@ -12,7 +12,7 @@ use Rattle.lists.specs.Rows.{length-flat}
 use Rattle.lists.specs.Lists.{put, flat}
 use Rattle.lists.specs.Put.{put-whole}
 use Rattle.definition.specs.State.{State, Out}
-use Rattle.definition.specs.Words.{within, fitState}
+use Rattle.definition.specs.Words.{within}
 use Rattle.definition.specs.Reference.Addresses.{Outcome, goes, refused}
 use Rattle.definition.specs.Kept.Step.{roomy}
 use Rattle.state.specs.Holds.{Holds, holds-long, Sound}
@@ -22,8 +22,7 @@ use Rattle.steps.specs.declared.Told.{Told}
 use Rattle.steps.specs.declared.Told.the-variants as Tell
 use Rattle.adding.specs.declared.Done.{Done}
 use Rattle.adding.specs.declared.Done.the-variants.{Rows, Refused, Full}
-use Rattle.adding.specs.Comes.{Comes, answerOf, doneRows}
-use Rattle.bring.specs.Sound.{AddsFrom}
+use Rattle.adding.specs.Comes.{Comes, doneRows}
 
 -- the copy is the words
 pub copy-sound : (o w : List ℕ) → length o ≡ length w → {x : List ℕ} → x ≡ put 0 w o → Sound w → Sound x

@@ -2,34 +2,33 @@
 -- Assumes nothing.
 use Prim.Native.Nat.{ℕ, suc, _+_, _-_, _*_, _≤_, _<_}
 use native.Mathlib.Omega.{arith}
-use mathlib.Core.Path.{_≡_, refl, sym, ap, subst, _∙_}
+use mathlib.Core.Path.{_≡_, refl, sym, ap, _∙_}
 use mathlib.Core.Bool.{Bool, true, false, cond, not, _&&_, or-false}
 use mathlib.Core.List.{List, [], _∷_, _++_}
 use mathlib.Core.Option.{Option, none, some}
 use lib.Dec.{eqb, leb, ltb}
-use lib.ListN.{length, getD, length-append}
+use lib.ListN.{length, length-append}
 use borrow.Author.Tests.{le-leb, eqb-true, leb-true, ltb-true}
 use Rattle.state.specs.Holds.{Holds, count-addresses, count-routes, count-tables}
-use Rattle.lists.specs.Lists.{Row, all, any, first, among, replaceFirst}
+use Rattle.lists.specs.Lists.{Row, all, first, among, replaceFirst}
 use Rattle.lists.specs.Bools.{test-case, cond-case, and-iff, and-both, cond-true, cond-false}
 use Rattle.lists.specs.All.{all-append, all-head, all-tail}
 use Rattle.lists.specs.Split.{among-more}
 use Rattle.lists.specs.Count.{length-replaceFirst}
 use Rattle.layout.specs.Address as Address
 use Rattle.layout.specs.Address.{local, address, prefix, secondary, noPrefixRoute}
-use Rattle.prefix.specs.Mask.{network, broadcast}
+use Rattle.prefix.specs.Mask.{broadcast}
 use Rattle.layout.specs.Route.{table}
 use Rattle.layout.specs.Event.{newAddr4}
-use Rattle.layout.specs.Request.{replaceAsked, upAtAddV4}
-use Rattle.definition.specs.State.{State, Sizes, Out, sizes, becomes, stays, also, through, withAddresses}
+use Rattle.layout.specs.Request.{replaceAsked}
+use Rattle.definition.specs.State.{State, Out, sizes, becomes, stays, also, through, withAddresses}
 use Rattle.definition.specs.Words.{within, addressCount, routeCount, tableCount}
-use Rattle.definition.specs.Reference.Lookup.{mainTable, localTable, localKind, broadcastKind}
+use Rattle.definition.specs.Reference.Lookup.{broadcastKind}
 use Rattle.definition.specs.Reference.Insert as Insert
 use Rattle.definition.specs.Reference.Insert.{addTable, listTable, create4, insert4, inserted, kernelAdd4, kernelDel4}
-use Rattle.definition.specs.Reference.Addresses.{Outcome, goes, refused, step, only, kernelRoute, localRoute, prefixRoute, upRoutes, candidates, primaryOf, bring, place4, newAddress, changedTo, reroutes, moved, changeV4, addedOver, addV4, sameAddress, loopback, up, namesBroadcast, ownNetwork}
+use Rattle.definition.specs.Reference.Addresses.{Outcome, refused, step, only, kernelRoute, localRoute, prefixRoute, upRoutes, candidates, primaryOf, bring, place4, newAddress, changedTo, reroutes, moved, changeV4, addedOver, addV4, sameAddress, loopback, up, namesBroadcast, ownNetwork}
 use Rattle.definition.specs.Kept.Growing.{Grows, insert-grows, no-replacing, length-place4}
-use Rattle.definition.specs.Kept.Keeps.{Covers}
-use Rattle.definition.specs.Kept.Peaks.{Rises, kernelAdd4-rises, newAddress-rises, up-rises, rises-within, kernelDel4-under}
+use Rattle.definition.specs.Kept.Peaks.{kernelAdd4-rises, newAddress-rises, up-rises, rises-within, kernelDel4-under}
 use Rattle.definition.specs.Kept.Step.{covered, roomy}
 use Rattle.steps.specs.Adds.{within-also}
 use Rattle.adding.specs.Every.{turn, every}

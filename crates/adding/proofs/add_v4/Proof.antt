@@ -1,4 +1,4 @@
-use mathlib.Core.Path.{refl, sym, _∙_}
+use mathlib.Core.Path.{refl}
 use native.Mathlib.Omega.{arith}
 use Rattle.state.specs.Holds.{count-addresses, sound-valid, sound-long}
 use Rattle.view.specs.Parts.{ready-addresses, of-addresses}
@@ -7,41 +7,26 @@ use Rattle.adding.specs.Added.{added-change, added-refused, added-new}
 use borrow.Author.Needs.{needs}
 use Rattle.adding.proofs.add_v4.Statement.{statement}
 use Rattle.adding.proofs.add_v4.Tie as tie
-use Rattle.adding.proofs.add_v4.Reads as reads
-use Rattle.adding.proofs.add_v4.Lts as lts
-use Rattle.adding.proofs.call_of.Reads as call-of-reads
-use Rattle.bring.proofs.change_v4.Reads as change-v4-reads
-use Rattle.bring.proofs.new_address.Reads as new-address-reads
-use Rattle.placing.proofs.fresh.Reads as fresh-reads
-use Rattle.placing.proofs.same_at.Reads as same-at-reads
-use Rattle.state.proofs.address_count.Reads as address-count-reads
-use Rattle.view.proofs.addresses.Reads as addresses-reads
 
--- src/lib.rt:55:9
 address-count-requires : tie.Need-address-count-requires
 address-count-requires c κs =
     sound-long (c .before .before .before .before .pre .0)
 
--- src/lib.rt:56:34
 addresses-requires : tie.Need-addresses-requires
 addresses-requires c κs = search needs
 
--- src/lib.rt:56:9
 same-at-requires : tie.Need-same-at-requires
 same-at-requires c κs =
     let n = c .before .before in
     let s = n .before .before .before .before .before in
     (ready-addresses _ (n .address-count .result) (sound-valid (s .pre .0)) (c .addresses .ensures) (n .address-count .ensures), omega (arith, s .pre .1 .0 .0))
 
--- src/lib.rt:58:12
 shared-slice-read-if2 : tie.Need-shared-slice-read-if2
 shared-slice-read-if2 c = search needs
 
--- src/lib.rt:59:13
 same-length : tie.Need-same-length
 same-length c = search needs
 
--- src/lib.rt:59:13
 returns : tie.Need-returns
 returns c =
     let p = c .before .before .before in
@@ -55,7 +40,6 @@ returns c =
           added-refused q (a .clock .0) st (p .same-at .result) found (omega (arith, count-addresses h, n .address-count .ensures, c .before .before .if1 .taken)) (c .if2 .taken),
     )
 
--- src/lib.rt:61:13
 change-v4-requires : tie.Need-change-v4-requires
 change-v4-requires c κs =
     let p = c .before .before .before .before .before in
@@ -65,19 +49,15 @@ change-v4-requires c κs =
     let q = a .q .now in
     (s .pre .0, (omega (arith, c .before .before .before .before .if1 .taken, n .address-count .ensures), (s .pre .1 .0, omega (arith, s .pre .1 .1))))
 
--- src/lib.rt:62:9
 call-of-requires : tie.Need-call-of-requires
 call-of-requires c κs = search needs
 
--- src/lib.rt:62:9
 same-length-2 : tie.Need-same-length-2
 same-length-2 c = search needs
 
--- src/lib.rt:62:9
 same-length-3 : tie.Need-same-length-3
 same-length-3 c = search needs
 
--- src/lib.rt:62:9
 returns-2 : tie.Need-returns-2
 returns-2 c =
     let p = c .before .before .before .before .before .before .before .before .before .before .before in
@@ -92,15 +72,12 @@ returns-2 c =
           added-change q (a .clock .0) st (p .same-at .result) found (omega (arith, count-addresses h, n .address-count .ensures, c .before .before .before .before .before .before .before .before .before .before .if1 .taken)) (c .before .before .before .before .before .before .before .before .if2 .left) (c .call-of .result) (c .call-of .ensures) (d .change-v4 .ensures .1 st h g found),
     )
 
--- src/lib.rt:65:20
 addresses-requires-2 : tie.Need-addresses-requires-2
 addresses-requires-2 c κs = search needs
 
--- src/lib.rt:65:53
 slice-aggregate-fresh : tie.Need-slice-aggregate-fresh
 slice-aggregate-fresh c = search needs
 
--- src/lib.rt:65:5
 fresh-requires : tie.Need-fresh-requires
 fresh-requires c κs =
     let p = c .before .before .before .before in
@@ -110,31 +87,24 @@ fresh-requires c κs =
     let q = a .q .now in
     (ready-addresses _ (n .address-count .result) (sound-valid (s .pre .0)) (c .before .addresses2 .ensures) (n .address-count .ensures), (s .pre .1 .0, refl))
 
--- src/lib.rt:66:14
 shared-slice-read-up : tie.Need-shared-slice-read-up
 shared-slice-read-up c = search needs
 
--- src/lib.rt:67:45
 slice-aggregate-new-address : tie.Need-slice-aggregate-new-address
 slice-aggregate-new-address c = search needs
 
--- src/lib.rt:67:9
 new-address-requires : tie.Need-new-address-requires
 new-address-requires c κs = search needs
 
--- src/lib.rt:68:5
 call-of-requires-2 : tie.Need-call-of-requires-2
 call-of-requires-2 c κs = search needs
 
--- src/lib.rt:48:1
 same-length-4 : tie.Need-same-length-4
 same-length-4 c = search needs
 
--- src/lib.rt:48:1
 same-length-5 : tie.Need-same-length-5
 same-length-5 c = search needs
 
--- src/lib.rt:48:1
 returns-3 : tie.Need-returns-3
 returns-3 c =
     let p = c .before .before .before .before .before .before .before .before .before .before .before .before .before .before .before .before in

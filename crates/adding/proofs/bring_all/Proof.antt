@@ -1,17 +1,13 @@
-use Prim.Native.Nat.{_+_, _-_, _≤_}
+use Prim.Native.Nat.{_-_, _≤_}
 use mathlib.Core.Path.{_≡_, refl, sym, _∙_}
 use native.Mathlib.Omega.{arith}
 use lib.ListN.{length}
-use Rattle.state.specs.Holds.{sound-valid, sound-long, sound-few}
+use Rattle.state.specs.Holds.{sound-long}
 use Rattle.bring.specs.Sound.{rest-room, rows-are}
 use Rattle.adding.specs.Every.{Sofar, sofar-start, sofar-sound, sofar-few, sofar-length, sofar-count, sofar-next, sofar-full, sofar-end}
 use borrow.Author.Needs.{needs}
 use Rattle.adding.proofs.bring_all.Statement.{statement}
 use Rattle.adding.proofs.bring_all.Tie as tie
-use Rattle.adding.proofs.bring_all.Reads as reads
-use Rattle.adding.proofs.bring_all.Lts as lts
-use Rattle.adding.proofs.bring_at.Reads as bring-at-reads
-use Rattle.state.proofs.address_count.Reads as address-count-reads
 
 abbrev Inv-loop : tie.InvT-loop
 Inv-loop s₀ ev₀ n told₀ i₀ s ev told i =
@@ -21,18 +17,15 @@ abbrev μ-loop : tie.MeasureT-loop
 μ-loop s₀ ev₀ n told₀ i₀ s ev told i =
     n - i
 
--- src/lib.rt:95:9
 address-count-requires : tie.Need-address-count-requires Inv-loop μ-loop
 address-count-requires c κs =
     sound-long (c .before .before .before .pre .0)
 
--- src/lib.rt:98:5
 loop-holds : tie.Need-loop-holds Inv-loop μ-loop
 loop-holds c =
     let s = c .before .before .before .before in
     (omega arith, (omega arith, (refl, (refl, sofar-start (s .args .s .now) (s .args .ev .now)))))
 
--- src/lib.rt:99:20
 mul-from : tie.Need-mul-from Inv-loop μ-loop
 mul-from c =
     let k = c .before in
@@ -42,15 +35,12 @@ mul-from c =
     let inv = k .loop .inv in
     omega (arith, inv .1 .0)
 
--- src/lib.rt:100:32
 mul-bring-at : tie.Need-mul-bring-at Inv-loop μ-loop
 mul-bring-at c = search needs
 
--- src/lib.rt:100:32
 sub-bring-at : tie.Need-sub-bring-at Inv-loop μ-loop
 sub-bring-at c = search needs
 
--- src/lib.rt:100:32
 part-bring-at-start : tie.Need-part-bring-at-start Inv-loop μ-loop
 part-bring-at-start c =
     let k = c .before .before in
@@ -60,11 +50,9 @@ part-bring-at-start c =
     let inv = k .loop .inv in
     omega (arith, inv .1 .0, inv .1 .1 .1 .0, s .pre .1)
 
--- src/lib.rt:100:32
 part-bring-at-end : tie.Need-part-bring-at-end Inv-loop μ-loop
 part-bring-at-end c = search needs
 
--- src/lib.rt:100:13
 bring-at-requires : tie.Need-bring-at-requires Inv-loop μ-loop
 bring-at-requires c κs =
     let k = c .before .before .before in
@@ -79,11 +67,9 @@ bring-at-requires c κs =
       ),
     )
 
--- src/lib.rt:102:24
 enum-known-came : tie.Need-enum-known-came Inv-loop μ-loop
 enum-known-came c = search needs
 
--- src/lib.rt:103:17
 add-told : tie.Need-add-told Inv-loop μ-loop
 add-told c =
     let t = c .before in
@@ -95,19 +81,15 @@ add-told c =
     let inv = k .loop .inv in
     omega (arith, inv .1 .0, rows-are 4 (w .bring-at .result) (t .came .given .0 .0) (t .came .given .1) (w .bring-at .ensures .0))
 
--- src/lib.rt:106:17
 enum-told : tie.Need-enum-told Inv-loop μ-loop
 enum-told c = search needs
 
--- src/lib.rt:106:17
 same-length : tie.Need-same-length Inv-loop μ-loop
 same-length c = search needs
 
--- src/lib.rt:106:17
 same-length-2 : tie.Need-same-length-2 Inv-loop μ-loop
 same-length-2 c = search needs
 
--- src/lib.rt:106:17
 returns : tie.Need-returns Inv-loop μ-loop
 returns c =
     let w = c .before .before .before .before .before .before in
@@ -118,15 +100,12 @@ returns c =
     let inv = k .loop .inv in
     (omega arith, sofar-full (inv .1 .1 .1 .1) (omega (arith, n .address-count .ensures, w .before .before .before .loop-test .taken)) (w .bring-at .ensures .1) (c .enum-told .given .1))
 
--- src/lib.rt:109:9
 add-i : tie.Need-add-i Inv-loop μ-loop
 add-i c = search needs
 
--- src/lib.rt:98:5
 loop-less : tie.Need-loop-less Inv-loop μ-loop
 loop-less c = search needs
 
--- src/lib.rt:98:5
 loop-again : tie.Need-loop-again Inv-loop μ-loop
 loop-again c =
     let t = c .before in
@@ -139,15 +118,12 @@ loop-again c =
     let next = sofar-next (inv .1 .1 .1 .1) (omega (arith, n .address-count .ensures, w .before .before .before .loop-test .taken)) (w .bring-at .ensures .1) (t .came .given .0 .0) (t .came .given .1) in
     (omega arith, (sofar-few next v, (sound-long (sofar-sound next v) ∙ sym (sound-long v), (sofar-length next v, next))))
 
--- src/lib.rt:89:1
 same-length-3 : tie.Need-same-length-3 Inv-loop μ-loop
 same-length-3 c = search needs
 
--- src/lib.rt:89:1
 same-length-4 : tie.Need-same-length-4 Inv-loop μ-loop
 same-length-4 c = search needs
 
--- src/lib.rt:89:1
 returns-2 : tie.Need-returns-2 Inv-loop μ-loop
 returns-2 c =
     let k = c .before in

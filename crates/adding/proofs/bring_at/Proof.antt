@@ -1,65 +1,49 @@
 use native.Mathlib.Omega.{arith}
-use Rattle.state.specs.Holds.{count-addresses, sound-valid, sound-long, sound-few}
+use Rattle.state.specs.Holds.{sound-valid, sound-long, sound-few}
 use Rattle.view.specs.Parts.{ready-addresses, of-addresses}
 use Rattle.subnet.specs.Laws.{part-short}
 use Rattle.adding.specs.Every.{turn-ready, turn-done}
 use borrow.Author.Needs.{needs}
 use Rattle.adding.proofs.bring_at.Statement.{statement}
 use Rattle.adding.proofs.bring_at.Tie as tie
-use Rattle.adding.proofs.bring_at.Reads as reads
-use Rattle.adding.proofs.bring_at.Lts as lts
-use Rattle.bring.proofs.bring.Reads as bring-reads
-use Rattle.candidates.proofs.candidates.Reads as candidates-reads
-use Rattle.state.proofs.address_count.Reads as address-count-reads
-use Rattle.view.proofs.addresses.Reads as addresses-reads
 
--- src/lib.rt:79:9
 address-count-requires : tie.Need-address-count-requires
 address-count-requires c κs =
     sound-long (c .before .before .before .pre .0)
 
--- src/lib.rt:80:9
 addresses-requires : tie.Need-addresses-requires
 addresses-requires c κs = search needs
 
--- src/lib.rt:81:14
 mul-at : tie.Need-mul-at
 mul-at c =
     let s = c .before .before .before .before .before .before in
     omega (arith, sound-few (s .pre .0), s .pre .1 .0)
 
--- src/lib.rt:83:55
 add-candidates : tie.Need-add-candidates
 add-candidates c =
     let s = c .before .before .before .before .before .before in
     omega (arith, sound-few (s .pre .0), s .pre .1 .0)
 
--- src/lib.rt:83:45
 mul-candidates : tie.Need-mul-candidates
 mul-candidates c =
     let s = c .before .before .before .before .before .before in
     omega (arith, sound-few (s .pre .0), s .pre .1 .0)
 
--- src/lib.rt:83:45
 sub-candidates : tie.Need-sub-candidates
 sub-candidates c = search needs
 
--- src/lib.rt:83:45
 part-candidates-start : tie.Need-part-candidates-start
 part-candidates-start c = search needs
 
--- src/lib.rt:83:45
 part-candidates-end : tie.Need-part-candidates-end
 part-candidates-end c =
     let n = c .before .before in
     let s = n .before .before .before .before in
     omega (arith, ready-addresses _ (n .address-count .result) (sound-valid (s .pre .0)) (c .addresses .ensures) (n .address-count .ensures) .0, n .address-count .ensures, s .pre .1 .0)
 
--- src/lib.rt:83:71
 slice-aggregate-candidates : tie.Need-slice-aggregate-candidates
 slice-aggregate-candidates c = search needs
 
--- src/lib.rt:83:9
 candidates-requires : tie.Need-candidates-requires
 candidates-requires c κs =
     let n = c .before .before .before .before in
@@ -67,23 +51,18 @@ candidates-requires c κs =
     let y = ready-addresses _ (n .address-count .result) (sound-valid (s .pre .0)) (c .before .before .addresses .ensures) (n .address-count .ensures) in
     (y, (part-short (c .before .before .addresses .result .now) (n .address-count .result) (y .0) (y .1) (s .args .i) (omega (arith, n .address-count .ensures, s .pre .1 .0)), omega arith))
 
--- src/lib.rt:84:15
 mul-end : tie.Need-mul-end
 mul-end c = search needs
 
--- src/lib.rt:85:25
 sub-bring : tie.Need-sub-bring
 sub-bring c = search needs
 
--- src/lib.rt:85:25
 part-bring-start : tie.Need-part-bring-start
 part-bring-start c = search needs
 
--- src/lib.rt:85:25
 part-bring-end : tie.Need-part-bring-end
 part-bring-end c = search needs
 
--- src/lib.rt:85:5
 bring-requires : tie.Need-bring-requires
 bring-requires c κs =
     let d = c .before .before .before .before .before in
@@ -98,15 +77,12 @@ bring-requires c κs =
       ),
     )
 
--- src/lib.rt:72:1
 same-length : tie.Need-same-length
 same-length c = search needs
 
--- src/lib.rt:72:1
 same-length-2 : tie.Need-same-length-2
 same-length-2 c = search needs
 
--- src/lib.rt:72:1
 returns : tie.Need-returns
 returns c =
     let b = c .before .before .before .before in

@@ -2,23 +2,17 @@ use Rattle.adding.specs.Comes.{call-rows, call-full}
 use borrow.Author.Needs.{needs}
 use Rattle.adding.proofs.call_of.Statement.{statement}
 use Rattle.adding.proofs.call_of.Tie as tie
-use Rattle.adding.proofs.call_of.Reads as reads
-use Rattle.adding.proofs.call_of.Lts as lts
 
--- src/lib.rt:31:20
 enum-known-told : tie.Need-enum-known-told
 enum-known-told c = search needs
 
--- src/lib.rt:32:23
 enum-told : tie.Need-enum-told
 enum-told c = search needs
 
--- src/lib.rt:27:1
 returns : tie.Need-returns
 returns c =
     call-rows (c .before .before .before .args .told) (c .before .told .given .0 .0) (c .before .told .given .1)
 
--- src/lib.rt:27:1
 returns-2 : tie.Need-returns-2
 returns-2 c =
     call-full (c .before .before .args .told) (c .enum-told .given .1)

@@ -2,32 +2,24 @@ use Rattle.adding.specs.Comes.{step-rows, step-refused, step-full}
 use borrow.Author.Needs.{needs}
 use Rattle.adding.proofs.step_of.Statement.{statement}
 use Rattle.adding.proofs.step_of.Tie as tie
-use Rattle.adding.proofs.step_of.Reads as reads
-use Rattle.adding.proofs.step_of.Lts as lts
 
--- src/lib.rt:41:20
 enum-known-came : tie.Need-enum-known-came
 enum-known-came c = search needs
 
--- src/lib.rt:42:29
 enum-told : tie.Need-enum-told
 enum-told c = search needs
 
--- src/lib.rt:43:23
 enum-told-2 : tie.Need-enum-told-2
 enum-told-2 c = search needs
 
--- src/lib.rt:37:1
 returns : tie.Need-returns
 returns c =
     step-rows (c .before .before .before .args .came) (c .before .came .given .0 .0) (c .before .came .given .1)
 
--- src/lib.rt:37:1
 returns-2 : tie.Need-returns-2
 returns-2 c =
     step-refused (c .before .before .args .came) (c .enum-told .given .0 .0) (c .enum-told .given .1)
 
--- src/lib.rt:37:1
 returns-3 : tie.Need-returns-3
 returns-3 c =
     step-full (c .before .before .args .came) (c .enum-told2 .given .1)

@@ -1,4 +1,4 @@
-use mathlib.Core.Path.{refl, sym, _∙_}
+use mathlib.Core.Path.{refl}
 use native.Mathlib.Omega.{arith}
 use Rattle.definition.specs.Reference.Addresses.{loopback}
 use Rattle.definition.specs.Kept.Addresses.{loopback-fit}
@@ -9,32 +9,21 @@ use Rattle.adding.specs.Every.{up-full, up-sound, up-length, up-done}
 use borrow.Author.Needs.{needs}
 use Rattle.adding.proofs.up.Statement.{statement}
 use Rattle.adding.proofs.up.Tie as tie
-use Rattle.adding.proofs.up.Reads as reads
-use Rattle.adding.proofs.up.Lts as lts
-use Rattle.adding.proofs.add_v4.Reads as add-v4-reads
-use Rattle.adding.proofs.bring_all.Reads as bring-all-reads
-use Rattle.adding.proofs.step_of.Reads as step-of-reads
-use Rattle.bring.proofs.joined.Reads as joined-reads
 
--- src/lib.rt:141:39
 slice-aggregate-add-v4 : tie.Need-slice-aggregate-add-v4
 slice-aggregate-add-v4 c = search needs
 
--- src/lib.rt:141:25
 add-v4-requires : tie.Need-add-v4-requires
 add-v4-requires c κs =
     let s = c .before .before .before .before .before in
     (s .pre .0, ((refl, loopback-fit), omega (arith, s .pre .1)))
 
--- src/lib.rt:141:9
 step-of-requires : tie.Need-step-of-requires
 step-of-requires c κs = search needs
 
--- src/lib.rt:143:20
 enum-known-first : tie.Need-enum-known-first
 enum-known-first c = search needs
 
--- src/lib.rt:144:24
 mul-from : tie.Need-mul-from
 mul-from c =
     let t = c .before .before .before in
@@ -46,7 +35,6 @@ mul-from c =
     let five = rows-are 5 (t .step-of .result) k (e .first .given .1) (told-few 5 (d .add-v4 .result) (t .step-of .result) (t .step-of .ensures) (d .add-v4 .ensures .0)) in
     omega (arith, five)
 
--- src/lib.rt:145:37
 mul-bring-all : tie.Need-mul-bring-all
 mul-bring-all c =
     let t = c .before .before .before .before in
@@ -58,7 +46,6 @@ mul-bring-all c =
     let five = rows-are 5 (t .step-of .result) k (e .first .given .1) (told-few 5 (d .add-v4 .result) (t .step-of .result) (t .step-of .ensures) (d .add-v4 .ensures .0)) in
     omega (arith, five)
 
--- src/lib.rt:145:37
 sub-bring-all : tie.Need-sub-bring-all
 sub-bring-all c =
     let t = c .before .before .before .before in
@@ -70,7 +57,6 @@ sub-bring-all c =
     let five = rows-are 5 (t .step-of .result) k (e .first .given .1) (told-few 5 (d .add-v4 .result) (t .step-of .result) (t .step-of .ensures) (d .add-v4 .ensures .0)) in
     omega (arith, five, s .pre .1)
 
--- src/lib.rt:145:37
 part-bring-all-start : tie.Need-part-bring-all-start
 part-bring-all-start c =
     let t = c .before .before .before .before in
@@ -82,11 +68,9 @@ part-bring-all-start c =
     let five = rows-are 5 (t .step-of .result) k (e .first .given .1) (told-few 5 (d .add-v4 .result) (t .step-of .result) (t .step-of .ensures) (d .add-v4 .ensures .0)) in
     omega (arith, five, s .pre .1)
 
--- src/lib.rt:145:37
 part-bring-all-end : tie.Need-part-bring-all-end
 part-bring-all-end c = search needs
 
--- src/lib.rt:145:17
 bring-all-requires : tie.Need-bring-all-requires
 bring-all-requires c κs =
     let t = c .before .before .before .before .before in
@@ -100,7 +84,6 @@ bring-all-requires c κs =
       rest-room k 11016 (d .add-v4 .last .1 .0) (omega (arith, five, s .pre .1, up-length clock (λ st h g. added-step loopback clock st (t .step-of .result) (t .step-of .ensures) h (d .add-v4 .ensures .1 st h g)) k (e .first .given .1) (s .pre .0))),
     )
 
--- src/lib.rt:146:13
 joined-requires : tie.Need-joined-requires
 joined-requires c κs =
     let t = c .before .before .before .before .before .before .before .before .before .before in
@@ -112,19 +95,15 @@ joined-requires c κs =
     let five = rows-are 5 (t .step-of .result) k (e .first .given .1) (told-few 5 (d .add-v4 .result) (t .step-of .result) (t .step-of .ensures) (d .add-v4 .ensures .0)) in
     omega (arith, five, c .before .before .before .before .bring-all .ensures .0)
 
--- src/lib.rt:148:23
 enum-told : tie.Need-enum-told
 enum-told c = search needs
 
--- src/lib.rt:115:1
 same-length : tie.Need-same-length
 same-length c = search needs
 
--- src/lib.rt:115:1
 same-length-2 : tie.Need-same-length-2
 same-length-2 c = search needs
 
--- src/lib.rt:115:1
 returns : tie.Need-returns
 returns c =
     let t = c .before .before .before .before .before .before .before .before .before .before .before in
@@ -139,15 +118,12 @@ returns c =
       up-done clock (λ st h g. added-step loopback clock st (t .step-of .result) (t .step-of .ensures) h (d .add-v4 .ensures .1 st h g)) k (e .first .given .1) (b .bring-all .ensures .1) (c .joined .result) (c .joined .ensures),
     )
 
--- src/lib.rt:115:1
 same-length-3 : tie.Need-same-length-3
 same-length-3 c = search needs
 
--- src/lib.rt:115:1
 same-length-4 : tie.Need-same-length-4
 same-length-4 c = search needs
 
--- src/lib.rt:115:1
 returns-2 : tie.Need-returns-2
 returns-2 c =
     let t = c .before .before in

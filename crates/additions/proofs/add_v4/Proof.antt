@@ -13,25 +13,16 @@ use Rattle.changes.specs.Told.{add-v4-told, told-says}
 use borrow.Author.Needs.{needs}
 use Rattle.additions.proofs.add_v4.Statement.{statement}
 use Rattle.additions.proofs.add_v4.Tie as tie
-use Rattle.additions.proofs.add_v4.Reads as reads
-use Rattle.additions.proofs.add_v4.Lts as lts
-use Rattle.fit.proofs.fit_add_v4.Reads as fit-add-v4-reads
-use Rattle.interface.proofs.checked.Reads as checked-reads
-use Rattle.whole.proofs.add_v4.Reads as add-v4-reads
 
--- src/lib.rt:26:9
 fit-add-v4-requires : tie.Need-fit-add-v4-requires
 fit-add-v4-requires c κs = search needs
 
--- src/lib.rt:27:9
 checked-requires : tie.Need-checked-requires
 checked-requires c κs = search needs
 
--- src/lib.rt:29:9
 same-length : tie.Need-same-length
 same-length c = search needs
 
--- src/lib.rt:29:9
 returns : tie.Need-returns
 unfolding addV4Call
 returns c =
@@ -42,7 +33,6 @@ returns c =
     let e = x .answer in
     (told-says (add-v4-told (a .state .now) (length (a .events .now)) (a .q .now) (a .clock)) e, (e, (x .words, x .events)))
 
--- src/lib.rt:31:9
 add-v4-requires : tie.Need-add-v4-requires
 add-v4-requires c κs =
     let e = c .before .before in
@@ -52,27 +42,21 @@ add-v4-requires c κs =
     let p = request-asked (a .q .now) (a .state .now) (a .events .now) (k .checked .result) addV4Size (fitAddV4 (a .q .now)) (i .fit-add-v4 .result) (addV4 (a .q .now) (a .clock)) (i .fit-add-v4 .ensures) (k .checked .ensures) (e .if1 .left) in
     (asked-sound p, ((p .long, p .fit), omega (arith, p .room)))
 
--- src/lib.rt:33:28
 enum-known-came : tie.Need-enum-known-came
 enum-known-came c = search needs
 
--- src/lib.rt:34:31
 enum-known-came-2 : tie.Need-enum-known-came-2
 enum-known-came-2 c = search needs
 
--- src/lib.rt:35:31
 enum-told : tie.Need-enum-told
 enum-told c = search needs
 
--- src/lib.rt:21:1
 same-length-2 : tie.Need-same-length-2
 same-length-2 c = search needs
 
--- src/lib.rt:21:1
 same-length-3 : tie.Need-same-length-3
 same-length-3 c = search needs
 
--- src/lib.rt:21:1
 returns-2 : tie.Need-returns-2
 unfolding addV4Call
 returns-2 c =
@@ -90,15 +74,12 @@ returns-2 c =
     let e = ap cameOf (sym (c .before .came .given .1)) ∙ x .answer in
     (told-says (add-v4-told (a .state .now) (length (a .events .now)) (a .q .now) (a .clock)) e, (e, (x .words, x .events)))
 
--- src/lib.rt:21:1
 same-length-4 : tie.Need-same-length-4
 same-length-4 c = search needs
 
--- src/lib.rt:21:1
 same-length-5 : tie.Need-same-length-5
 same-length-5 c = search needs
 
--- src/lib.rt:21:1
 returns-3 : tie.Need-returns-3
 unfolding addV4Call
 returns-3 c =
@@ -116,15 +97,12 @@ returns-3 c =
     let e = ap cameOf (sym (c .before .came2 .given .1)) ∙ x .answer in
     (told-says (add-v4-told (a .state .now) (length (a .events .now)) (a .q .now) (a .clock)) e, (e, (x .words, x .events)))
 
--- src/lib.rt:21:1
 same-length-6 : tie.Need-same-length-6
 same-length-6 c = search needs
 
--- src/lib.rt:21:1
 same-length-7 : tie.Need-same-length-7
 same-length-7 c = search needs
 
--- src/lib.rt:21:1
 returns-4 : tie.Need-returns-4
 unfolding addV4Call
 returns-4 c =

@@ -10,21 +10,14 @@ use Rattle.changes.specs.Told.{up-told, told-says}
 use borrow.Author.Needs.{needs}
 use Rattle.additions.proofs.up.Statement.{statement}
 use Rattle.additions.proofs.up.Tie as tie
-use Rattle.additions.proofs.up.Reads as reads
-use Rattle.additions.proofs.up.Lts as lts
-use Rattle.interface.proofs.checked.Reads as checked-reads
-use Rattle.whole.proofs.up.Reads as up-reads
 use Rattle.changes.specs.Requests.{sound}
 
--- src/lib.rt:44:9
 checked-requires : tie.Need-checked-requires
 checked-requires c κs = search needs
 
--- src/lib.rt:46:9
 same-length : tie.Need-same-length
 same-length c = search needs
 
--- src/lib.rt:46:9
 returns : tie.Need-returns
 returns c =
     let k = c .before in
@@ -33,7 +26,6 @@ returns c =
     let e = x .answer in
     (told-says (up-told (a .state .now) (length (a .events .now)) (a .clock)) e, (e, (x .words, x .events)))
 
--- src/lib.rt:48:9
 up-requires : tie.Need-up-requires
 up-requires c κs =
     let e = c .before .before in
@@ -42,23 +34,18 @@ up-requires c κs =
     let p = passed (eventsFit (length (a .events .now))) true true (a .state .now) (k .checked .result) (k .checked .ensures) (e .if1 .left) in
     (sound (eventsFit (length (a .events .now))) true (a .state .now) (k .checked .result) (k .checked .ensures) (e .if1 .left), leb-true 13056 (length (a .events .now)) (p .room))
 
--- src/lib.rt:50:27
 enum-known-told : tie.Need-enum-known-told
 enum-known-told c = search needs
 
--- src/lib.rt:51:30
 enum-told : tie.Need-enum-told
 enum-told c = search needs
 
--- src/lib.rt:39:1
 same-length-2 : tie.Need-same-length-2
 same-length-2 c = search needs
 
--- src/lib.rt:39:1
 same-length-3 : tie.Need-same-length-3
 same-length-3 c = search needs
 
--- src/lib.rt:39:1
 returns-2 : tie.Need-returns-2
 returns-2 c =
     let y = c .before .before .before .before .before .before .before in
@@ -71,15 +58,12 @@ returns-2 c =
     let e = ap toldOf (sym (c .before .told .given .1)) ∙ x .answer in
     (told-says (up-told (a .state .now) (length (a .events .now)) (a .clock)) e, (e, (x .words, x .events)))
 
--- src/lib.rt:39:1
 same-length-4 : tie.Need-same-length-4
 same-length-4 c = search needs
 
--- src/lib.rt:39:1
 same-length-5 : tie.Need-same-length-5
 same-length-5 c = search needs
 
--- src/lib.rt:39:1
 returns-3 : tie.Need-returns-3
 returns-3 c =
     let y = c .before .before .before .before .before .before in

@@ -2,7 +2,7 @@ use lib.Dec.{lit<}
 use Rattle.lists.specs.Pass.{part-fit}
 use Rattle.state.specs.Holds.{sound-long}
 use Rattle.bring.specs.Sound.{rest-room, rows-are}
-use Prim.Native.Nat.{_+_, _-_, _≤_}
+use Prim.Native.Nat.{_-_, _≤_}
 use mathlib.Core.Path.{_≡_, refl, sym, _∙_}
 use native.Mathlib.Omega.{arith}
 use lib.ListN.{length}
@@ -10,9 +10,6 @@ use Rattle.bring.specs.Bring.{Sofar, sofar-start, sofar-sound, sofar-val
 use borrow.Author.Needs.{needs}
 use Rattle.bring.proofs.bring.Statement.{statement}
 use Rattle.bring.proofs.bring.Tie as tie
-use Rattle.bring.proofs.bring.Reads as reads
-use Rattle.bring.proofs.bring.Lts as lts
-use Rattle.kernel.proofs.kernel_add4.Reads as kernel-add4-reads
 
 abbrev Inv-loop : tie.InvT-loop
 Inv-loop s₀ ev₀ block k told₀ i₀ s ev told i =
@@ -21,63 +18,50 @@ Inv-loop s₀ ev₀ block k told₀ i₀ s ev told i =
 abbrev μ-loop : tie.MeasureT-loop
 μ-loop s₀ ev₀ block k told₀ i₀ s ev told i = k - i
 
--- src/lib.rt:42:5
 loop-holds : tie.Need-loop-holds Inv-loop μ-loop
 loop-holds c =
     let s = c .before .before .before in
     (omega arith, (omega arith, (refl, (refl, sofar-start (s .args .block .now) (s .args .s .now) (s .args .ev .now)))))
 
--- src/lib.rt:43:18
 mul-at : tie.Need-mul-at Inv-loop μ-loop
 mul-at c = search needs
 
--- src/lib.rt:44:20
 mul-from : tie.Need-mul-from Inv-loop μ-loop
 mul-from c =
     let k = c .before in
     let s = k .before .before .before .before in
     omega (arith, k .loop .inv .0, k .loop .inv .1 .0, s .pre .1 .1 .1)
 
--- src/lib.rt:45:43
 mul-kernel-add4 : tie.Need-mul-kernel-add4 Inv-loop μ-loop
 mul-kernel-add4 c = search needs
 
--- src/lib.rt:45:43
 sub-kernel-add4 : tie.Need-sub-kernel-add4 Inv-loop μ-loop
 sub-kernel-add4 c = search needs
 
--- src/lib.rt:45:43
 part-kernel-add4-start : tie.Need-part-kernel-add4-start Inv-loop μ-loop
 part-kernel-add4-start c =
     let k = c .before .before in
     let s = k .before .before .before .before in
     omega (arith, c .before .loop-test .taken, k .loop .inv .0, k .loop .inv .1 .0, k .loop .inv .1 .1 .1 .0, s .pre .1 .1 .0)
 
--- src/lib.rt:45:43
 part-kernel-add4-end : tie.Need-part-kernel-add4-end Inv-loop μ-loop
 part-kernel-add4-end c = search needs
 
--- src/lib.rt:45:71
 add-kernel-add4 : tie.Need-add-kernel-add4 Inv-loop μ-loop
 add-kernel-add4 c = search needs
 
--- src/lib.rt:45:60
 mul-kernel-add4-2 : tie.Need-mul-kernel-add4-2 Inv-loop μ-loop
 mul-kernel-add4-2 c = search needs
 
--- src/lib.rt:45:60
 sub-kernel-add4-2 : tie.Need-sub-kernel-add4-2 Inv-loop μ-loop
 sub-kernel-add4-2 c = search needs
 
--- src/lib.rt:45:60
 part-kernel-add4-start-2 : tie.Need-part-kernel-add4-start-2 Inv-loop μ-loop
 part-kernel-add4-start-2 c = search needs
 
--- src/lib.rt:45:60
 part-kernel-add4-end-2 : tie.Need-part-kernel-add4-end-2 Inv-loop μ-loop
 part-kernel-add4-end-2 c = search needs
 
--- src/lib.rt:45:13
 kernel-add4-requires : tie.Need-kernel-add4-requires Inv-loop μ-loop
 kernel-add4-requires c κs =
     let k = c .before .before .before .before in
@@ -91,11 +75,9 @@ kernel-add4-requires c κs =
       ),
     )
 
--- src/lib.rt:47:24
 enum-known-came : tie.Need-enum-known-came Inv-loop μ-loop
 enum-known-came c = search needs
 
--- src/lib.rt:48:17
 add-told : tie.Need-add-told Inv-loop μ-loop
 add-told c =
     let t = c .before in
@@ -104,19 +86,15 @@ add-told c =
     let s = k .before .before .before .before in
     omega (arith, k .loop .inv .0, k .loop .inv .1 .0, s .pre .1 .1 .1, rows-are 1 (w .kernel-add4 .result) (t .came .given .0 .0) (t .came .given .1) (w .kernel-add4 .ensures .1 .0))
 
--- src/lib.rt:51:17
 enum-told : tie.Need-enum-told Inv-loop μ-loop
 enum-told c = search needs
 
--- src/lib.rt:51:17
 same-length : tie.Need-same-length Inv-loop μ-loop
 same-length c = search needs
 
--- src/lib.rt:51:17
 same-length-2 : tie.Need-same-length-2 Inv-loop μ-loop
 same-length-2 c = search needs
 
--- src/lib.rt:51:17
 returns : tie.Need-returns Inv-loop μ-loop
 returns c =
     let w = c .before .before .before .before .before .before in
@@ -126,15 +104,12 @@ returns c =
     let inv = k .loop .inv in
     (omega arith, λ rows h. sofar-full (inv .1 .1 .1 .1) (s .args .k) (y .0) (w .before .before .before .before .loop-test .taken) (w .kernel-add4 .ensures .1 .1) (c .enum-told .given .1) rows h)
 
--- src/lib.rt:54:9
 add-i : tie.Need-add-i Inv-loop μ-loop
 add-i c = search needs
 
--- src/lib.rt:42:5
 loop-less : tie.Need-loop-less Inv-loop μ-loop
 loop-less c = search needs
 
--- src/lib.rt:42:5
 loop-again : tie.Need-loop-again Inv-loop μ-loop
 loop-again c =
     let t = c .before in
@@ -148,15 +123,12 @@ loop-again c =
     let next = sofar-next (inv .1 .1 .1 .1) (s .args .k) (y .0) (w .before .before .before .before .loop-test .taken) (w .kernel-add4 .ensures .1 .1) m (t .came .given .1) in
     (omega arith, (omega (arith, one, inv .1 .0), (sound-long (sofar-sound next (s .pre .0) (y .1)) ∙ sym (sound-long (s .pre .0)), (sofar-length next (s .pre .0) (y .1), next))))
 
--- src/lib.rt:33:1
 same-length-3 : tie.Need-same-length-3 Inv-loop μ-loop
 same-length-3 c = search needs
 
--- src/lib.rt:33:1
 same-length-4 : tie.Need-same-length-4 Inv-loop μ-loop
 same-length-4 c = search needs
 
--- src/lib.rt:33:1
 returns-2 : tie.Need-returns-2 Inv-loop μ-loop
 returns-2 c =
     let k = c .before in

@@ -1,5 +1,5 @@
 use Prim.Native.Nat.{_+_, _*_}
-use mathlib.Core.Path.{refl, sym, _∙_}
+use mathlib.Core.Path.{refl}
 use native.Mathlib.Omega.{arith}
 use lib.ListN.{getD}
 use mathlib.Core.List.{[]}
@@ -10,85 +10,64 @@ use Rattle.definition.specs.Kept.Fit.{length-address}
 use borrow.Author.Needs.{needs}
 use Rattle.bring.proofs.change_v4.Statement.{statement}
 use Rattle.bring.proofs.change_v4.Tie as tie
-use Rattle.bring.proofs.change_v4.Reads as reads
-use Rattle.bring.proofs.change_v4.Lts as lts
-use Rattle.bring.proofs.moved.Reads as moved-reads
-use Rattle.events.proofs.new_addr4.Reads as new-addr4-reads
-use Rattle.rewrite.proofs.changed_to.Reads as changed-to-reads
-use Rattle.state.proofs.replace_address.Reads as replace-address-reads
-use Rattle.words.proofs.store.Reads as store-reads
 
--- src/lib.rt:116:18
 mul-at : tie.Need-mul-at
 mul-at c =
     let s = c .before .before .before in
     omega (arith, sound-few (s .pre .0), sound-long (s .pre .0), s .pre .1 .0)
 
--- src/lib.rt:116:14
 add-at : tie.Need-add-at
 add-at c =
     let s = c .before .before .before in
     omega (arith, sound-few (s .pre .0), sound-long (s .pre .0), s .pre .1 .0)
 
--- src/lib.rt:118:18
 slice-aggregate-store : tie.Need-slice-aggregate-store
 slice-aggregate-store c = search needs
 
--- src/lib.rt:118:38
 add-store : tie.Need-add-store
 add-store c =
     let s = c .before .before .before .before in
     omega (arith, sound-few (s .pre .0), sound-long (s .pre .0), s .pre .1 .0)
 
--- src/lib.rt:118:31
 mul-store : tie.Need-mul-store
 mul-store c =
     let s = c .before .before .before .before in
     omega (arith, sound-few (s .pre .0), sound-long (s .pre .0), s .pre .1 .0)
 
--- src/lib.rt:118:31
 sub-store : tie.Need-sub-store
 sub-store c =
     omega arith
 
--- src/lib.rt:118:31
 part-store-start : tie.Need-part-store-start
 part-store-start c =
     let s = c .before .before .before .before .before in
     omega (arith, sound-few (s .pre .0), sound-long (s .pre .0), s .pre .1 .0)
 
--- src/lib.rt:118:31
 part-store-end : tie.Need-part-store-end
 part-store-end c =
     let s = c .before .before .before .before .before in
     omega (arith, sound-few (s .pre .0), sound-long (s .pre .0), s .pre .1 .0)
 
--- src/lib.rt:118:5
 store-requires : tie.Need-store-requires
 store-requires c κs =
     let s = c .before .before .before .before .before .before in
     row-room (3 + 20 * s .args .i) (s .args .s .now)
 
--- src/lib.rt:120:28
 slice-aggregate-changed-to : tie.Need-slice-aggregate-changed-to
 slice-aggregate-changed-to c = search needs
 
--- src/lib.rt:120:41
 slice-aggregate-changed-to-2 : tie.Need-slice-aggregate-changed-to-2
 slice-aggregate-changed-to-2 c = search needs
 
--- src/lib.rt:120:5
 changed-to-requires : tie.Need-changed-to-requires
 changed-to-requires c κs =
     let t = c .before .before .before in
     let s = t .before .before .before .before .before .before .before in
     (s .pre .1 .1 .0 .0, (old-long (s .args .i) (s .pre .1 .0) _ refl (t .store .ensures) (s .pre .0), omega arith))
 
--- src/lib.rt:121:32
 slice-aggregate-moved : tie.Need-slice-aggregate-moved
 slice-aggregate-moved c = search needs
 
--- src/lib.rt:121:9
 moved-requires : tie.Need-moved-requires
 moved-requires c κs =
     let t = c .before .before .before .before .before .before .before .before in
@@ -96,15 +75,12 @@ moved-requires c κs =
     let fit = old-fit (s .args .i) (s .pre .1 .0) _ refl (t .store .ensures) (s .pre .0) in
     (s .pre .0, (s .pre .1 .1 .0 .0, (length-address (t .store .last .0) fit, (fit, omega (arith, s .pre .1 .1 .1)))))
 
--- src/lib.rt:123:20
 enum-known-came : tie.Need-enum-known-came
 enum-known-came c = search needs
 
--- src/lib.rt:124:42
 slice-aggregate-replace-address : tie.Need-slice-aggregate-replace-address
 slice-aggregate-replace-address c = search needs
 
--- src/lib.rt:124:13
 replace-address-requires : tie.Need-replace-address-requires
 replace-address-requires c κs =
     let m = c .before .before .before .before .before .before .before .before .before in
@@ -123,7 +99,6 @@ replace-address-requires c κs =
     let n = change-count q (a .clock .0) old (f .1) fit _ refl (h .changed-to .ensures) (m .moved .ensures .1) k (e .came .given .1) (s .pre .0 .state) (s .pre .0 .holds) (s .pre .0 .fits) in
     (sound-valid v, (omega (arith, n, s .pre .1 .0), changed-fit q (a .clock .0) old (f .1) fit _ refl (h .changed-to .ensures)))
 
--- src/lib.rt:125:24
 mul-from : tie.Need-mul-from
 mul-from c =
     let m = c .before .before .before .before .before .before .before .before .before .before .before .before in
@@ -140,7 +115,6 @@ mul-from c =
     let two = rows-are 2 (m .moved .result) k (e .came .given .1) (m .moved .ensures .0) in
     omega (arith, two)
 
--- src/lib.rt:126:31
 mul-new-addr4 : tie.Need-mul-new-addr4
 mul-new-addr4 c =
     let m = c .before .before .before .before .before .before .before .before .before .before .before .before in
@@ -157,7 +131,6 @@ mul-new-addr4 c =
     let two = rows-are 2 (m .moved .result) k (e .came .given .1) (m .moved .ensures .0) in
     omega (arith, two)
 
--- src/lib.rt:126:31
 sub-new-addr4 : tie.Need-sub-new-addr4
 sub-new-addr4 c =
     let m = c .before .before .before .before .before .before .before .before .before .before .before .before in
@@ -174,7 +147,6 @@ sub-new-addr4 c =
     let two = rows-are 2 (m .moved .result) k (e .came .given .1) (m .moved .ensures .0) in
     omega (arith, two, s .pre .1 .1 .1)
 
--- src/lib.rt:126:31
 part-new-addr4-start : tie.Need-part-new-addr4-start
 part-new-addr4-start c =
     let m = c .before .before .before .before .before .before .before .before .before .before .before .before in
@@ -191,15 +163,12 @@ part-new-addr4-start c =
     let two = rows-are 2 (m .moved .result) k (e .came .given .1) (m .moved .ensures .0) in
     omega (arith, two, s .pre .1 .1 .1)
 
--- src/lib.rt:126:31
 part-new-addr4-end : tie.Need-part-new-addr4-end
 part-new-addr4-end c = search needs
 
--- src/lib.rt:126:48
 slice-aggregate-new-addr4 : tie.Need-slice-aggregate-new-addr4
 slice-aggregate-new-addr4 c = search needs
 
--- src/lib.rt:126:13
 new-addr4-requires : tie.Need-new-addr4-requires
 new-addr4-requires c κs =
     let m = c .before .before .before .before .before .before .before .before .before .before .before .before .before .before in
@@ -216,7 +185,6 @@ new-addr4-requires c κs =
     let two = rows-are 2 (m .moved .result) k (e .came .given .1) (m .moved .ensures .0) in
     (rest-room k 34 (m .moved .last .1 .0) (omega (arith, two, s .pre .1 .1 .1)), length-address (h .changed-to .last .1 .1 .1 .0) (changed-fit q (a .clock .0) old (f .1) fit _ refl (h .changed-to .ensures)))
 
--- src/lib.rt:127:24
 add-t37 : tie.Need-add-t37
 add-t37 c =
     let m = c .before .before .before .before .before .before .before .before .before .before .before .before .before .before .before .before .before in
@@ -233,19 +201,15 @@ add-t37 c =
     let two = rows-are 2 (m .moved .result) k (e .came .given .1) (m .moved .ensures .0) in
     omega (arith, two)
 
--- src/lib.rt:129:23
 enum-told : tie.Need-enum-told
 enum-told c = search needs
 
--- src/lib.rt:108:1
 same-length : tie.Need-same-length
 same-length c = search needs
 
--- src/lib.rt:108:1
 same-length-2 : tie.Need-same-length-2
 same-length-2 c = search needs
 
--- src/lib.rt:108:1
 returns : tie.Need-returns
 returns c =
     let m = c .before .before .before .before .before .before .before .before .before .before .before .before .before .before .before .before .before in
@@ -266,15 +230,12 @@ returns c =
           (c .before .before .before .before .before .before .before .replace-address .ensures) room (c .before .before .new-addr4 .ensures) st hs g at (getD (st .addresses) (a .i) []) (old-row (a .i) (s .pre .1 .0) _ refl (t .store .ensures) st hs),
     )
 
--- src/lib.rt:108:1
 same-length-3 : tie.Need-same-length-3
 same-length-3 c = search needs
 
--- src/lib.rt:108:1
 same-length-4 : tie.Need-same-length-4
 same-length-4 c = search needs
 
--- src/lib.rt:108:1
 returns-2 : tie.Need-returns-2
 returns-2 c =
     let m = c .before .before .before .before .before .before in

@@ -3,32 +3,25 @@ use Rattle.bring.specs.Sound.{joined-room, joined-rows, joined-full}
 use borrow.Author.Needs.{needs}
 use Rattle.bring.proofs.joined.Statement.{statement}
 use Rattle.bring.proofs.joined.Tie as tie
-use Rattle.bring.proofs.joined.Reads as reads
-use Rattle.bring.proofs.joined.Lts as lts
 
--- src/lib.rt:27:20
 enum-known-told : tie.Need-enum-known-told
 enum-known-told c = search needs
 
--- src/lib.rt:27:37
 add-t5 : tie.Need-add-t5
 add-t5 c =
     let t = c .before in
     let s = t .before .before in
     omega (arith, joined-room (s .args .k) (s .args .told) (t .told .given .0 .0) (t .told .given .1) (s .pre))
 
--- src/lib.rt:28:23
 enum-told : tie.Need-enum-told
 enum-told c = search needs
 
--- src/lib.rt:22:1
 returns : tie.Need-returns
 returns c =
     let t = c .before in
     let s = t .before .before in
     joined-rows (s .args .k) (s .args .told) (t .told .given .0 .0) (t .told .given .1)
 
--- src/lib.rt:22:1
 returns-2 : tie.Need-returns-2
 returns-2 c =
     let s = c .before .before in

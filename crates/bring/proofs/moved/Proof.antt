@@ -9,67 +9,49 @@ use Rattle.bring.specs.Change.{moved-none, moved-full, moved-both, route
 use borrow.Author.Needs.{needs}
 use Rattle.bring.proofs.moved.Statement.{statement}
 use Rattle.bring.proofs.moved.Tie as tie
-use Rattle.bring.proofs.moved.Reads as reads
-use Rattle.bring.proofs.moved.Lts as lts
-use Rattle.candidates.proofs.prefix_route4.Reads as prefix-route4-reads
-use Rattle.kernel.proofs.kernel_add4.Reads as kernel-add4-reads
-use Rattle.named.proofs.kernel_del4.Reads as kernel-del4-reads
-use Rattle.placing.proofs.reroutes.Reads as reroutes-reads
 
--- src/lib.rt:89:9
 reroutes-requires : tie.Need-reroutes-requires
 reroutes-requires c κs =
     let s = c .before .before .before .before in
     (s .pre .1 .0, fit-short (s .args .old .now) (s .pre .1 .1 .1 .0))
 
--- src/lib.rt:90:9
 returns : tie.Need-returns
 returns c =
     let i = c .before in
     let s = i .before .before .before .before .before in
     (omega arith, λ st h g. moved-none (s .args .q .now) (s .args .old .now) (sym (i .reroutes .ensures) ∙ not-true (i .reroutes .result) (c .if1 .taken)) st h)
 
--- src/lib.rt:93:31
 slice-aggregate-prefix-route4 : tie.Need-slice-aggregate-prefix-route4
 slice-aggregate-prefix-route4 c = search needs
 
--- src/lib.rt:93:49
 shared-slice-read-prefix-route4 : tie.Need-shared-slice-read-prefix-route4
 shared-slice-read-prefix-route4 c = search needs
 
--- src/lib.rt:93:56
 shared-slice-read-prefix-route4-2 : tie.Need-shared-slice-read-prefix-route4-2
 shared-slice-read-prefix-route4-2 c = search needs
 
--- src/lib.rt:93:5
 prefix-route4-requires : tie.Need-prefix-route4-requires
 prefix-route4-requires c κs =
     let s = c .before .before .before .before .before .before .before .before .before in
     (omega arith, fit-short (s .args .old .now) (s .pre .1 .1 .1 .0))
 
--- src/lib.rt:95:31
 slice-aggregate-prefix-route4-2 : tie.Need-slice-aggregate-prefix-route4-2
 slice-aggregate-prefix-route4-2 c = search needs
 
--- src/lib.rt:95:50
 shared-slice-read-prefix-route4-3 : tie.Need-shared-slice-read-prefix-route4-3
 shared-slice-read-prefix-route4-3 c = search needs
 
--- src/lib.rt:95:59
 shared-slice-read-prefix-route4-4 : tie.Need-shared-slice-read-prefix-route4-4
 shared-slice-read-prefix-route4-4 c = search needs
 
--- src/lib.rt:95:5
 prefix-route4-requires-2 : tie.Need-prefix-route4-requires-2
 prefix-route4-requires-2 c κs =
     let s = c .before .before .before .before .before .before .before .before .before .before .before .before .before .before in
     (omega arith, fit-short (s .args .old .now) (s .pre .1 .1 .1 .0))
 
--- src/lib.rt:96:43
 slice-aggregate-kernel-add4 : tie.Need-slice-aggregate-kernel-add4
 slice-aggregate-kernel-add4 c = search needs
 
--- src/lib.rt:96:9
 kernel-add4-requires : tie.Need-kernel-add4-requires
 kernel-add4-requires c κs =
     let g = c .before .before .before .before in
@@ -81,11 +63,9 @@ kernel-add4-requires c κs =
     let fit = s .pre .1 .1 .1 .0 in
     (sound-valid (s .pre .0), (row-fits (a .old .now) fit (getD (a .q .now) 13 0) (getD (a .old .now) 0 0) _ refl (n .prefix-route4 .ensures), omega (arith, s .pre .1 .1 .1 .1)))
 
--- src/lib.rt:98:20
 enum-known-came : tie.Need-enum-known-came
 enum-known-came c = search needs
 
--- src/lib.rt:99:24
 mul-from : tie.Need-mul-from
 mul-from c =
     let e = c .before in
@@ -93,7 +73,6 @@ mul-from c =
     let one = rows-are 1 (w .kernel-add4 .result) (e .came .given .0 .0) (e .came .given .1) (w .kernel-add4 .ensures .1 .0) in
     omega (arith, one)
 
--- src/lib.rt:100:47
 mul-kernel-del4 : tie.Need-mul-kernel-del4
 mul-kernel-del4 c =
     let e = c .before .before in
@@ -101,7 +80,6 @@ mul-kernel-del4 c =
     let one = rows-are 1 (w .kernel-add4 .result) (e .came .given .0 .0) (e .came .given .1) (w .kernel-add4 .ensures .1 .0) in
     omega (arith, one)
 
--- src/lib.rt:100:47
 sub-kernel-del4 : tie.Need-sub-kernel-del4
 sub-kernel-del4 c =
     let e = c .before .before in
@@ -110,7 +88,6 @@ sub-kernel-del4 c =
     let room = w .before .before .before .before .before .before .before .before .before .before .before .before .before .before .before .before .before .before .before .before .pre .1 .1 .1 .1 in
     omega (arith, one, room)
 
--- src/lib.rt:100:47
 part-kernel-del4-start : tie.Need-part-kernel-del4-start
 part-kernel-del4-start c =
     let e = c .before .before in
@@ -119,15 +96,12 @@ part-kernel-del4-start c =
     let room = w .before .before .before .before .before .before .before .before .before .before .before .before .before .before .before .before .before .before .before .before .pre .1 .1 .1 .1 in
     omega (arith, one, room)
 
--- src/lib.rt:100:47
 part-kernel-del4-end : tie.Need-part-kernel-del4-end
 part-kernel-del4-end c = search needs
 
--- src/lib.rt:100:64
 slice-aggregate-kernel-del4 : tie.Need-slice-aggregate-kernel-del4
 slice-aggregate-kernel-del4 c = search needs
 
--- src/lib.rt:100:17
 kernel-del4-requires : tie.Need-kernel-del4-requires
 kernel-del4-requires c κs =
     let e = c .before .before .before .before in
@@ -143,7 +117,6 @@ kernel-del4-requires c κs =
     let one = rows-are 1 (w .kernel-add4 .result) k (e .came .given .1) (w .kernel-add4 .ensures .1 .0) in
     (w .kernel-add4 .ensures .0, (row-wide (a .old .now) fit (getD (a .old .now) 13 0) (getD (a .old .now) 0 0) _ refl (g .prefix-route42 .ensures), λ b. rest-room k 34 (w .kernel-add4 .last .1 .0) (omega (arith, one, s .pre .1 .1 .1 .1))))
 
--- src/lib.rt:101:24
 add-t33 : tie.Need-add-t33
 add-t33 c =
     let e = c .before .before .before .before .before .before .before .before .before in
@@ -151,19 +124,15 @@ add-t33 c =
     let one = rows-are 1 (w .kernel-add4 .result) (e .came .given .0 .0) (e .came .given .1) (w .kernel-add4 .ensures .1 .0) in
     omega (arith, one, c .before .before .before .before .kernel-del4 .ensures .1 .0)
 
--- src/lib.rt:103:23
 enum-told : tie.Need-enum-told
 enum-told c = search needs
 
--- src/lib.rt:82:1
 same-length : tie.Need-same-length
 same-length c = search needs
 
--- src/lib.rt:82:1
 same-length-2 : tie.Need-same-length-2
 same-length-2 c = search needs
 
--- src/lib.rt:82:1
 returns-2 : tie.Need-returns-2
 returns-2 c =
     let d = c .before .before .before .before in
@@ -185,15 +154,12 @@ returns-2 c =
           (w .kernel-add4 .ensures .1 .1) k (d .kernel-del4 .result) (e .came .given .1) (d .kernel-del4 .ensures .1 .1),
     )
 
--- src/lib.rt:82:1
 same-length-3 : tie.Need-same-length-3
 same-length-3 c = search needs
 
--- src/lib.rt:82:1
 same-length-4 : tie.Need-same-length-4
 same-length-4 c = search needs
 
--- src/lib.rt:82:1
 returns-3 : tie.Need-returns-3
 returns-3 c =
     let w = c .before .before .before .before .before .before in

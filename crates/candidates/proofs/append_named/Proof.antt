@@ -1,4 +1,4 @@
-use mathlib.Core.Path.{sym, ap, _∙_}
+use mathlib.Core.Path.{sym, _∙_}
 use native.Mathlib.Omega.{arith}
 use borrow.Author.Tests.{not-true, not-false}
 use denote.Ref.{now}
@@ -8,16 +8,10 @@ use Rattle.definition.specs.Reference.Addresses.{kernelRoute, namesBroadcast}
 use borrow.Author.Needs.{needs}
 use Rattle.candidates.proofs.append_named.Statement.{statement}
 use Rattle.candidates.proofs.append_named.Tie as tie
-use Rattle.candidates.proofs.append_named.Reads as reads
-use Rattle.candidates.proofs.append_named.Lts as lts
-use Rattle.candidates.proofs.kernel_route.Reads as kernel-route-reads
-use Rattle.subnet.proofs.names_broadcast.Reads as names-broadcast-reads
 
--- src/lib.rt:106:9
 names-broadcast-requires : tie.Need-names-broadcast-requires
 names-broadcast-requires c κs = search needs
 
--- src/lib.rt:107:9
 returns : tie.Need-returns
 returns c =
     let t = c .before in
@@ -25,27 +19,21 @@ returns c =
     let x = a .a .now in
     ((omega arith, omega arith), append-none (namesBroadcast x) (kernelRoute (getD x 4 0) 32 0 3 (a .source)) (a .k) (now (a .out)) (sym (t .names-broadcast .ensures) ∙ not-true (t .names-broadcast .result) (c .if1 .taken)))
 
--- src/lib.rt:109:23
 mul-kernel-route : tie.Need-mul-kernel-route
 mul-kernel-route c = search needs
 
--- src/lib.rt:109:31
 shared-slice-read-kernel-route : tie.Need-shared-slice-read-kernel-route
 shared-slice-read-kernel-route c = search needs
 
--- src/lib.rt:109:5
 kernel-route-requires : tie.Need-kernel-route-requires
 kernel-route-requires c κs = search needs
 
--- src/lib.rt:110:5
 add-result : tie.Need-add-result
 add-result c = search needs
 
--- src/lib.rt:100:1
 same-length : tie.Need-same-length
 same-length c = search needs
 
--- src/lib.rt:100:1
 returns-2 : tie.Need-returns-2
 returns-2 c =
     let w = c .before .before in

@@ -1,4 +1,4 @@
-use mathlib.Core.Path.{sym, ap, _∙_}
+use mathlib.Core.Path.{sym, _∙_}
 use native.Mathlib.Omega.{arith}
 use borrow.Author.Tests.{not-true, not-false}
 use denote.Ref.{now}
@@ -8,16 +8,10 @@ use Rattle.candidates.specs.Rows.{subnetRoute}
 use borrow.Author.Needs.{needs}
 use Rattle.candidates.proofs.append_prefix.Statement.{statement}
 use Rattle.candidates.proofs.append_prefix.Tie as tie
-use Rattle.candidates.proofs.append_prefix.Reads as reads
-use Rattle.candidates.proofs.append_prefix.Lts as lts
-use Rattle.candidates.proofs.prefix_route4.Reads as prefix-route4-reads
-use Rattle.subnet.proofs.brings_prefix.Reads as brings-prefix-reads
 
--- src/lib.rt:120:9
 brings-prefix-requires : tie.Need-brings-prefix-requires
 brings-prefix-requires c κs = search needs
 
--- src/lib.rt:121:9
 returns : tie.Need-returns
 returns c =
     let t = c .before in
@@ -25,23 +19,18 @@ returns c =
     let x = a .a .now in
     ((omega arith, omega arith), append-none (bringsPrefix x) (subnetRoute (a .priority) (a .source) x) (a .k) (now (a .out)) (sym (t .brings-prefix .ensures) ∙ not-true (t .brings-prefix .result) (c .if1 .taken)))
 
--- src/lib.rt:123:24
 mul-prefix-route4 : tie.Need-mul-prefix-route4
 mul-prefix-route4 c = search needs
 
--- src/lib.rt:123:5
 prefix-route4-requires : tie.Need-prefix-route4-requires
 prefix-route4-requires c κs = search needs
 
--- src/lib.rt:124:5
 add-result : tie.Need-add-result
 add-result c = search needs
 
--- src/lib.rt:114:1
 same-length : tie.Need-same-length
 same-length c = search needs
 
--- src/lib.rt:114:1
 returns-2 : tie.Need-returns-2
 returns-2 c =
     let w = c .before .before in

@@ -12,17 +12,10 @@ use Rattle.subnet.specs.Brings.{bringsBroadcast}
 use borrow.Author.Needs.{needs}
 use Rattle.candidates.proofs.append_subnet.Statement.{statement}
 use Rattle.candidates.proofs.append_subnet.Tie as tie
-use Rattle.candidates.proofs.append_subnet.Reads as reads
-use Rattle.candidates.proofs.append_subnet.Lts as lts
-use Rattle.candidates.proofs.kernel_route.Reads as kernel-route-reads
-use Rattle.prefix.proofs.broadcast4.Reads as broadcast4-reads
-use Rattle.subnet.proofs.brings_broadcast.Reads as brings-broadcast-reads
 
--- src/lib.rt:134:9
 brings-broadcast-requires : tie.Need-brings-broadcast-requires
 brings-broadcast-requires c κs = search needs
 
--- src/lib.rt:135:9
 returns : tie.Need-returns
 returns c =
     let t = c .before in
@@ -30,35 +23,27 @@ returns c =
     let x = a .a .now in
     ((omega arith, omega arith), append-none (bringsBroadcast x) (kernelRoute (broadcast (getD x 1 0) (getD x 2 0)) 32 0 3 (a .source)) (a .k) (now (a .out)) (sym (t .brings-broadcast .ensures) ∙ not-true (t .brings-broadcast .result) (c .if1 .taken)))
 
--- src/lib.rt:137:35
 shared-slice-read-broadcast4 : tie.Need-shared-slice-read-broadcast4
 shared-slice-read-broadcast4 c = search needs
 
--- src/lib.rt:137:41
 shared-slice-read-broadcast4-2 : tie.Need-shared-slice-read-broadcast4-2
 shared-slice-read-broadcast4-2 c = search needs
 
--- src/lib.rt:137:9
 broadcast4-requires : tie.Need-broadcast4-requires
 broadcast4-requires c κs = search needs
 
--- src/lib.rt:138:23
 mul-kernel-route : tie.Need-mul-kernel-route
 mul-kernel-route c = search needs
 
--- src/lib.rt:138:5
 kernel-route-requires : tie.Need-kernel-route-requires
 kernel-route-requires c κs = search needs
 
--- src/lib.rt:139:5
 add-result : tie.Need-add-result
 add-result c = search needs
 
--- src/lib.rt:128:1
 same-length : tie.Need-same-length
 same-length c = search needs
 
--- src/lib.rt:128:1
 returns-2 : tie.Need-returns-2
 returns-2 c =
     let w = c .before .before in

@@ -5,29 +5,19 @@ use Rattle.candidates.specs.Laws.{candidates-down, candidates-up}
 use borrow.Author.Needs.{needs}
 use Rattle.candidates.proofs.candidates.Statement.{statement}
 use Rattle.candidates.proofs.candidates.Tie as tie
-use Rattle.candidates.proofs.candidates.Reads as reads
-use Rattle.candidates.proofs.candidates.Lts as lts
-use Rattle.candidates.proofs.kernel_route.Reads as kernel-route-reads
-use Rattle.candidates.proofs.up_routes.Reads as up-routes-reads
-use Rattle.subnet.proofs.primary_of.Reads as primary-of-reads
 
--- src/lib.rt:162:9
 primary-of-requires : tie.Need-primary-of-requires
 primary-of-requires c κs = search needs
 
--- src/lib.rt:163:26
 shared-slice-read-kernel-route : tie.Need-shared-slice-read-kernel-route
 shared-slice-read-kernel-route c = search needs
 
--- src/lib.rt:163:5
 kernel-route-requires : tie.Need-kernel-route-requires
 kernel-route-requires c κs = search needs
 
--- src/lib.rt:165:9
 same-length : tie.Need-same-length
 same-length c = search needs
 
--- src/lib.rt:165:9
 returns : tie.Need-returns
 returns c =
     let w = c .before .before .before in
@@ -37,15 +27,12 @@ returns c =
       λ l h. candidates-down l (a .a .now) (m .primary-of .result) (m .primary-of .ensures l h) (now (a .out)) (w .kernel-route .ensures) (a .up) (not-true (a .up) (c .if1 .taken)),
     )
 
--- src/lib.rt:167:5
 up-routes-requires : tie.Need-up-routes-requires
 up-routes-requires c κs = search needs
 
--- src/lib.rt:155:1
 same-length-2 : tie.Need-same-length-2
 same-length-2 c = search needs
 
--- src/lib.rt:155:1
 returns-2 : tie.Need-returns-2
 returns-2 c =
     let z = c .before .before in

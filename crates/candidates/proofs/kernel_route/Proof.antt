@@ -7,28 +7,19 @@ use Rattle.candidates.specs.Laws.{route-words}
 use borrow.Author.Needs.{needs}
 use Rattle.candidates.proofs.kernel_route.Statement.{statement}
 use Rattle.candidates.proofs.kernel_route.Tie as tie
-use Rattle.candidates.proofs.kernel_route.Reads as reads
-use Rattle.candidates.proofs.kernel_route.Lts as lts
-use Rattle.candidates.proofs.scope_of.Reads as scope-of-reads
-use Rattle.words.proofs.store.Reads as store-reads
 
--- src/lib.rt:50:9
 scope-of-requires : tie.Need-scope-of-requires
 scope-of-requires c κs = search needs
 
--- src/lib.rt:85:27
 slice-aggregate-store : tie.Need-slice-aggregate-store
 slice-aggregate-store c = search needs
 
--- src/lib.rt:85:5
 store-requires : tie.Need-store-requires
 store-requires c κs = search needs
 
--- src/lib.rt:38:1
 same-length : tie.Need-same-length
 same-length c = search needs
 
--- src/lib.rt:38:1
 returns : tie.Need-returns
 returns c =
     let w = c .before .before in

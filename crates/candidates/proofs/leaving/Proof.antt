@@ -3,51 +3,34 @@ use Rattle.candidates.specs.Laws.{leaving-written}
 use borrow.Author.Needs.{needs}
 use Rattle.candidates.proofs.leaving.Statement.{statement}
 use Rattle.candidates.proofs.leaving.Tie as tie
-use Rattle.candidates.proofs.leaving.Reads as reads
-use Rattle.candidates.proofs.leaving.Lts as lts
-use Rattle.candidates.proofs.append_named.Reads as append-named-reads
-use Rattle.candidates.proofs.append_prefix.Reads as append-prefix-reads
-use Rattle.candidates.proofs.append_subnet.Reads as append-subnet-reads
-use Rattle.candidates.proofs.kernel_route.Reads as kernel-route-reads
-use Rattle.subnet.proofs.primary_of.Reads as primary-of-reads
 
--- src/lib.rt:178:9
 primary-of-requires : tie.Need-primary-of-requires
 primary-of-requires c κs = search needs
 
--- src/lib.rt:179:9
 append-prefix-requires : tie.Need-append-prefix-requires
 append-prefix-requires c κs = search needs
 
--- src/lib.rt:180:9
 append-named-requires : tie.Need-append-named-requires
 append-named-requires c κs = search needs
 
--- src/lib.rt:181:9
 append-subnet-requires : tie.Need-append-subnet-requires
 append-subnet-requires c κs = search needs
 
--- src/lib.rt:182:23
 mul-kernel-route : tie.Need-mul-kernel-route
 mul-kernel-route c = search needs
 
--- src/lib.rt:182:34
 shared-slice-read-kernel-route : tie.Need-shared-slice-read-kernel-route
 shared-slice-read-kernel-route c = search needs
 
--- src/lib.rt:182:5
 kernel-route-requires : tie.Need-kernel-route-requires
 kernel-route-requires c κs = search needs
 
--- src/lib.rt:183:5
 add-result : tie.Need-add-result
 add-result c = search needs
 
--- src/lib.rt:171:1
 same-length : tie.Need-same-length
 same-length c = search needs
 
--- src/lib.rt:171:1
 returns : tie.Need-returns
 returns c =
     let w = c .before .before in

@@ -7,32 +7,22 @@ use Rattle.definition.specs.Reference.Addresses.{kernelRoute}
 use borrow.Author.Needs.{needs}
 use Rattle.candidates.proofs.prefix_route4.Statement.{statement}
 use Rattle.candidates.proofs.prefix_route4.Tie as tie
-use Rattle.candidates.proofs.prefix_route4.Reads as reads
-use Rattle.candidates.proofs.prefix_route4.Lts as lts
-use Rattle.candidates.proofs.kernel_route.Reads as kernel-route-reads
-use Rattle.prefix.proofs.network4.Reads as network4-reads
 
--- src/lib.rt:94:15
 shared-slice-read-len : tie.Need-shared-slice-read-len
 shared-slice-read-len c = search needs
 
--- src/lib.rt:95:36
 shared-slice-read-network4 : tie.Need-shared-slice-read-network4
 shared-slice-read-network4 c = search needs
 
--- src/lib.rt:95:9
 network4-requires : tie.Need-network4-requires
 network4-requires c κs = search needs
 
--- src/lib.rt:96:5
 kernel-route-requires : tie.Need-kernel-route-requires
 kernel-route-requires c κs = search needs
 
--- src/lib.rt:89:1
 same-length : tie.Need-same-length
 same-length c = search needs
 
--- src/lib.rt:89:1
 returns : tie.Need-returns
 returns c =
     let w = c .before .before in

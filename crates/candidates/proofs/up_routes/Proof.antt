@@ -3,33 +3,22 @@ use Rattle.candidates.specs.Laws.{up-written}
 use borrow.Author.Needs.{needs}
 use Rattle.candidates.proofs.up_routes.Statement.{statement}
 use Rattle.candidates.proofs.up_routes.Tie as tie
-use Rattle.candidates.proofs.up_routes.Reads as reads
-use Rattle.candidates.proofs.up_routes.Lts as lts
-use Rattle.candidates.proofs.append_named.Reads as append-named-reads
-use Rattle.candidates.proofs.append_prefix.Reads as append-prefix-reads
-use Rattle.candidates.proofs.append_subnet.Reads as append-subnet-reads
 
--- src/lib.rt:149:9
 append-named-requires : tie.Need-append-named-requires
 append-named-requires c κs = search needs
 
--- src/lib.rt:150:47
 shared-slice-read-append-prefix : tie.Need-shared-slice-read-append-prefix
 shared-slice-read-append-prefix c = search needs
 
--- src/lib.rt:150:9
 append-prefix-requires : tie.Need-append-prefix-requires
 append-prefix-requires c κs = search needs
 
--- src/lib.rt:151:5
 append-subnet-requires : tie.Need-append-subnet-requires
 append-subnet-requires c κs = search needs
 
--- src/lib.rt:143:1
 same-length : tie.Need-same-length
 same-length c = search needs
 
--- src/lib.rt:143:1
 returns : tie.Need-returns
 returns c =
     let z = c .before .before in

@@ -11,26 +11,16 @@ use Rattle.changes.specs.Told.{add-route4-told, told-says}
 use borrow.Author.Needs.{needs}
 use Rattle.changes.proofs.add_route4.Statement.{statement}
 use Rattle.changes.proofs.add_route4.Tie as tie
-use Rattle.changes.proofs.add_route4.Reads as reads
-use Rattle.changes.proofs.add_route4.Lts as lts
-use Rattle.fit.proofs.fit_add_route4.Reads as fit-add-route4-reads
-use Rattle.changes.proofs.public_of.Reads as public-of-reads
-use Rattle.interface.proofs.checked.Reads as checked-reads
-use Rattle.request.proofs.add_route4.Reads as add-route4-reads
 
--- src/lib.rt:64:9
 fit-add-route4-requires : tie.Need-fit-add-route4-requires
 fit-add-route4-requires c κs = search needs
 
--- src/lib.rt:65:9
 checked-requires : tie.Need-checked-requires
 checked-requires c κs = search needs
 
--- src/lib.rt:67:9
 same-length : tie.Need-same-length
 same-length c = search needs
 
--- src/lib.rt:67:9
 returns : tie.Need-returns
 unfolding addRoute4Call
 returns c =
@@ -41,7 +31,6 @@ returns c =
     let e = x .answer in
     (told-says (add-route4-told (a .state .now) (length (a .events .now)) (a .q .now)) e, (e, (x .words, x .events)))
 
--- src/lib.rt:69:15
 add-route4-requires : tie.Need-add-route4-requires
 add-route4-requires c κs =
     let e = c .before .before in
@@ -51,19 +40,15 @@ add-route4-requires c κs =
     let p = request-asked (a .q .now) (a .state .now) (a .events .now) (k .checked .result) addRoute4Size (fitAddRoute4 (a .q .now)) (i .fit-add-route4 .result) (addRoute4 (a .q .now)) (i .fit-add-route4 .ensures) (k .checked .ensures) (e .if1 .left) in
     (asked-sound p, ((p .long, p .fit), omega (arith, p .room)))
 
--- src/lib.rt:69:5
 public-of-requires : tie.Need-public-of-requires
 public-of-requires c κs = search needs
 
--- src/lib.rt:59:1
 same-length-2 : tie.Need-same-length-2
 same-length-2 c = search needs
 
--- src/lib.rt:59:1
 same-length-3 : tie.Need-same-length-3
 same-length-3 c = search needs
 
--- src/lib.rt:59:1
 returns-2 : tie.Need-returns-2
 unfolding addRoute4Call
 returns-2 c =

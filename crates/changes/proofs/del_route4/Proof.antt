@@ -12,26 +12,16 @@ use Rattle.changes.specs.Told.{del-route4-told, told-says}
 use borrow.Author.Needs.{needs}
 use Rattle.changes.proofs.del_route4.Statement.{statement}
 use Rattle.changes.proofs.del_route4.Tie as tie
-use Rattle.changes.proofs.del_route4.Reads as reads
-use Rattle.changes.proofs.del_route4.Lts as lts
-use Rattle.fit.proofs.fit_del_route4.Reads as fit-del-route4-reads
-use Rattle.changes.proofs.public_of.Reads as public-of-reads
-use Rattle.interface.proofs.checked.Reads as checked-reads
-use Rattle.request.proofs.del_route4.Reads as del-route4-reads
 
--- src/lib.rt:77:9
 fit-del-route4-requires : tie.Need-fit-del-route4-requires
 fit-del-route4-requires c κs = search needs
 
--- src/lib.rt:78:9
 checked-requires : tie.Need-checked-requires
 checked-requires c κs = search needs
 
--- src/lib.rt:80:9
 same-length : tie.Need-same-length
 same-length c = search needs
 
--- src/lib.rt:80:9
 returns : tie.Need-returns
 unfolding delRoute4Call
 returns c =
@@ -42,7 +32,6 @@ returns c =
     let e = x .answer in
     (told-says (del-route4-told (a .state .now) (length (a .events .now)) (a .q .now)) e, (e, (x .words, x .events)))
 
--- src/lib.rt:82:15
 del-route4-requires : tie.Need-del-route4-requires
 del-route4-requires c κs =
     let e = c .before .before in
@@ -52,19 +41,15 @@ del-route4-requires c κs =
     let p = request-asked (a .q .now) (a .state .now) (a .events .now) (k .checked .result) delRoute4Size (fitDelRoute4 (a .q .now)) (i .fit-del-route4 .result) (delRoute4Request (a .q .now)) (i .fit-del-route4 .ensures) (k .checked .ensures) (e .if1 .left) in
     (sound-valid (asked-sound p), ((p .long, p .fit), omega (arith, p .room)))
 
--- src/lib.rt:82:5
 public-of-requires : tie.Need-public-of-requires
 public-of-requires c κs = search needs
 
--- src/lib.rt:72:1
 same-length-2 : tie.Need-same-length-2
 same-length-2 c = search needs
 
--- src/lib.rt:72:1
 same-length-3 : tie.Need-same-length-3
 same-length-3 c = search needs
 
--- src/lib.rt:72:1
 returns-2 : tie.Need-returns-2
 unfolding delRoute4Call
 returns-2 c =

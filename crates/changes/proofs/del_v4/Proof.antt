@@ -11,25 +11,16 @@ use Rattle.changes.specs.Told.{del-v4-told, told-says}
 use borrow.Author.Needs.{needs}
 use Rattle.changes.proofs.del_v4.Statement.{statement}
 use Rattle.changes.proofs.del_v4.Tie as tie
-use Rattle.changes.proofs.del_v4.Reads as reads
-use Rattle.changes.proofs.del_v4.Lts as lts
-use Rattle.fit.proofs.fit_del_v4.Reads as fit-del-v4-reads
-use Rattle.delv4.proofs.del_v4.Reads as del-v4-reads
-use Rattle.interface.proofs.checked.Reads as checked-reads
 
--- src/lib.rt:117:9
 fit-del-v4-requires : tie.Need-fit-del-v4-requires
 fit-del-v4-requires c κs = search needs
 
--- src/lib.rt:118:9
 checked-requires : tie.Need-checked-requires
 checked-requires c κs = search needs
 
--- src/lib.rt:120:9
 same-length : tie.Need-same-length
 same-length c = search needs
 
--- src/lib.rt:120:9
 returns : tie.Need-returns
 unfolding delV4Call
 returns c =
@@ -40,7 +31,6 @@ returns c =
     let e = x .answer in
     (told-says (del-v4-told (a .state .now) (length (a .events .now)) (a .q .now)) e, (e, (x .words, x .events)))
 
--- src/lib.rt:122:9
 del-v4-requires : tie.Need-del-v4-requires
 del-v4-requires c κs =
     let e = c .before .before in
@@ -50,23 +40,18 @@ del-v4-requires c κs =
     let p = request-asked (a .q .now) (a .state .now) (a .events .now) (k .checked .result) delV4Size (fitDelV4 (a .q .now)) (i .fit-del-v4 .result) (delV4 (a .q .now)) (i .fit-del-v4 .ensures) (k .checked .ensures) (e .if1 .left) in
     (record { state = decode (a .state .now); fits = roomy-held (a .state .now) (a .events .now) (p .good) (p .holds) (p .room) }, p .long)
 
--- src/lib.rt:124:30
 enum-known-deleted : tie.Need-enum-known-deleted
 enum-known-deleted c = search needs
 
--- src/lib.rt:125:36
 enum-told : tie.Need-enum-told
 enum-told c = search needs
 
--- src/lib.rt:112:1
 same-length-2 : tie.Need-same-length-2
 same-length-2 c = search needs
 
--- src/lib.rt:112:1
 same-length-3 : tie.Need-same-length-3
 same-length-3 c = search needs
 
--- src/lib.rt:112:1
 returns-2 : tie.Need-returns-2
 unfolding delV4Call
 returns-2 c =
@@ -81,15 +66,12 @@ returns-2 c =
     let e = ap deletedOf (sym (c .before .deleted .given .1)) ∙ x .answer in
     (told-says (del-v4-told (a .state .now) (length (a .events .now)) (a .q .now)) e, (e, (x .words, x .events)))
 
--- src/lib.rt:112:1
 same-length-4 : tie.Need-same-length-4
 same-length-4 c = search needs
 
--- src/lib.rt:112:1
 same-length-5 : tie.Need-same-length-5
 same-length-5 c = search needs
 
--- src/lib.rt:112:1
 returns-3 : tie.Need-returns-3
 unfolding delV4Call
 returns-3 c =

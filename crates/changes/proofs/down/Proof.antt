@@ -8,20 +8,13 @@ use Rattle.changes.specs.Told.{down-told, told-says}
 use borrow.Author.Needs.{needs}
 use Rattle.changes.proofs.down.Statement.{statement}
 use Rattle.changes.proofs.down.Tie as tie
-use Rattle.changes.proofs.down.Reads as reads
-use Rattle.changes.proofs.down.Lts as lts
-use Rattle.interface.proofs.checked.Reads as checked-reads
-use Rattle.retain.proofs.down.Reads as down-reads
 
--- src/lib.rt:19:9
 checked-requires : tie.Need-checked-requires
 checked-requires c κs = search needs
 
--- src/lib.rt:21:9
 same-length : tie.Need-same-length
 same-length c = search needs
 
--- src/lib.rt:21:9
 returns : tie.Need-returns
 returns c =
     let k = c .before in
@@ -30,7 +23,6 @@ returns c =
     let e = x .answer in
     (told-says (down-told (a .state .now) (length (a .events .now))) e, (e, (x .words, x .events)))
 
--- src/lib.rt:23:5
 down-requires : tie.Need-down-requires
 down-requires c κs =
     let e = c .before in
@@ -38,11 +30,9 @@ down-requires c κs =
     let a = k .before .before .before .before .args in
     valid (eventsFit (length (a .events .now))) true true (a .state .now) (k .checked .result) (k .checked .ensures) (e .if1 .left)
 
--- src/lib.rt:14:1
 same-length-2 : tie.Need-same-length-2
 same-length-2 c = search needs
 
--- src/lib.rt:14:1
 returns-2 : tie.Need-returns-2
 returns-2 c =
     let y = c .before .before in

@@ -7,20 +7,13 @@ use Rattle.changes.specs.Told.{expire-told, told-says}
 use borrow.Author.Needs.{needs}
 use Rattle.changes.proofs.expire.Statement.{statement}
 use Rattle.changes.proofs.expire.Tie as tie
-use Rattle.changes.proofs.expire.Reads as reads
-use Rattle.changes.proofs.expire.Lts as lts
-use Rattle.expiry.proofs.expire.Reads as expire-reads
-use Rattle.interface.proofs.checked.Reads as checked-reads
 
--- src/lib.rt:38:9
 checked-requires : tie.Need-checked-requires
 checked-requires c κs = search needs
 
--- src/lib.rt:40:9
 same-length : tie.Need-same-length
 same-length c = search needs
 
--- src/lib.rt:40:9
 returns : tie.Need-returns
 returns c =
     let k = c .before in
@@ -29,7 +22,6 @@ returns c =
     let e = x .answer in
     (told-says (expire-told (a .state .now) (length (a .events .now)) (a .clock)) e, (e, (x .words, x .events)))
 
--- src/lib.rt:42:16
 expire-requires : tie.Need-expire-requires
 expire-requires c κs =
     let e = c .before .before in
@@ -37,15 +29,12 @@ expire-requires c κs =
     let a = k .before .before .before .before .args in
     record { state = decode (a .state .now); fits = roomy-buffer (eventsFit (length (a .events .now))) (leb (a .clock) clockLimit) (a .state .now) (a .events .now) (k .checked .result) (k .checked .ensures) (e .if1 .left) (expire-room (a .state .now) (a .events .now) (k .checked .result) (a .clock) (k .checked .ensures) (e .if1 .left)) }
 
--- src/lib.rt:33:1
 same-length-2 : tie.Need-same-length-2
 same-length-2 c = search needs
 
--- src/lib.rt:33:1
 same-length-3 : tie.Need-same-length-3
 same-length-3 c = search needs
 
--- src/lib.rt:33:1
 returns-2 : tie.Need-returns-2
 returns-2 c =
     let y = c .before .before .before .before in

@@ -3,30 +3,22 @@ use Rattle.changes.specs.Answer.{publicOf}
 use borrow.Author.Needs.{needs}
 use Rattle.changes.proofs.public_of.Statement.{statement}
 use Rattle.changes.proofs.public_of.Tie as tie
-use Rattle.changes.proofs.public_of.Reads as reads
-use Rattle.changes.proofs.public_of.Lts as lts
 
--- src/lib.rt:53:29
 enum-known-d : tie.Need-enum-known-d
 enum-known-d c = search needs
 
--- src/lib.rt:54:32
 enum-known-d-2 : tie.Need-enum-known-d-2
 enum-known-d-2 c = search needs
 
--- src/lib.rt:55:32
 enum-told : tie.Need-enum-told
 enum-told c = search needs
 
--- src/lib.rt:49:1
 returns : tie.Need-returns
 returns c = ap publicOf (sym (c .before .d .given .1))
 
--- src/lib.rt:49:1
 returns-2 : tie.Need-returns-2
 returns-2 c = ap publicOf (sym (c .before .d2 .given .1))
 
--- src/lib.rt:49:1
 returns-3 : tie.Need-returns-3
 returns-3 c = ap publicOf (sym (c .enum-told .given .1))
 

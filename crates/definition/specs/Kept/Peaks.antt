@@ -21,7 +21,6 @@ use Rattle.definition.specs.Reference.Lookup.{mainTable, localTable, loc
 use Rattle.definition.specs.Reference.Insert.{addTable, listTable, create4, insert4, Inserted, put, nothing, inserted, kernelAdd4, kernelDel4, named, removed}
 use Rattle.definition.specs.Reference.Addresses.{goes, refused, candidates, bring, place4, newAddress, addedOver, addV4, sameAddress, loopback, step, up, down, hostScope}
 use Rattle.definition.specs.Reference.Removal.{ofKind, unwanted, straysFrom, fall, disable, removeOne, goneWith, removeV4, deletes, deletedAt, delV4, due, fades, faded, fade, passes, expire}
-use Rattle.definition.specs.Reference.Routes.{deletedRoute}
 use Rattle.definition.specs.Kept.Encode.{Good}
 use Rattle.definition.specs.Kept.Keeps.{Covers}
 use Rattle.definition.specs.Kept.Removal.{option-case}

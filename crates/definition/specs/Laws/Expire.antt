@@ -2,17 +2,17 @@
 use Prim.Native.Nat.{ℕ, zero, suc, _+_, _≤_, _<_}
 use native.Mathlib.Omega.{arith}
 use mathlib.Core.Path.{_≡_, refl, sym, ap, _∙_}
-use mathlib.Core.Bool.{true, _&&_}
+use mathlib.Core.Bool.{Bool, true, cond, _&&_}
 use mathlib.Core.List.{List, [], _∷_, _++_, map}
 use mathlib.Core.Option.{Option, none, some}
 use lib.ListN.{length, length-append, length-map}
 use Rattle.lists.specs.Lists.{Row, any, keep, first, until, onward, eqRow}
-use Rattle.lists.specs.Bools.{cond-case}
+use Rattle.lists.specs.Bools.{test-case, cond-case}
 use Rattle.lists.specs.Count.{Within, within-first, within-rest, length-removeFirst, until-onward, onward-first, any-back, any-count, first-any, count-most}
 use Rattle.layout.specs.Address.{secondary}
-use Rattle.definition.specs.State.{State, Out, also, through}
+use Rattle.definition.specs.State.{State, Out, also, through, withAddresses}
 use Rattle.definition.specs.Reference.Addresses.{sameSubnet}
-use Rattle.definition.specs.Reference.Removal.{removeOne, removeV4, goneWith, due, marked, fade, passes, expire}
+use Rattle.definition.specs.Reference.Removal.{removeOne, removeV4, goneWith, due, fades, faded, marked, fade, passes, expire}
 use Rattle.definition.specs.Kept.Shrinking.{removeOne-removes, goneWith-within}
 
 -- ---- what a removal does to the addresses
@@ -115,3 +115,50 @@ module _ (allowance now : ℕ) where
           pass n st a e
           ∙ also-at marked-and-gone (passes n allowance now) (λ s. passes (length (s .addresses)) allowance now s)
           (enough n (length (marked-and-gone .state .addresses)) (marked-and-gone .state) (omega arith) (omega arith))
+
+-- ---- where nothing is told, nothing changed
+-- a removal tells
+also-told : (o : Out) (f : State → Out) → length (also o f .told) ≡ length (o .told) + length (f (o .state) .told)
+unfolding also
+also-told o f = length-append (o .told) (f (o .state) .told)
+
+one-told : (a : Row) (st : State) → 0 < length (removeOne a st .told)
+unfolding removeOne also
+one-told a st = omega arith
+
+last-told : (l : List Row) (a : Row) (st : State) → 0 < length (through removeOne (l ++ (a ∷ [])) st .told)
+unfolding through
+last-told [] a st = omega (arith, one-told a st, also-told (removeOne a st) (through removeOne []))
+last-told (b ∷ l) a st = omega (arith, one-told b st, also-told (removeOne b st) (through removeOne (l ++ (a ∷ []))))
+
+removal-told : (a : Row) (st : State) → 0 < length (removeV4 a st .told)
+unfolding removeV4 goneWith
+removal-told a st =
+    cond-case (λ (l : List Row). 0 < length (through removeOne l st .told)) (secondary a) (λ e. last-told [] a st)
+    (λ e. last-told (keep (λ b. secondary b && sameSubnet a b) (st .addresses)) a st)
+
+-- and so does a mark
+unmarked : (p : Row → Bool) (g : Row → Row) (l : List Row) → length (keep p l) ≡ 0 → map (λ a. cond (p a) (g a) a) l ≡ l
+unmarked p g [] h = refl
+unmarked p g (a ∷ l) h = test-case (p a) (λ e. absurd (omega (arith, rw e at h))) (λ e. rw (e, unmarked p g l (rw e at h)))
+
+module _ (allowance now : ℕ) where
+  fade-quiet : (st : State) → length (fade allowance now st .told) ≡ 0 → fade allowance now st .state ≡ st
+  unfolding fade
+  fade-quiet st h =
+      let spared = until (due allowance now) (st .addresses) in
+      let behind = onward (due allowance now) (st .addresses) in
+      ap (λ (l : List Row). withAddresses l st)
+      (ap (λ (l : List Row). l ++ behind) (unmarked (fades allowance now) faded spared (sym (length-map (keep (fades allowance now) spared) _) ∙ h)) ∙ until-onward (due allowance now) (st .addresses))
+
+  pub expire-quiet : (st : State) → length (expire allowance now st .told) ≡ 0 → expire allowance now st .state ≡ st
+  expire-quiet st h = go (first (due allowance now) (st .addresses)) refl
+    where
+      go : (o : Option Row) → first (due allowance now) (st .addresses) ≡ o → expire allowance now st .state ≡ st
+      go none e =
+          let x = expire-last allowance now st e in
+          ap (λ (o : Out). o .state) x ∙ fade-quiet st (ap (λ (o : Out). length (o .told)) (sym x) ∙ h)
+      go (some a) e =
+          let f = fade allowance now st in
+          let x = ap (λ (o : Out). length (o .told)) (expire-again allowance now st a e) in
+          absurd (omega (arith, h, x, also-told (also f (removeV4 a)) (expire allowance now), also-told f (removeV4 a), removal-told a (f .state)))

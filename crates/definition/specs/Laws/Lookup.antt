@@ -1,6 +1,6 @@
 -- A lookup's answer: it fits, no fitting row of its set is longer, none before it is as long; and when 101 is given.
 use Prim.Native.Nat.{ℕ, _≤_, _<_}
-use native.Mathlib.Nat.{le-refl, le-of-lt, lt-of-le-of-lt, le-trans, lt-of-lt-of-le}
+use native.Mathlib.Nat.{le-of-lt, le-trans}
 use native.Mathlib.Omega.{arith}
 use mathlib.Core.Path.{_≡_, refl, sym, ap, subst, _∙_}
 use mathlib.Core.Bool.{Bool, true, false, cond, not, _&&_, true≢false, false≢true}

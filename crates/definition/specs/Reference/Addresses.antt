@@ -1,14 +1,14 @@
 -- Addresses put in and changed, with the routes that they bring (document 01, port order 6; rtnetlink(7) for an address's flags).
-use Prim.Native.Nat.{ℕ, _/_, _%_, _^_}
-use mathlib.Core.Bool.{Bool, cond, not, _&&_, _||_}
+use Prim.Native.Nat.{ℕ}
+use mathlib.Core.Bool.{Bool, cond, not, _&&_}
 use mathlib.Core.List.{List, [], _∷_, _++_}
 use mathlib.Core.Option.{Option, none, some}
 use lib.Dec.{eqb, leb, ltb}
 use lib.ListN.{getD, take}
-use Rattle.lists.specs.Lists.{Row, any, all, keep, first, replaceFirst, behindLast, zeros}
+use Rattle.lists.specs.Lists.{Row, any, keep, first, replaceFirst, behindLast, zeros}
 use Rattle.prefix.specs.Mask.{network, broadcast}
 use Rattle.life.specs.Life.{forever, storedSeconds, lowWord, highWord}
-use Rattle.layout.specs.Flags.{hasBit, clearBit, setBit}
+use Rattle.layout.specs.Flags.{clearBit, setBit}
 use Rattle.layout.specs.Address as Address
 use Rattle.layout.specs.Address.{local, address, prefix, broadcastPresent, scope, flags, secondary, secondaryBit, deprecatedBit, permanentBit, noPrefixRoute}
 use Rattle.layout.specs.Route as Route

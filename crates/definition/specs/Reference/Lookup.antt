@@ -1,6 +1,6 @@
 -- Lookups (document 01, port order 5; RFC 1812, section 5.2.4.3: basic match, longest match, weak TOS).
 use Prim.Native.Nat.{ℕ}
-use mathlib.Core.Bool.{Bool, true, false, cond, not, _&&_, _||_}
+use mathlib.Core.Bool.{Bool, false, cond, not, _&&_, _||_}
 use mathlib.Core.List.{List, [], _∷_}
 use mathlib.Core.Option.{Option, none, some}
 use lib.Dec.{eqb, leb, ltb}

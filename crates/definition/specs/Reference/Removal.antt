@@ -5,7 +5,7 @@ use mathlib.Core.List.{List, [], _∷_, _++_, map}
 use mathlib.Core.Option.{Option, none, some}
 use lib.Dec.{eqb}
 use lib.ListN.{length}
-use Rattle.lists.specs.Lists.{Row, any, keep, first, until, onward, removeFirst, eqRow, each}
+use Rattle.lists.specs.Lists.{Row, any, keep, first, until, onward, removeFirst, eqRow}
 use Rattle.life.specs.Life.{reached}
 use Rattle.layout.specs.Flags.{setBit}
 use Rattle.layout.specs.Address as Address

@@ -1,19 +1,18 @@
 -- Requests to add and to delete a route (document 01, port order 7; rtnetlink(7)).
 use Prim.Native.Nat.{ℕ, _+_, max}
 use mathlib.Core.Bool.{Bool, true, false, cond, not, _&&_, _||_}
-use mathlib.Core.List.{List, [], _∷_, _++_}
+use mathlib.Core.List.{[], _∷_}
 use mathlib.Core.Option.{Option, none, some}
 use lib.Dec.{eqb, leb, ltb}
-use lib.ListN.{getD, take}
+use lib.ListN.{getD}
 use Rattle.lists.specs.Lists.{Row, all, first, removeFirst}
 use Rattle.prefix.specs.Mask.{hostBits}
 use Rattle.kind.specs.Kind.{isKind, errorOf, leastScope}
 use Rattle.layout.specs.Flags.{hasBit}
-use Rattle.layout.specs.Route as Route
 use Rattle.layout.specs.Route.{table, dst, len, tos, priority, kind, proto, scope, prefsrcPresent, prefsrc, gatewayPresent, gateway, device}
 use Rattle.layout.specs.Event.{newRoute4, delRoute4}
 use Rattle.layout.specs.Request.{oif, rtmFlags, nlmFlags, metricsError, metricsAsked, upAtAddRoute4, listPresent, pairs, pairIndex, pairValue}
-use Rattle.definition.specs.State.{State, Out, becomes, stays, withRoutes}
+use Rattle.definition.specs.State.{State, becomes, stays, withRoutes}
 use Rattle.definition.specs.Reference.Lookup.{Flow, Found, answer, together, lookupIn, addrType4, listed, rejects, mainTable, localTable, unicastKind, localKind}
 use Rattle.definition.specs.Reference.Lookup.Found.{route}
 use Rattle.definition.specs.Reference.Insert.{create4, insert4, Inserted}

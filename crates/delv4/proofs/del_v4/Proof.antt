@@ -8,28 +8,18 @@ use Rattle.lists.specs.Laid.{Laid, Lays}
 use lib.ListN.{length}
 use native.Mathlib.Omega.{arith}
 use mathlib.Core.List.{List}
-use mathlib.Core.Path.{_≡_, refl, sym, ap, subst, _∙_}
+use mathlib.Core.Path.{refl, sym, ap, subst, _∙_}
 use Prim.Native.Nat.{ℕ, _*_, _-_}
 use borrow.Author.Needs.{needs}
 use Rattle.delv4.proofs.del_v4.Statement.{statement}
 use Rattle.delv4.proofs.del_v4.Tie as tie
-use Rattle.delv4.proofs.del_v4.Reads as reads
-use Rattle.delv4.proofs.del_v4.Lts as lts
-use Rattle.delv4.proofs.find.Reads as find-reads
-use Rattle.removal.proofs.remove_v4.Reads as remove-v4-reads
-use Rattle.state.proofs.address_count.Reads as address-count-reads
-use Rattle.view.proofs.addresses.Reads as addresses-reads
-use Rattle.words.proofs.store.Reads as store-reads
 
--- src/lib.rt:67:9
 address-count-requires : tie.Need-address-count-requires
 address-count-requires c κs = sizes-valid (ready-valid (c .before .before .before .before .pre .0)) .long
 
--- src/lib.rt:68:18
 addresses-requires : tie.Need-addresses-requires
 addresses-requires c κs = search needs
 
--- src/lib.rt:68:9
 find-requires : tie.Need-find-requires
 find-requires c κs =
     let s = c .before .before .before .before .before .before .before in
@@ -41,11 +31,9 @@ find-requires c κs =
       s .pre .1,
     )
 
--- src/lib.rt:70:9
 same-length : tie.Need-same-length
 same-length c = search needs
 
--- src/lib.rt:70:9
 returns : tie.Need-returns
 returns c =
     let s = c .before .before .before .before .before .before .before .before .before in
@@ -53,7 +41,6 @@ returns c =
     let m = c .before .before .before .before .address-count in
     λ st f. deleted-none (s .args .q .now) f (m .result) (i .result) (m .ensures) (i .ensures (st .addresses) (subst (λ (x : List ℕ). Laid 20 fitAddress x (st .addresses)) (sym (c .before .before .addresses .ensures)) (laid-addresses (f .holds)))) (c .if1 .taken)
 
--- src/lib.rt:72:18
 mul-at : tie.Need-mul-at
 mul-at c =
     let s = c .before .before .before .before .before .before .before .before .before in
@@ -64,7 +51,6 @@ mul-at c =
     let z = address-end y (i .result) (omega (arith, b, m .ensures)) in
     record { fits = omega (arith, z .1) }
 
--- src/lib.rt:72:14
 add-at : tie.Need-add-at
 add-at c =
     let s = c .before .before .before .before .before .before .before .before .before in
@@ -75,7 +61,6 @@ add-at c =
     let z = address-end y (i .result) (omega (arith, b, m .ensures)) in
     record { fits = omega (arith, z .1) }
 
--- src/lib.rt:73:15
 add-end : tie.Need-add-end
 add-end c =
     let s = c .before .before .before .before .before .before .before .before .before in
@@ -86,11 +71,9 @@ add-end c =
     let z = address-end y (i .result) (omega (arith, b, m .ensures)) in
     record { fits = omega (arith, z .1) }
 
--- src/lib.rt:75:18
 slice-aggregate-store : tie.Need-slice-aggregate-store
 slice-aggregate-store c = search needs
 
--- src/lib.rt:75:31
 mul-store : tie.Need-mul-store
 mul-store c =
     let s = c .before .before .before .before .before .before .before .before .before .before in
@@ -101,15 +84,12 @@ mul-store c =
     let z = address-end y (i .result) (omega (arith, b, m .ensures)) in
     record { fits = omega (arith, z .1) }
 
--- src/lib.rt:75:31
 sub-store : tie.Need-sub-store
 sub-store c = search needs
 
--- src/lib.rt:75:31
 part-store-start : tie.Need-part-store-start
 part-store-start c = search needs
 
--- src/lib.rt:75:31
 part-store-end : tie.Need-part-store-end
 part-store-end c =
     let s = c .before .before .before .before .before .before .before .before .before .before .before in
@@ -120,15 +100,12 @@ part-store-end c =
     let z = address-end y (i .result) (omega (arith, b, m .ensures)) in
     omega (arith, z .0)
 
--- src/lib.rt:75:5
 store-requires : tie.Need-store-requires
 store-requires c κs = search needs
 
--- src/lib.rt:76:39
 slice-aggregate-remove-v4 : tie.Need-slice-aggregate-remove-v4
 slice-aggregate-remove-v4 c = search needs
 
--- src/lib.rt:76:9
 remove-v4-requires : tie.Need-remove-v4-requires
 remove-v4-requires c κs =
     let s = c .before .before .before .before .before .before .before .before .before .before .before .before .before .before .before .before .before in
@@ -142,15 +119,12 @@ remove-v4-requires c κs =
     let row = w .store .last .0 in
     row-present y row (i .result) (omega (arith, b, m .ensures)) q
 
--- src/lib.rt:62:1
 same-length-2 : tie.Need-same-length-2
 same-length-2 c = search needs
 
--- src/lib.rt:62:1
 same-length-3 : tie.Need-same-length-3
 same-length-3 c = search needs
 
--- src/lib.rt:62:1
 returns-2 : tie.Need-returns-2
 returns-2 c =
     let s = c .before .before .before .before .before .before .before .before .before .before .before .before .before .before .before .before .before .before .before .before .before .before in

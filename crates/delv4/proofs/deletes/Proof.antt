@@ -2,92 +2,67 @@ use Rattle.delv4.specs.Asked.{deletes-is}
 use borrow.Author.Needs.{needs}
 use Rattle.delv4.proofs.deletes.Statement.{statement}
 use Rattle.delv4.proofs.deletes.Tie as tie
-use Rattle.delv4.proofs.deletes.Reads as reads
-use Rattle.delv4.proofs.deletes.Lts as lts
-use Rattle.delv4.proofs.same_four.Reads as same-four-reads
-use Rattle.subnet.proofs.covers.Reads as covers-reads
 
--- src/lib.rt:37:27
 shared-slice-read-same-four : tie.Need-shared-slice-read-same-four
 shared-slice-read-same-four c = search needs
 
--- src/lib.rt:37:33
 shared-slice-read-same-four-2 : tie.Need-shared-slice-read-same-four-2
 shared-slice-read-same-four-2 c = search needs
 
--- src/lib.rt:37:40
 shared-slice-read-same-four-3 : tie.Need-shared-slice-read-same-four-3
 shared-slice-read-same-four-3 c = search needs
 
--- src/lib.rt:37:47
 shared-slice-read-same-four-4 : tie.Need-shared-slice-read-same-four-4
 shared-slice-read-same-four-4 c = search needs
 
--- src/lib.rt:37:54
 shared-slice-read-same-four-5 : tie.Need-shared-slice-read-same-four-5
 shared-slice-read-same-four-5 c = search needs
 
--- src/lib.rt:37:60
 shared-slice-read-same-four-6 : tie.Need-shared-slice-read-same-four-6
 shared-slice-read-same-four-6 c = search needs
 
--- src/lib.rt:37:66
 shared-slice-read-same-four-7 : tie.Need-shared-slice-read-same-four-7
 shared-slice-read-same-four-7 c = search needs
 
--- src/lib.rt:37:72
 shared-slice-read-same-four-8 : tie.Need-shared-slice-read-same-four-8
 shared-slice-read-same-four-8 c = search needs
 
--- src/lib.rt:37:9
 same-four-requires : tie.Need-same-four-requires
 same-four-requires c κs = search needs
 
--- src/lib.rt:38:36
 shared-slice-read-covers : tie.Need-shared-slice-read-covers
 shared-slice-read-covers c = search needs
 
--- src/lib.rt:38:9
 covers-requires : tie.Need-covers-requires
 covers-requires c κs = search needs
 
--- src/lib.rt:39:7
 shared-slice-read-result : tie.Need-shared-slice-read-result
 shared-slice-read-result c = search needs
 
--- src/lib.rt:39:21
 shared-slice-read-result-2 : tie.Need-shared-slice-read-result-2
 shared-slice-read-result-2 c = search needs
 
--- src/lib.rt:39:29
 shared-slice-read-result-3 : tie.Need-shared-slice-read-result-3
 shared-slice-read-result-3 c = search needs
 
--- src/lib.rt:40:13
 shared-slice-read-result-4 : tie.Need-shared-slice-read-result-4
 shared-slice-read-result-4 c = search needs
 
--- src/lib.rt:40:28
 shared-slice-read-result-5 : tie.Need-shared-slice-read-result-5
 shared-slice-read-result-5 c = search needs
 
--- src/lib.rt:40:36
 shared-slice-read-result-6 : tie.Need-shared-slice-read-result-6
 shared-slice-read-result-6 c = search needs
 
--- src/lib.rt:41:13
 shared-slice-read-result-7 : tie.Need-shared-slice-read-result-7
 shared-slice-read-result-7 c = search needs
 
--- src/lib.rt:41:28
 shared-slice-read-result-8 : tie.Need-shared-slice-read-result-8
 shared-slice-read-result-8 c = search needs
 
--- src/lib.rt:41:36
 shared-slice-read-result-9 : tie.Need-shared-slice-read-result-9
 shared-slice-read-result-9 c = search needs
 
--- src/lib.rt:32:1
 returns : tie.Need-returns
 returns c =
     let a = c .before .before .before .before .before .before .before .before .before .before .before .before .before .before .before .before .before .before .before .before .before .before .args in

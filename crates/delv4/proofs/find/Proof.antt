@@ -9,15 +9,12 @@ use lib.ListN.{drop}
 use lib.Dec.{lit<}
 use native.Mathlib.Omega.{arith}
 use native.Mathlib.Nat.{zero-add}
-use mathlib.Core.Path.{_≡_, refl, sym, _∙_}
+use mathlib.Core.Path.{_≡_, sym, _∙_}
 use mathlib.Core.List.{List}
 use Prim.Native.Nat.{_+_, _-_, _≤_}
 use borrow.Author.Needs.{needs}
 use Rattle.delv4.proofs.find.Statement.{statement}
 use Rattle.delv4.proofs.find.Tie as tie
-use Rattle.delv4.proofs.find.Reads as reads
-use Rattle.delv4.proofs.find.Lts as lts
-use Rattle.delv4.proofs.deletes.Reads as deletes-reads
 
 abbrev Inv-loop : tie.InvT-loop
 Inv-loop rows n q i₀ i =
@@ -26,42 +23,33 @@ Inv-loop rows n q i₀ i =
 abbrev μ-loop : tie.MeasureT-loop
 μ-loop rows n q i₀ i = n - i
 
--- src/lib.rt:51:5
 loop-holds : tie.Need-loop-holds Inv-loop μ-loop
 loop-holds c = (search needs, λ l h. sym (zero-add (placeOf (deletes (c .before .before .args .q .now)) l)))
 
--- src/lib.rt:52:18
 mul-at : tie.Need-mul-at Inv-loop μ-loop
 mul-at c = search needs
 
--- src/lib.rt:53:27
 add-a : tie.Need-add-a Inv-loop μ-loop
 add-a c = search needs
 
--- src/lib.rt:53:17
 mul-a : tie.Need-mul-a Inv-loop μ-loop
 mul-a c = search needs
 
--- src/lib.rt:53:17
 sub-a : tie.Need-sub-a Inv-loop μ-loop
 sub-a c = search needs
 
--- src/lib.rt:53:17
 part-a-start : tie.Need-part-a-start Inv-loop μ-loop
 part-a-start c = search needs
 
--- src/lib.rt:53:17
 part-a-end : tie.Need-part-a-end Inv-loop μ-loop
 part-a-end c = search needs
 
--- src/lib.rt:54:12
 deletes-requires : tie.Need-deletes-requires Inv-loop μ-loop
 deletes-requires c κs =
     let k = c .before .before in
     let s = k .before .before .before in
     (s .pre .1, part-short (s .args .rows .now) (s .args .n) (s .pre .0 .0) (s .pre .0 .1) (k .loop .i) (c .before .loop-test .taken))
 
--- src/lib.rt:55:13
 returns : tie.Need-returns Inv-loop μ-loop
 returns c =
     let k = c .before .before .before .before in
@@ -69,15 +57,12 @@ returns c =
     let a = s .args in
     λ l h. find-here (a .rows .now) (a .n) (lit< tt) (s .pre .0 .0) (deletes (a .q .now)) l h (k .loop .i) (k .loop .inv .1 l h) (c .before .before .before .loop-test .taken) (sym (c .before .deletes .ensures) ∙ c .if1 .taken)
 
--- src/lib.rt:57:9
 add-i : tie.Need-add-i Inv-loop μ-loop
 add-i c = search needs
 
--- src/lib.rt:51:5
 loop-less : tie.Need-loop-less Inv-loop μ-loop
 loop-less c = search needs
 
--- src/lib.rt:51:5
 loop-again : tie.Need-loop-again Inv-loop μ-loop
 loop-again c =
     let k = c .before .before .before .before in
@@ -87,7 +72,6 @@ loop-again c =
       λ l h. find-past (a .rows .now) (a .n) (lit< tt) (s .pre .0 .0) (deletes (a .q .now)) l h (k .loop .i) (k .loop .inv .1 l h) (c .before .before .before .loop-test .taken) (sym (c .before .deletes .ensures) ∙ c .if1 .left),
     )
 
--- src/lib.rt:45:1
 returns-2 : tie.Need-returns-2 Inv-loop μ-loop
 returns-2 c =
     let k = c .before in

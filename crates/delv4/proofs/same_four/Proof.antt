@@ -1,12 +1,8 @@
 use Rattle.delv4.specs.Asked.{same-four}
 use native.Mathlib.Omega.{arith}
-use borrow.Author.Needs.{needs}
 use Rattle.delv4.proofs.same_four.Statement.{statement}
 use Rattle.delv4.proofs.same_four.Tie as tie
-use Rattle.delv4.proofs.same_four.Reads as reads
-use Rattle.delv4.proofs.same_four.Lts as lts
 
--- src/lib.rt:25:1
 returns : tie.Need-returns
 returns c =
     let a = c .args in

@@ -8,16 +8,10 @@ use Rattle.dump.specs.Listing.{dump4-says}
 use borrow.Author.Needs.{needs}
 use Rattle.dump.proofs.dump4.Statement.{statement}
 use Rattle.dump.proofs.dump4.Tie as tie
-use Rattle.dump.proofs.dump4.Reads as reads
-use Rattle.dump.proofs.dump4.Lts as lts
-use Rattle.listed.proofs.list.Reads as list-reads
-use Rattle.interface.proofs.checked.Reads as checked-reads
 
--- src/lib.rt:32:9
 checked-requires : tie.Need-checked-requires
 checked-requires c κs = search needs
 
--- src/lib.rt:34:9
 returns : tie.Need-returns
 returns c =
     let k = c .before in
@@ -27,7 +21,6 @@ returns c =
     in
     (dump4-says (a .state .now) (length (a .listing .now)) (x .0), x)
 
--- src/lib.rt:36:9
 list-requires : tie.Need-list-requires
 list-requires c κs =
     let e = c .before in
@@ -36,11 +29,9 @@ list-requires c κs =
     let p = passed (leb 8192 (length (a .listing .now))) true true (a .state .now) (k .checked .result) (k .checked .ensures) (e .if1 .left) in
     (p .long, p .formed, leb-true 8192 (length (a .listing .now)) (p .room))
 
--- src/lib.rt:28:1
 same-length : tie.Need-same-length
 same-length c = search needs
 
--- src/lib.rt:28:1
 returns-2 : tie.Need-returns-2
 returns-2 c =
     let y = c .before .before in

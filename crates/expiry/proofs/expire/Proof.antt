@@ -9,16 +9,11 @@ use Rattle.definition.specs.Words.{addressCount}
 use Rattle.definition.specs.State.{State}
 use lib.ListN.{length}
 use native.Mathlib.Omega.{arith}
-use Prim.Native.Nat.{_+_, _-_, _*_, _≤_}
-use mathlib.Core.Path.{_≡_, refl, sym, ap, _∙_}
+use Prim.Native.Nat.{_-_, _*_, _≤_}
+use mathlib.Core.Path.{_≡_, sym, _∙_}
 use borrow.Author.Needs.{needs}
 use Rattle.expiry.proofs.expire.Statement.{statement}
 use Rattle.expiry.proofs.expire.Tie as tie
-use Rattle.expiry.proofs.expire.Reads as reads
-use Rattle.expiry.proofs.expire.Lts as lts
-use Rattle.expiry.proofs.next.Reads as next-reads
-use Rattle.expiry.proofs.turn.Reads as turn-reads
-use Rattle.state.proofs.address_count.Reads as address-count-reads
 
 abbrev Inv-loop : tie.InvT-loop
 Inv-loop s₀ ev₀ allowance clock i₀ k₀ n₀ s ev i k n =
@@ -29,11 +24,9 @@ Inv-loop s₀ ev₀ allowance clock i₀ k₀ n₀ s ev i k n =
 abbrev μ-loop : tie.MeasureT-loop
 μ-loop s₀ ev₀ allowance clock i₀ k₀ n₀ s ev i k n = 66 * n - i
 
--- src/lib.rt:106:9
 address-count-requires : tie.Need-address-count-requires Inv-loop μ-loop
 address-count-requires c κs = sizes-valid (ready-valid (c .before .before .before .pre)) .long
 
--- src/lib.rt:107:5
 loop-holds : tie.Need-loop-holds Inv-loop μ-loop
 loop-holds c =
     let s = c .before .before .before .before in
@@ -42,27 +35,21 @@ loop-holds c =
     let l = s .args .clock .0 in
     (c .address-count .ensures, expiring-facts a l 0 (expiring-start a l (y .fits)) (y .fits), λ st f. expiring-start a l f)
 
--- src/lib.rt:108:33
 mul-turn : tie.Need-mul-turn Inv-loop μ-loop
 mul-turn c = search needs
 
--- src/lib.rt:108:25
 mul-turn-2 : tie.Need-mul-turn-2 Inv-loop μ-loop
 mul-turn-2 c = search needs
 
--- src/lib.rt:108:25
 sub-turn : tie.Need-sub-turn Inv-loop μ-loop
 sub-turn c = search needs
 
--- src/lib.rt:108:25
 part-turn-start : tie.Need-part-turn-start Inv-loop μ-loop
 part-turn-start c = search needs
 
--- src/lib.rt:108:25
 part-turn-end : tie.Need-part-turn-end Inv-loop μ-loop
 part-turn-end c = search needs
 
--- src/lib.rt:108:13
 turn-requires : tie.Need-turn-requires Inv-loop μ-loop
 turn-requires c κs =
     let k = c .before .before .before in
@@ -70,7 +57,6 @@ turn-requires c κs =
     let y = s .pre in
     (going-ready weight (k .loop .inv .2 (y .state) (y .fits)), omega (arith, c .before .before .loop-test .taken, k .loop .inv .0))
 
--- src/lib.rt:109:9
 add-k : tie.Need-add-k Inv-loop μ-loop
 add-k c =
     let k = c .before .before .before .before .before .before .before .before in
@@ -83,7 +69,6 @@ add-k c =
     let g = k .loop .inv .2 (y .state) (y .fits) in
     record { fits = omega (arith, k .loop .inv .1 .0 .3, (step-facts (going-fits weight g) (turn _ (going-fits weight g))) .3) }
 
--- src/lib.rt:110:13
 address-count-requires-2 : tie.Need-address-count-requires-2 Inv-loop μ-loop
 address-count-requires-2 c κs =
     let k = c .before .before .before .before .before .before .before .before .before in
@@ -96,11 +81,9 @@ address-count-requires-2 c κs =
     let g = k .loop .inv .2 (y .state) (y .fits) in
     (step-facts (going-fits weight g) (turn _ (going-fits weight g))) .1
 
--- src/lib.rt:111:9
 next-requires : tie.Need-next-requires Inv-loop μ-loop
 next-requires c κs = let k = c .before .before .before .before .before .before .before .before .before .before in omega (arith, c .before .before .before .before .before .before .before .before .before .loop-test .taken, k .loop .inv .0, k .loop .inv .1 .1)
 
--- src/lib.rt:107:5
 loop-less : tie.Need-loop-less Inv-loop μ-loop
 loop-less c =
     let k = c .before .before .before .before .before .before .before .before .before .before .before in
@@ -114,7 +97,6 @@ loop-less c =
     let fewer = expiring-fewer a l (k .loop .i) g (k .loop .n) (k .loop .inv .0) taken (λ m f. turn m f) in
     next-less (k .loop .i) (k .loop .n) (c .before .address-count2 .result) (c .next .result) taken (omega (arith, k .loop .inv .0, k .loop .inv .1 .1)) (omega (arith, fewer, c .before .address-count2 .ensures)) (c .next .ensures)
 
--- src/lib.rt:107:5
 loop-again : tie.Need-loop-again Inv-loop μ-loop
 loop-again c =
     let k = c .before .before .before .before .before .before .before .before .before .before .before in
@@ -127,15 +109,12 @@ loop-again c =
     let g = k .loop .inv .2 (y .state) (y .fits) in
     (c .before .address-count2 .ensures, expiring-facts a l (c .next .result) (expiring-next a l (k .loop .i) (g) (k .loop .n) (k .loop .inv .0) taken (c .next .result) (c .before .address-count2 .result) (c .before .address-count2 .ensures) (c .next .ensures) (λ m f. turn m f)) (y .fits), λ st f. expiring-next a l (k .loop .i) (k .loop .inv .2 st f) (k .loop .n) (k .loop .inv .0) taken (c .next .result) (c .before .address-count2 .result) (c .before .address-count2 .ensures) (c .next .ensures) (λ m f. turn m f))
 
--- src/lib.rt:95:1
 same-length : tie.Need-same-length Inv-loop μ-loop
 same-length c = c .before .loop .inv .1 .0 .1 ∙ sym (sizes-valid (ready-valid (c .before .before .before .before .before .before .pre)) .long)
 
--- src/lib.rt:95:1
 same-length-2 : tie.Need-same-length-2 Inv-loop μ-loop
 same-length-2 c = search needs
 
--- src/lib.rt:95:1
 returns : tie.Need-returns Inv-loop μ-loop
 returns c =
     let k = c .before in

@@ -8,29 +8,20 @@ use Rattle.lists.specs.Lists.{Row, put}
 use lib.ListN.{set}
 use mathlib.Core.List.{List}
 use Prim.Native.Nat.{ℕ}
-use mathlib.Core.Path.{_≡_, refl, sym, ap, _∙_}
+use mathlib.Core.Path.{refl, ap, _∙_}
 use borrow.Author.Needs.{needs}
 use Rattle.expiry.proofs.mark.Statement.{statement}
 use Rattle.expiry.proofs.mark.Tie as tie
-use Rattle.expiry.proofs.mark.Reads as reads
-use Rattle.expiry.proofs.mark.Lts as lts
-use Rattle.events.proofs.new_addr4.Reads as new-addr4-reads
-use Rattle.rewrite.proofs.faded.Reads as faded-reads
-use Rattle.state.proofs.replace_address.Reads as replace-address-reads
 
--- src/lib.rt:52:23
 slice-aggregate-faded : tie.Need-slice-aggregate-faded
 slice-aggregate-faded c = search needs
 
--- src/lib.rt:52:5
 faded-requires : tie.Need-faded-requires
 faded-requires c κs = (length-address _ (c .before .before .before .before .pre .1 .2), search needs)
 
--- src/lib.rt:53:27
 slice-aggregate-new-addr4 : tie.Need-slice-aggregate-new-addr4
 slice-aggregate-new-addr4 c = search needs
 
--- src/lib.rt:53:5
 new-addr4-requires : tie.Need-new-addr4-requires
 new-addr4-requires c κs =
     let s = c .before .before .before .before .before .before .before .before in
@@ -39,11 +30,9 @@ new-addr4-requires c κs =
     let z = marked-fits (s .args .a .now) (w .faded .last .1 .0) (s .pre .1 .2) q in
     (s .pre .1 .1, z .0)
 
--- src/lib.rt:54:34
 slice-aggregate-replace-address : tie.Need-slice-aggregate-replace-address
 slice-aggregate-replace-address c = search needs
 
--- src/lib.rt:54:5
 replace-address-requires : tie.Need-replace-address-requires
 replace-address-requires c κs =
     let s = c .before .before .before .before .before .before .before .before .before .before .before .before .before in
@@ -52,15 +41,12 @@ replace-address-requires c κs =
     let z = marked-fits (s .args .a .now) (w .faded .last .1 .0) (s .pre .1 .2) q in
     (s .pre .0, (s .pre .1 .0, z .1))
 
--- src/lib.rt:45:1
 same-length : tie.Need-same-length
 same-length c = search needs
 
--- src/lib.rt:45:1
 same-length-2 : tie.Need-same-length-2
 same-length-2 c = search needs
 
--- src/lib.rt:45:1
 returns : tie.Need-returns
 returns c =
     let s = c .before .before .before .before .before .before .before .before .before .before .before .before .before .before .before .before in

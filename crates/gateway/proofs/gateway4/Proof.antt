@@ -3,9 +3,7 @@
 use Rattle.gateway.specs.Rows.{reachedOf}
 use Rattle.lookup.specs.Answer.{foundBy}
 use Rattle.gateway.specs.Laws.{gateway-onlink, gateway-found}
-use Rattle.lookup.specs.Flow.{flowOf}
 use denote.Ref.{now}
-use mathlib.Core.Path.{sym, ap, _∙_}
 use borrow.Author.Needs.{needs}
 use Rattle.gateway.proofs.gateway4.Statement.{statement}
 use Rattle.gateway.proofs.gateway4.Tie as tie

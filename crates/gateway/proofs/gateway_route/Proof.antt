@@ -6,7 +6,7 @@ use native.Mathlib.Omega.{arith}
 use Rattle.gateway.specs.Laws.{by-own, by-lookup}
 use Rattle.lookup.specs.Flow.{flowOf}
 use denote.Ref.{now}
-use mathlib.Core.Path.{sym, ap, _∙_}
+use mathlib.Core.Path.{sym, _∙_}
 use borrow.Author.Needs.{needs}
 use Rattle.gateway.proofs.gateway_route.Statement.{statement}
 use Rattle.gateway.proofs.gateway_route.Tie as tie

@@ -1,9 +1,8 @@
 -- `gateway::onlink_check` meets its contract.
 -- Assumes nothing.
 use Rattle.gateway.specs.Laws.{onlink-says}
-use Rattle.lookup.specs.Flow.{flowOf}
 use denote.Ref.{now}
-use mathlib.Core.Path.{sym, ap, _∙_}
+use mathlib.Core.Path.{_∙_}
 use borrow.Author.Needs.{needs}
 use Rattle.gateway.proofs.onlink_check.Statement.{statement}
 use Rattle.gateway.proofs.onlink_check.Tie as tie

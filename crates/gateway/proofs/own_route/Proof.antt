@@ -4,7 +4,7 @@ use Rattle.lists.specs.Pass.{laid-rows}
 use Rattle.gateway.specs.Laws.{own-upper, own-lower, own-none}
 use Rattle.lookup.specs.Flow.{flowOf}
 use denote.Ref.{now}
-use mathlib.Core.Path.{sym, ap, _∙_}
+use mathlib.Core.Path.{_∙_}
 use borrow.Author.Needs.{needs}
 use Rattle.gateway.proofs.own_route.Statement.{statement}
 use Rattle.gateway.proofs.own_route.Tie as tie

@@ -2,9 +2,8 @@
 -- Assumes nothing.
 use Rattle.gateway.specs.Rows.{reachedOf}
 use Rattle.gateway.specs.Reach.{reach-rejects, reach-over, reach-host, reach-gateway, reach-device}
-use Rattle.lookup.specs.Flow.{flowOf}
 use denote.Ref.{now}
-use mathlib.Core.Path.{sym, ap, _∙_}
+use mathlib.Core.Path.{_∙_}
 use borrow.Author.Needs.{needs}
 use Rattle.gateway.proofs.reach_check.Statement.{statement}
 use Rattle.gateway.proofs.reach_check.Tie as tie

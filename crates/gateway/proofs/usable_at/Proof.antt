@@ -1,9 +1,7 @@
 -- `gateway::usable_at` meets its contract.
 -- Assumes nothing.
 use Rattle.gateway.specs.Laws.{unusable, usable-row}
-use Rattle.lookup.specs.Flow.{flowOf}
 use denote.Ref.{now}
-use mathlib.Core.Path.{sym, ap, _∙_}
 use mathlib.Core.Bool.{false≢true}
 use borrow.Author.Needs.{needs}
 use Rattle.gateway.proofs.usable_at.Statement.{statement}

@@ -12,12 +12,6 @@ use Rattle.insert.specs.Pass.{pass-next, pass-stop, pass-end}
 use borrow.Author.Needs.{needs}
 use Rattle.insert.proofs.alike4.Statement.{statement}
 use Rattle.insert.proofs.alike4.Tie as tie
-use Rattle.insert.proofs.alike4.Reads as reads
-use Rattle.insert.proofs.alike4.Lts as lts
-use Rattle.route.proofs.before.Reads as before-reads
-use Rattle.insert.proofs.lower.Reads as lower-reads
-use Rattle.insert.proofs.one_if.Reads as one-if-reads
-use Rattle.insert.proofs.same.Reads as same-reads
 use lib.Dec.{lit<}
 
 abbrev Inv-loop : tie.InvT-loop
@@ -29,40 +23,31 @@ Inv-loop rows n new front start₀ there₀ i₀ start there i =
 abbrev μ-loop : tie.MeasureT-loop
 μ-loop rows n new front start₀ there₀ i₀ start there i = n - i
 
--- src/lib.rt:71:17
 lower-requires : tie.Need-lower-requires Inv-loop μ-loop
 lower-requires c κs = search needs
 
--- src/lib.rt:75:5
 loop-holds : tie.Need-loop-holds Inv-loop μ-loop
 loop-holds c =
     (search needs, search needs, c .lower .ensures .0)
 
--- src/lib.rt:76:18
 mul-at : tie.Need-mul-at Inv-loop μ-loop
 mul-at c = search needs
 
--- src/lib.rt:77:27
 add-r : tie.Need-add-r Inv-loop μ-loop
 add-r c = search needs
 
--- src/lib.rt:77:17
 mul-r : tie.Need-mul-r Inv-loop μ-loop
 mul-r c = search needs
 
--- src/lib.rt:77:17
 sub-r : tie.Need-sub-r Inv-loop μ-loop
 sub-r c = search needs
 
--- src/lib.rt:77:17
 part-r-start : tie.Need-part-r-start Inv-loop μ-loop
 part-r-start c = search needs
 
--- src/lib.rt:77:17
 part-r-end : tie.Need-part-r-end Inv-loop μ-loop
 part-r-end c = search needs
 
--- src/lib.rt:78:12
 before-requires : tie.Need-before-requires Inv-loop μ-loop
 before-requires c κs =
     let k = c .before .before in
@@ -70,7 +55,6 @@ before-requires c κs =
     let a = s .args in
     (s .pre .1, part-width (a .rows .now) (a .n) (lit< tt) (s .pre .0 .0) (s .pre .0 .1) (k .loop .i) (c .before .loop-test .taken))
 
--- src/lib.rt:79:13
 returns : tie.Need-returns Inv-loop μ-loop
 returns c =
     let k = c .before .before .before .before in
@@ -78,7 +62,6 @@ returns c =
     let a = s .args in
     (λ l h o. pass-stop (a .rows .now) (a .n) (s .pre .0 .0) (a .new .now) l h (k .loop .i) (k .loop .start) (k .loop .there) (k .loop .inv .2 l h) (c .before .before .before .loop-test .taken) (sym (c .before .before2 .ensures) ∙ c .if1 .taken) o, search needs)
 
--- src/lib.rt:85:25
 before-requires-2 : tie.Need-before-requires-2 Inv-loop μ-loop
 before-requires-2 c κs =
     let k = c .before .before .before .before in
@@ -86,16 +69,13 @@ before-requires-2 c κs =
     let a = s .args in
     (part-width (a .rows .now) (a .n) (lit< tt) (s .pre .0 .0) (s .pre .0 .1) (k .loop .i) (c .before .before .before .loop-test .taken), s .pre .1)
 
--- src/lib.rt:85:18
 one-if-requires : tie.Need-one-if-requires Inv-loop μ-loop
 one-if-requires c κs = search needs
 
--- src/lib.rt:85:9
 add-start : tie.Need-add-start Inv-loop μ-loop
 add-start c =
     omega (arith, c .one-if .ensures, tick-most (c .before .before3 .result))
 
--- src/lib.rt:86:25
 same-requires : tie.Need-same-requires Inv-loop μ-loop
 same-requires c κs =
     let k = c .before .before .before .before .before .before in
@@ -103,15 +83,12 @@ same-requires c κs =
     let a = s .args in
     (s .pre .1, part-width (a .rows .now) (a .n) (lit< tt) (s .pre .0 .0) (s .pre .0 .1) (k .loop .i) (c .before .before .before .before .before .loop-test .taken))
 
--- src/lib.rt:87:9
 add-i : tie.Need-add-i Inv-loop μ-loop
 add-i c = search needs
 
--- src/lib.rt:75:5
 loop-less : tie.Need-loop-less Inv-loop μ-loop
 loop-less c = search needs
 
--- src/lib.rt:75:5
 loop-again : tie.Need-loop-again Inv-loop μ-loop
 loop-again c =
     let k = c .before .before .before .before .before .before .before in
@@ -119,7 +96,6 @@ loop-again c =
     let a = s .args in
     (search needs, omega (arith, c .before .one-if .ensures, tick-most (c .before .before .before3 .result)), λ l h. rw (c .before .one-if .ensures, c .before .before .before3 .ensures, c .same .ensures) (pass-next (a .rows .now) (a .n) (s .pre .0 .0) (a .new .now) l h (k .loop .i) (k .loop .start) (k .loop .there) (k .loop .inv .2 l h) (c .before .before .before .before .before .before .loop-test .taken) (sym (c .before .before .before .before .before2 .ensures) ∙ c .before .before .before .if1 .left)))
 
--- src/lib.rt:67:1
 returns-2 : tie.Need-returns-2 Inv-loop μ-loop
 returns-2 c =
     let k = c .before in

@@ -3,20 +3,14 @@ use mathlib.Core.Bool.{true, false}
 use borrow.Author.Needs.{needs}
 use Rattle.insert.proofs.created.Statement.{statement}
 use Rattle.insert.proofs.created.Tie as tie
-use Rattle.insert.proofs.created.Reads as reads
-use Rattle.insert.proofs.created.Lts as lts
-use Rattle.insert.proofs.has.Reads as has-reads
 
--- src/lib.rt:134:8
 has-requires : tie.Need-has-requires
 has-requires c κs = search needs
 
--- src/lib.rt:135:9
 returns : tie.Need-returns
 returns c =
     rw (flag-is 10 (c .before .before .args .flags) (c .before .has .result) true (c .before .has .ensures) (c .if1 .taken))
 
--- src/lib.rt:131:1
 returns-2 : tie.Need-returns-2
 returns-2 c =
     rw (flag-is 10 (c .before .before .args .flags) (c .before .has .result) false (c .before .has .ensures) (c .if1 .left))

@@ -5,38 +5,25 @@ use native.Mathlib.Omega.{arith}
 use borrow.Author.Needs.{needs}
 use Rattle.insert.proofs.insert4.Statement.{statement}
 use Rattle.insert.proofs.insert4.Tie as tie
-use Rattle.insert.proofs.insert4.Reads as reads
-use Rattle.insert.proofs.insert4.Lts as lts
-use Rattle.insert.proofs.plan4.Reads as plan4-reads
-use Rattle.state.proofs.insert_route.Reads as insert-route-reads
-use Rattle.state.proofs.replace_route.Reads as replace-route-reads
-use Rattle.state.proofs.route_count.Reads as route-count-reads
-use Rattle.view.proofs.routes.Reads as routes-reads
 use Rattle.view.specs.Parts.{ready-routes, of-routes}
 
--- src/lib.rt:177:9
 route-count-requires : tie.Need-route-count-requires
 route-count-requires c κs =
     sizes-valid (c .before .before .before .pre .0) .long
 
--- src/lib.rt:178:22
 routes-requires : tie.Need-routes-requires
 routes-requires c κs = search needs
 
--- src/lib.rt:178:9
 plan4-requires : tie.Need-plan4-requires
 plan4-requires c κs =
     (ready-routes _ _ (c .before .before .before .before .before .before .pre .0) (c .routes .ensures) (c .before .before .route-count .ensures), length-route (c .before .before .before .before .before .before .args .new .now) (c .before .before .before .before .before .before .pre .1))
 
--- src/lib.rt:180:19
 enum-known-plan : tie.Need-enum-known-plan
 enum-known-plan c = search needs
 
--- src/lib.rt:182:17
 same-length : tie.Need-same-length
 same-length c = search needs
 
--- src/lib.rt:182:17
 returns : tie.Need-returns
 returns c =
     let s = c .before .before .before .before .before .before .before .before .before .before .before in
@@ -52,7 +39,6 @@ returns c =
           (omega (arith, add-place (c .before .before .before .before .before .before .before .route-count .result) (p .result) (i .0 .0) (i .0 .1 .0) (p .ensures .0) (i .1), n, count-routes h)) (omega (arith, n, count-routes h, c .if1 .taken)),
     )
 
--- src/lib.rt:184:13
 insert-route-requires : tie.Need-insert-route-requires
 insert-route-requires c κs =
     let s = c .before .before .before .before .before .before .before .before .before .before .before .before in
@@ -64,11 +50,9 @@ insert-route-requires c κs =
     let i = c .before .before .before .plan .given in
     (v, ((omega (arith, add-place (c .before .before .before .before .before .before .before .before .route-count .result) (p .result) (i .0 .0) (i .0 .1 .0) (p .ensures .0) (i .1), n), omega (arith, n, sizes-valid v, c .before .if1 .left)), s .pre .1))
 
--- src/lib.rt:187:23
 enum-known-plan-2 : tie.Need-enum-known-plan-2
 enum-known-plan-2 c = search needs
 
--- src/lib.rt:188:13
 replace-route-requires : tie.Need-replace-route-requires
 replace-route-requires c κs =
     let s = c .before .before .before .before .before .before .before .before .before .before .before in
@@ -80,19 +64,15 @@ replace-route-requires c κs =
     let i = c .before .before .plan2 .given in
     (v, (omega (arith, replace-place (c .before .before .before .before .before .before .before .route-count .result) (p .result) (i .0 .0) (p .ensures .0) (i .1), n), s .pre .1))
 
--- src/lib.rt:191:23
 enum-told : tie.Need-enum-told
 enum-told c = search needs
 
--- src/lib.rt:192:22
 enum-known-plan-3 : tie.Need-enum-known-plan-3
 enum-known-plan-3 c = search needs
 
--- src/lib.rt:171:1
 same-length-2 : tie.Need-same-length-2
 same-length-2 c = search needs
 
--- src/lib.rt:171:1
 returns-2 : tie.Need-returns-2
 returns-2 c =
     let s = c .before .before .before .before .before .before .before .before .before .before .before .before .before .before .before in
@@ -109,11 +89,9 @@ returns-2 c =
           (omega (arith, add-place (c .before .before .before .before .before .before .before .before .before .before .before .route-count .result) (p .result) (i .0 .0) (i .0 .1 .0) (p .ensures .0) (i .1), n, count-routes h)) (omega (arith, n, count-routes h, sizes-valid v, c .before .before .before .before .if1 .left)) (put st h),
     )
 
--- src/lib.rt:171:1
 same-length-3 : tie.Need-same-length-3
 same-length-3 c = search needs
 
--- src/lib.rt:171:1
 returns-3 : tie.Need-returns-3
 returns-3 c =
     let s = c .before .before .before .before .before .before .before .before .before .before .before .before .before .before in
@@ -129,11 +107,9 @@ returns-3 c =
           into-replaced (a .new .now) (a .flags) st (p .result) (p .ensures .1 (st .routes) (of-routes _ h e) (in-order st g)) (i .0 .0) (i .1) (h .routesWithin) (put st h),
     )
 
--- src/lib.rt:171:1
 same-length-4 : tie.Need-same-length-4
 same-length-4 c = search needs
 
--- src/lib.rt:171:1
 returns-4 : tie.Need-returns-4
 returns-4 c =
     let s = c .before .before .before .before .before .before .before .before .before in
@@ -144,11 +120,9 @@ returns-4 c =
     let p = c .before .before .plan4 in
     (v, λ st h g. into-kept (a .new .now) (a .flags) st (p .result) (p .ensures .1 (st .routes) (of-routes _ h e) (in-order st g)) h (c .enum-told .given .1))
 
--- src/lib.rt:171:1
 same-length-5 : tie.Need-same-length-5
 same-length-5 c = search needs
 
--- src/lib.rt:171:1
 returns-5 : tie.Need-returns-5
 returns-5 c =
     let s = c .before .before .before .before .before .before .before .before .before .before in

@@ -12,8 +12,6 @@ use Rattle.insert.specs.Pass.{pass-lower}
 use borrow.Author.Needs.{needs}
 use Rattle.insert.proofs.lower.Statement.{statement}
 use Rattle.insert.proofs.lower.Tie as tie
-use Rattle.insert.proofs.lower.Reads as reads
-use Rattle.insert.proofs.lower.Lts as lts
 use lib.Dec.{lit<}
 
 abbrev Inv-loop : tie.InvT-loop
@@ -22,39 +20,30 @@ Inv-loop rows n new dst i₀ i = (i ≤ n) × ((l : List Row) → Laid 32 fitRou
 abbrev μ-loop : tie.MeasureT-loop
 μ-loop rows n new dst i₀ i = n - i
 
--- src/lib.rt:54:15
 shared-slice-read-dst : tie.Need-shared-slice-read-dst Inv-loop μ-loop
 shared-slice-read-dst c = search needs
 
--- src/lib.rt:56:5
 loop-holds : tie.Need-loop-holds Inv-loop μ-loop
 loop-holds c = (search needs, λ l h. sofar-start (c .before .args .new .now) l)
 
--- src/lib.rt:57:18
 mul-at : tie.Need-mul-at Inv-loop μ-loop
 mul-at c = search needs
 
--- src/lib.rt:58:27
 add-r : tie.Need-add-r Inv-loop μ-loop
 add-r c = search needs
 
--- src/lib.rt:58:17
 mul-r : tie.Need-mul-r Inv-loop μ-loop
 mul-r c = search needs
 
--- src/lib.rt:58:17
 sub-r : tie.Need-sub-r Inv-loop μ-loop
 sub-r c = search needs
 
--- src/lib.rt:58:17
 part-r-start : tie.Need-part-r-start Inv-loop μ-loop
 part-r-start c = search needs
 
--- src/lib.rt:58:17
 part-r-end : tie.Need-part-r-end Inv-loop μ-loop
 part-r-end c = search needs
 
--- src/lib.rt:59:19
 shared-slice-read-if1 : tie.Need-shared-slice-read-if1 Inv-loop μ-loop
 shared-slice-read-if1 c =
     let k = c .before .before .before in
@@ -62,21 +51,17 @@ shared-slice-read-if1 c =
     let a = s .args in
     omega (arith, part-width (a .rows .now) (a .n) (lit< tt) (s .pre .0 .0) (s .pre .0 .1) (k .loop .i) (c .before .before .loop-test .taken))
 
--- src/lib.rt:60:13
 returns : tie.Need-returns Inv-loop μ-loop
 returns c =
     let k = c .before .before .before .before in
     (k .loop .inv .1, search needs)
 
--- src/lib.rt:62:9
 add-i : tie.Need-add-i Inv-loop μ-loop
 add-i c = search needs
 
--- src/lib.rt:56:5
 loop-less : tie.Need-loop-less Inv-loop μ-loop
 loop-less c = search needs
 
--- src/lib.rt:56:5
 loop-again : tie.Need-loop-again Inv-loop μ-loop
 loop-again c =
     let k = c .before .before .before .before in
@@ -84,7 +69,6 @@ loop-again c =
     let a = s .args in
     (search needs, λ l h. pass-lower (a .rows .now) (a .n) (s .pre .0 .0) (a .new .now) l h (k .loop .i) (k .loop .i) false (k .loop .inv .1 l h) (c .before .before .before .loop-test .taken) (omega (arith, c .if1 .left)) refl refl)
 
--- src/lib.rt:48:1
 returns-2 : tie.Need-returns-2 Inv-loop μ-loop
 returns-2 c =
     let k = c .before in

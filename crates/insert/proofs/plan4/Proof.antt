@@ -7,23 +7,14 @@ use native.Mathlib.Omega.{arith}
 use borrow.Author.Needs.{needs}
 use Rattle.insert.proofs.plan4.Statement.{statement}
 use Rattle.insert.proofs.plan4.Tie as tie
-use Rattle.insert.proofs.plan4.Reads as reads
-use Rattle.insert.proofs.plan4.Lts as lts
-use Rattle.insert.proofs.alike4.Reads as alike4-reads
-use Rattle.insert.proofs.among.Reads as among-reads
-use Rattle.insert.proofs.created.Reads as created-reads
-use Rattle.insert.proofs.same.Reads as same-reads
 use lib.Dec.{lit<}
 
--- src/lib.rt:159:9
 alike4-requires : tie.Need-alike4-requires
 alike4-requires c κs = search needs
 
--- src/lib.rt:163:9
 created-requires : tie.Need-created-requires
 created-requires c κs = search needs
 
--- src/lib.rt:163:9
 returns : tie.Need-returns
 returns c =
     let k = c .before .before in
@@ -33,31 +24,24 @@ returns c =
     rw (c .created .ensures)
     (placed-created (a .n) (a .flags) (run .start) 0x600 (omega (arith, k .alike4 .ensures .1)), λ l h o. none-planned (a .new .now) (a .flags) l (run .start) (run .end) (run .there) (k .alike4 .ensures .0 l h o) o (c .before .if1 .taken))
 
--- src/lib.rt:165:14
 mul-at : tie.Need-mul-at
 mul-at c = search needs
 
--- src/lib.rt:166:37
 add-same : tie.Need-add-same
 add-same c = search needs
 
--- src/lib.rt:166:27
 mul-same : tie.Need-mul-same
 mul-same c = search needs
 
--- src/lib.rt:166:27
 sub-same : tie.Need-sub-same
 sub-same c = search needs
 
--- src/lib.rt:166:27
 part-same-start : tie.Need-part-same-start
 part-same-start c = search needs
 
--- src/lib.rt:166:27
 part-same-end : tie.Need-part-same-end
 part-same-end c = search needs
 
--- src/lib.rt:166:9
 same-requires : tie.Need-same-requires
 same-requires c κs =
     let k = c .before .before in
@@ -66,11 +50,9 @@ same-requires c κs =
     let run = k .alike4 .result in
     (s .pre .1, part-width (a .rows .now) (a .n) (lit< tt) (s .pre .0 .0) (s .pre .0 .1) (run .start) (omega (arith, k .alike4 .ensures .1, c .before .if1 .left)))
 
--- src/lib.rt:167:5
 among-requires : tie.Need-among-requires
 among-requires c κs = search needs
 
--- src/lib.rt:153:1
 returns-2 : tie.Need-returns-2
 returns-2 c =
     let k = c .before .before .before .before in

@@ -2,29 +2,21 @@ use Rattle.insert.specs.Pass.{not-same}
 use borrow.Author.Needs.{needs}
 use Rattle.insert.proofs.same.Statement.{statement}
 use Rattle.insert.proofs.same.Tie as tie
-use Rattle.insert.proofs.same.Reads as reads
-use Rattle.insert.proofs.same.Lts as lts
-use Rattle.words.proofs.same_words.Reads as same-words-reads
 
--- src/lib.rt:44:8
 shared-slice-read-if1 : tie.Need-shared-slice-read-if1
 shared-slice-read-if1 c = search needs
 
--- src/lib.rt:44:18
 shared-slice-read-if1-2 : tie.Need-shared-slice-read-if1-2
 shared-slice-read-if1-2 c = search needs
 
--- src/lib.rt:45:9
 returns : tie.Need-returns
 returns c =
     let a = c .before .before .before .before .before .args in
     not-same (a .new .now) (a .r .now) (c .if1 .taken)
 
--- src/lib.rt:47:5
 same-words-requires : tie.Need-same-words-requires
 same-words-requires c κs = search needs
 
--- src/lib.rt:40:1
 returns-2 : tie.Need-returns-2
 returns-2 c = search needs
 

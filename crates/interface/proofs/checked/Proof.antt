@@ -5,26 +5,19 @@ use lib.ListN.{length}
 use borrow.Author.Tests.{not-true, not-false, eqb-true}
 use Rattle.lists.specs.Bools.{and-left}
 use Rattle.interface.specs.Laws.{unfit-lengths, unfit-state, unfit-request, all-fit}
-use borrow.Author.Needs.{needs}
 use Rattle.interface.proofs.checked.Statement.{statement}
 use Rattle.interface.proofs.checked.Tie as tie
-use Rattle.interface.proofs.checked.Reads as reads
-use Rattle.interface.proofs.checked.Lts as lts
-use Rattle.form.proofs.well_formed.Reads as well-formed-reads
 
--- src/lib.rt:49:9
 returns : tie.Need-returns
 returns c =
     let a = c .before .before .args in
     unfit-lengths (a .buffers) (a .handed) (a .request) (a .s .now) (not-true _ (c .if1 .taken))
 
--- src/lib.rt:51:10
 well-formed-requires : tie.Need-well-formed-requires
 well-formed-requires c κs =
     let a = c .before .before .args in
     eqb-true (length (a .s .now)) 9507 (and-left (eqb (length (a .s .now)) 9507) (a .buffers) (not-false _ (c .if1 .left)))
 
--- src/lib.rt:52:9
 returns-2 : tie.Need-returns-2
 returns-2 c =
     let f = c .before in
@@ -33,7 +26,6 @@ returns-2 c =
     unfit-state (a .buffers) (a .handed) (a .request) (a .s .now) (not-false _ (e .if1 .left))
     (ap (λ (b : Bool). b && a .handed) (sym (f .well-formed .ensures)) ∙ not-true _ (c .if2 .taken))
 
--- src/lib.rt:55:9
 returns-3 : tie.Need-returns-3
 returns-3 c =
     let f = c .before .before in
@@ -42,7 +34,6 @@ returns-3 c =
     unfit-request (a .buffers) (a .handed) (a .request) (a .s .now) (not-false _ (e .if1 .left))
     (ap (λ (b : Bool). b && a .handed) (sym (f .well-formed .ensures)) ∙ not-false _ (c .before .if2 .left)) (not-true _ (c .if3 .taken))
 
--- src/lib.rt:45:1
 returns-4 : tie.Need-returns-4
 returns-4 c =
     let f = c .before .before in

@@ -7,48 +7,35 @@ use Rattle.interface.specs.Laws.{at-end, found-at}
 use borrow.Author.Needs.{needs}
 use Rattle.interface.proofs.copy_route.Statement.{statement}
 use Rattle.interface.proofs.copy_route.Tie as tie
-use Rattle.interface.proofs.copy_route.Reads as reads
-use Rattle.interface.proofs.copy_route.Lts as lts
-use Rattle.words.proofs.store.Reads as store-reads
 
--- src/lib.rt:65:21
 mul-at : tie.Need-mul-at
 mul-at c = record { fits = omega (arith, at-end (c .before .before .pre .0) (c .before .before .pre .1)) }
 
--- src/lib.rt:65:14
 add-at : tie.Need-add-at
 add-at c = record { fits = omega (arith, at-end (c .before .before .pre .0) (c .before .before .pre .1)) }
 
--- src/lib.rt:66:15
 add-end : tie.Need-add-end
 add-end c = record { fits = omega (arith, at-end (c .before .before .pre .0) (c .before .before .pre .1)) }
 
--- src/lib.rt:67:26
 mul-store : tie.Need-mul-store
 mul-store c =
     record { fits = omega (arith, at-end (c .before .before .before .pre .0) (c .before .before .before .pre .1)) }
 
--- src/lib.rt:67:26
 sub-store : tie.Need-sub-store
 sub-store c = search needs
 
--- src/lib.rt:67:26
 part-store-start : tie.Need-part-store-start
 part-store-start c = search needs
 
--- src/lib.rt:67:26
 part-store-end : tie.Need-part-store-end
 part-store-end c = omega (arith, at-end (c .before .before .before .pre .0) (c .before .before .before .pre .1))
 
--- src/lib.rt:67:5
 store-requires : tie.Need-store-requires
 store-requires c κs = search needs
 
--- src/lib.rt:61:1
 same-length : tie.Need-same-length
 same-length c = search needs
 
--- src/lib.rt:61:1
 returns : tie.Need-returns
 returns c =
     let k = c .before .before .before .before .before .before .before in

@@ -5,16 +5,10 @@ use Rattle.interface.specs.Numbers.{local4-says}
 use borrow.Author.Needs.{needs}
 use Rattle.interface.proofs.local4.Statement.{statement}
 use Rattle.interface.proofs.local4.Tie as tie
-use Rattle.interface.proofs.local4.Reads as reads
-use Rattle.interface.proofs.local4.Lts as lts
-use Rattle.interface.proofs.checked.Reads as checked-reads
-use Rattle.view.proofs.local4.Reads as local4-reads
 
--- src/lib.rt:121:9
 checked-requires : tie.Need-checked-requires
 checked-requires c κs = search needs
 
--- src/lib.rt:123:9
 returns : tie.Need-returns
 returns c =
     let a = c .before .before .before .args in
@@ -23,11 +17,9 @@ returns c =
     in
     (local4-says (a .state .now) (a .ip) x, x)
 
--- src/lib.rt:125:15
 local4-requires : tie.Need-local4-requires
 local4-requires c κs = valid true true true (c .before .before .before .args .state .now) (c .before .checked .result) (c .before .checked .ensures) (c .if1 .left)
 
--- src/lib.rt:118:1
 returns-2 : tie.Need-returns-2
 returns-2 c =
     let k = c .before .before in

@@ -9,20 +9,13 @@ use Rattle.interface.specs.Laws.{look-row, look-refused}
 use borrow.Author.Needs.{needs}
 use Rattle.interface.proofs.look.Statement.{statement}
 use Rattle.interface.proofs.look.Tie as tie
-use Rattle.interface.proofs.look.Reads as reads
-use Rattle.interface.proofs.look.Lts as lts
-use Rattle.interface.proofs.copy_route.Reads as copy-route-reads
-use Rattle.view.proofs.lookup4_in.Reads as lookup4-in-reads
 
--- src/lib.rt:76:9
 lookup4-in-requires : tie.Need-lookup4-in-requires
 lookup4-in-requires c κs = search needs
 
--- src/lib.rt:78:20
 enum-known-looked : tie.Need-enum-known-looked
 enum-known-looked c = search needs
 
--- src/lib.rt:79:13
 copy-route-requires : tie.Need-copy-route-requires
 copy-route-requires c κs =
     let m = c .before .before in
@@ -30,15 +23,12 @@ copy-route-requires c κs =
     let k = t .before .before .before in
     (k .pre .0, subst (placed (routeCount (k .args .s .now))) (m .looked .given .1) (t .lookup4-in .ensures .0), k .pre .1)
 
--- src/lib.rt:82:25
 enum-known-looked-2 : tie.Need-enum-known-looked-2
 enum-known-looked-2 c = search needs
 
--- src/lib.rt:71:1
 same-length : tie.Need-same-length
 same-length c = search needs
 
--- src/lib.rt:71:1
 returns : tie.Need-returns
 returns c =
     let v = c .before .before in
@@ -53,7 +43,6 @@ returns c =
           (ap (foundBy (st .routes)) (sym (m .looked .given .1)) ∙ t .lookup4-in .ensures .1 st h) refl (v .copy-route .ensures st h) .1,
     )
 
--- src/lib.rt:71:1
 returns-2 : tie.Need-returns-2
 returns-2 c =
     let m = c .before in

@@ -1,5 +1,5 @@
 use mathlib.Core.Bool.{true}
-use lib.Dec.{leb, ltb}
+use lib.Dec.{leb}
 use lib.ListN.{length}
 use borrow.Author.Tests.{leb-true}
 use Rattle.definition.specs.Words.{decode}
@@ -10,16 +10,10 @@ use Rattle.interface.specs.Numbers.{lookup4-says}
 use borrow.Author.Needs.{needs}
 use Rattle.interface.proofs.lookup4.Statement.{statement}
 use Rattle.interface.proofs.lookup4.Tie as tie
-use Rattle.interface.proofs.lookup4.Reads as reads
-use Rattle.interface.proofs.lookup4.Lts as lts
-use Rattle.interface.proofs.checked.Reads as checked-reads
-use Rattle.interface.proofs.look.Reads as look-reads
 
--- src/lib.rt:82:9
 checked-requires : tie.Need-checked-requires
 checked-requires c κs = search needs
 
--- src/lib.rt:84:9
 returns : tie.Need-returns
 unfolding lookup4Call lookup4
 returns c =
@@ -30,7 +24,6 @@ returns c =
     in
     (lookup4-says (a .state .now) (length (a .row .now)) (a .ip) (x .0), x)
 
--- src/lib.rt:86:5
 look-requires : tie.Need-look-requires
 look-requires c κs =
     let e = c .before in
@@ -39,11 +32,9 @@ look-requires c κs =
     let p = passed (leb 32 (length (a .row .now))) true true (a .state .now) (k .checked .result) (k .checked .ensures) (e .if1 .left) in
     (valid (leb 32 (length (a .row .now))) true true (a .state .now) (k .checked .result) (k .checked .ensures) (e .if1 .left), leb-true 32 (length (a .row .now)) (p .room))
 
--- src/lib.rt:78:1
 same-length : tie.Need-same-length
 same-length c = search needs
 
--- src/lib.rt:78:1
 returns-2 : tie.Need-returns-2
 unfolding lookup4Call lookup4
 returns-2 c =

@@ -10,16 +10,10 @@ use Rattle.interface.specs.Numbers.{lookup4-flow-says}
 use borrow.Author.Needs.{needs}
 use Rattle.interface.proofs.lookup4_flow.Statement.{statement}
 use Rattle.interface.proofs.lookup4_flow.Tie as tie
-use Rattle.interface.proofs.lookup4_flow.Reads as reads
-use Rattle.interface.proofs.lookup4_flow.Lts as lts
-use Rattle.interface.proofs.checked.Reads as checked-reads
-use Rattle.interface.proofs.look.Reads as look-reads
 
--- src/lib.rt:102:9
 checked-requires : tie.Need-checked-requires
 checked-requires c κs = search needs
 
--- src/lib.rt:104:9
 returns : tie.Need-returns
 unfolding lookup4FlowCall lookup4Flow
 returns c =
@@ -30,7 +24,6 @@ returns c =
     in
     (lookup4-flow-says (a .state .now) (length (a .row .now)) (a .ip) (a .tos) (a .oif) (x .0), x)
 
--- src/lib.rt:106:5
 look-requires : tie.Need-look-requires
 look-requires c κs =
     let e = c .before in
@@ -39,11 +32,9 @@ look-requires c κs =
     let p = passed (leb 32 (length (a .row .now))) true (ltb (a .tos) 256) (a .state .now) (k .checked .result) (k .checked .ensures) (e .if1 .left) in
     (valid (leb 32 (length (a .row .now))) true (ltb (a .tos) 256) (a .state .now) (k .checked .result) (k .checked .ensures) (e .if1 .left), leb-true 32 (length (a .row .now)) (p .room))
 
--- src/lib.rt:98:1
 same-length : tie.Need-same-length
 same-length c = search needs
 
--- src/lib.rt:98:1
 returns-2 : tie.Need-returns-2
 unfolding lookup4FlowCall lookup4Flow
 returns-2 c =

@@ -8,21 +8,13 @@ use Rattle.interface.specs.Numbers.{select4-says}
 use borrow.Author.Needs.{needs}
 use Rattle.interface.proofs.select4.Statement.{statement}
 use Rattle.interface.proofs.select4.Tie as tie
-use Rattle.interface.proofs.select4.Reads as reads
-use Rattle.interface.proofs.select4.Lts as lts
-use Rattle.address.proofs.fit_optional.Reads as fit-optional-reads
-use Rattle.interface.proofs.checked.Reads as checked-reads
-use Rattle.view.proofs.select4.Reads as select4-reads
 
--- src/lib.rt:159:9
 fit-optional-requires : tie.Need-fit-optional-requires
 fit-optional-requires c κs = search needs
 
--- src/lib.rt:155:9
 checked-requires : tie.Need-checked-requires
 checked-requires c κs = search needs
 
--- src/lib.rt:162:9
 returns : tie.Need-returns
 returns c =
     let k = c .before in
@@ -33,7 +25,6 @@ returns c =
     in
     (select4-says (a .state .now) (a .dst-present) (a .dst) (a .scope) x, x)
 
--- src/lib.rt:164:9
 select4-requires : tie.Need-select4-requires
 select4-requires c κs =
     let k = c .before in
@@ -41,15 +32,12 @@ select4-requires c κs =
     let a = r .before .before .args in
     valid true true (r .fit-optional .result && ltb (a .scope) 256) (a .state .now) (k .checked .result) (k .checked .ensures) (c .if1 .left)
 
--- src/lib.rt:166:25
 enum-known-selected : tie.Need-enum-known-selected
 enum-known-selected c = search needs
 
--- src/lib.rt:167:30
 enum-told : tie.Need-enum-told
 enum-told c = search needs
 
--- src/lib.rt:152:1
 returns-2 : tie.Need-returns-2
 returns-2 c =
     let y = c .before .before .before in
@@ -63,7 +51,6 @@ returns-2 c =
     in
     (select4-says (a .state .now) (a .dst-present) (a .dst) (a .scope) x, x)
 
--- src/lib.rt:152:1
 returns-3 : tie.Need-returns-3
 returns-3 c =
     let y = c .before .before in

@@ -5,16 +5,10 @@ use Rattle.interface.specs.Numbers.{source-says}
 use borrow.Author.Needs.{needs}
 use Rattle.interface.proofs.source.Statement.{statement}
 use Rattle.interface.proofs.source.Tie as tie
-use Rattle.interface.proofs.source.Reads as reads
-use Rattle.interface.proofs.source.Lts as lts
-use Rattle.interface.proofs.checked.Reads as checked-reads
-use Rattle.view.proofs.source.Reads as source-reads
 
--- src/lib.rt:131:9
 checked-requires : tie.Need-checked-requires
 checked-requires c κs = search needs
 
--- src/lib.rt:133:9
 returns : tie.Need-returns
 returns c =
     let a = c .before .before .before .args in
@@ -23,11 +17,9 @@ returns c =
     in
     (source-says (a .state .now) (a .ip) x, x)
 
--- src/lib.rt:135:22
 source-requires : tie.Need-source-requires
 source-requires c κs = valid true true true (c .before .before .before .args .state .now) (c .before .checked .result) (c .before .checked .ensures) (c .if1 .left)
 
--- src/lib.rt:128:1
 returns-2 : tie.Need-returns-2
 returns-2 c =
     let k = c .before .before in

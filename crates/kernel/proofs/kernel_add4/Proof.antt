@@ -6,74 +6,54 @@ use native.Mathlib.Omega.{arith}
 use borrow.Author.Needs.{needs}
 use Rattle.kernel.proofs.kernel_add4.Statement.{statement}
 use Rattle.kernel.proofs.kernel_add4.Tie as tie
-use Rattle.kernel.proofs.kernel_add4.Reads as reads
-use Rattle.kernel.proofs.kernel_add4.Lts as lts
-use Rattle.events.proofs.new_route4.Reads as new-route4-reads
-use Rattle.insert.proofs.insert4.Reads as insert4-reads
-use Rattle.tables.proofs.list_table.Reads as list-table-reads
-use Rattle.tables.proofs.tables_after.Reads as tables-after-reads
 
--- src/lib.rt:31:17
 shared-slice-read-table : tie.Need-shared-slice-read-table
 shared-slice-read-table c =
     omega (arith, length-route (c .before .before .before .before .args .new .now) (c .before .before .before .before .pre .1 .0))
 
--- src/lib.rt:32:13
 tables-after-requires : tie.Need-tables-after-requires
 tables-after-requires c κs = search needs
 
--- src/lib.rt:33:9
 same-length : tie.Need-same-length
 same-length c = search needs
 
--- src/lib.rt:33:9
 returns : tie.Need-returns
 returns c =
     let s = c .before .before .before .before .before .before .before in
     (s .pre .0, (omega arith, λ st h g. add-full-tables (s .args .new .now) st h (omega (arith, c .before .tables-after .ensures, c .if1 .taken))))
 
--- src/lib.rt:35:5
 list-table-requires : tie.Need-list-table-requires
 list-table-requires c κs =
     (c .before .before .before .before .before .before .before .before .pre .0, rw (c .before .before .tables-after .ensures) at (c .before .if1 .left))
 
--- src/lib.rt:36:9
 insert4-requires : tie.Need-insert4-requires
 insert4-requires c κs =
     let s = c .before .before .before .before .before .before .before .before .before .before .before .before in
     let v = s .pre .0 in
     (valid-created (table (s .args .new .now)) (v .state) (c .before .before .before .list-table .ensures (v .state) (v .holds)), s .pre .1 .0)
 
--- src/lib.rt:38:23
 enum-known-came : tie.Need-enum-known-came
 enum-known-came c = search needs
 
--- src/lib.rt:39:13
 new-route4-requires : tie.Need-new-route4-requires
 new-route4-requires c κs =
     (c .before .before .before .before .before .before .before .before .before .before .before .before .before .before .before .before .before .before .before .pre .1 .1, length-route (c .before .before .before .before .before .before .before .before .before .before .before .before .before .before .before .before .before .before .before .args .new .now) (c .before .before .before .before .before .before .before .before .before .before .before .before .before .before .before .before .before .before .before .pre .1 .0))
 
--- src/lib.rt:42:30
 enum-told : tie.Need-enum-told
 enum-told c = search needs
 
--- src/lib.rt:43:33
 enum-told-2 : tie.Need-enum-told-2
 enum-told-2 c = search needs
 
--- src/lib.rt:44:27
 enum-told-3 : tie.Need-enum-told-3
 enum-told-3 c = search needs
 
--- src/lib.rt:23:1
 same-length-2 : tie.Need-same-length-2
 same-length-2 c = search needs
 
--- src/lib.rt:23:1
 same-length-3 : tie.Need-same-length-3
 same-length-3 c = search needs
 
--- src/lib.rt:23:1
 returns-2 : tie.Need-returns-2
 returns-2 c =
     let s = c .before .before .before .before .before .before .before .before .before .before .before .before .before .before .before .before .before .before .before .before .before .before in
@@ -83,11 +63,9 @@ returns-2 c =
     let i = c .before .before .before .before .before .came .given in
     (put .ensures .0, (omega arith, λ st h g. add-put new st (put .ensures .1 (create4 (table new) st) (made st h) (created-fit (table new) st g)) (i .0 .0) (i .1) (length-route new (s .pre .1 .0)) (s .pre .1 .1) (c .before .before .new-route4 .ensures)))
 
--- src/lib.rt:23:1
 same-length-4 : tie.Need-same-length-4
 same-length-4 c = search needs
 
--- src/lib.rt:23:1
 returns-3 : tie.Need-returns-3
 returns-3 c =
     let s = c .before .before .before .before .before .before .before .before .before .before .before .before .before .before .before .before .before in
@@ -96,11 +74,9 @@ returns-3 c =
     let made = c .before .before .before .before .before .before .before .before .list-table .ensures in
     (put .ensures .0, (omega arith, λ st h g. add-nothing new st (put .ensures .1 (create4 (table new) st) (made st h) (created-fit (table new) st g)) (c .enum-told .given .1)))
 
--- src/lib.rt:23:1
 same-length-5 : tie.Need-same-length-5
 same-length-5 c = search needs
 
--- src/lib.rt:23:1
 returns-4 : tie.Need-returns-4
 returns-4 c =
     let s = c .before .before .before .before .before .before .before .before .before .before .before .before .before .before .before .before .before in
@@ -109,11 +85,9 @@ returns-4 c =
     let made = c .before .before .before .before .before .before .before .before .list-table .ensures in
     (put .ensures .0, (omega arith, λ st h g. add-refused new st (put .ensures .1 (create4 (table new) st) (made st h) (created-fit (table new) st g)) (c .enum-told2 .given .0 .0) (c .enum-told2 .given .1)))
 
--- src/lib.rt:23:1
 same-length-6 : tie.Need-same-length-6
 same-length-6 c = search needs
 
--- src/lib.rt:23:1
 returns-5 : tie.Need-returns-5
 returns-5 c =
     let s = c .before .before .before .before .before .before .before .before .before .before .before .before .before .before .before .before .before in

@@ -12,14 +12,11 @@ use lib.ListN.{length}
 use lib.Dec.{lit<}
 use native.Mathlib.Omega.{arith}
 use mathlib.Core.List.{List}
-use mathlib.Core.Path.{_≡_, refl, sym, ap, _∙_}
+use mathlib.Core.Path.{_≡_, sym, _∙_}
 use Prim.Native.Nat.{_+_, _-_, _*_, _≤_}
 use borrow.Author.Needs.{needs}
 use Rattle.leave.proofs.delete_unwanted.Statement.{statement}
 use Rattle.leave.proofs.delete_unwanted.Tie as tie
-use Rattle.leave.proofs.delete_unwanted.Reads as reads
-use Rattle.leave.proofs.delete_unwanted.Lts as lts
-use Rattle.leave.proofs.unless_wanted.Reads as unless-wanted-reads
 
 abbrev Inv-loop : tie.InvT-loop
 Inv-loop s₀ ev₀ rows m j₀ k₀ s ev j k =
@@ -30,7 +27,6 @@ Inv-loop s₀ ev₀ rows m j₀ k₀ s ev j k =
 abbrev μ-loop : tie.MeasureT-loop
 μ-loop s₀ ev₀ rows m j₀ k₀ s ev j k = m - j
 
--- src/lib.rt:48:5
 loop-holds : tie.Need-loop-holds Inv-loop μ-loop
 loop-holds c =
     let s = c .before .before .before in
@@ -38,51 +34,39 @@ loop-holds c =
     let z = s .pre .1 .1 in
     (omega arith, leaving-facts (z .list) 0 (leaving-start (z .list) (y .fits)) (y .fits), λ st f l h. leaving-start l f)
 
--- src/lib.rt:49:18
 mul-at : tie.Need-mul-at Inv-loop μ-loop
 mul-at c = search needs
 
--- src/lib.rt:50:27
 add-r : tie.Need-add-r Inv-loop μ-loop
 add-r c = search needs
 
--- src/lib.rt:50:17
 mul-r : tie.Need-mul-r Inv-loop μ-loop
 mul-r c = search needs
 
--- src/lib.rt:50:17
 sub-r : tie.Need-sub-r Inv-loop μ-loop
 sub-r c = search needs
 
--- src/lib.rt:50:17
 part-r-start : tie.Need-part-r-start Inv-loop μ-loop
 part-r-start c = search needs
 
--- src/lib.rt:50:17
 part-r-end : tie.Need-part-r-end Inv-loop μ-loop
 part-r-end c = search needs
 
--- src/lib.rt:51:39
 mul-unless-wanted : tie.Need-mul-unless-wanted Inv-loop μ-loop
 mul-unless-wanted c = search needs
 
--- src/lib.rt:51:31
 mul-unless-wanted-2 : tie.Need-mul-unless-wanted-2 Inv-loop μ-loop
 mul-unless-wanted-2 c = search needs
 
--- src/lib.rt:51:31
 sub-unless-wanted : tie.Need-sub-unless-wanted Inv-loop μ-loop
 sub-unless-wanted c = search needs
 
--- src/lib.rt:51:31
 part-unless-wanted-start : tie.Need-part-unless-wanted-start Inv-loop μ-loop
 part-unless-wanted-start c = search needs
 
--- src/lib.rt:51:31
 part-unless-wanted-end : tie.Need-part-unless-wanted-end Inv-loop μ-loop
 part-unless-wanted-end c = search needs
 
--- src/lib.rt:51:14
 unless-wanted-requires : tie.Need-unless-wanted-requires Inv-loop μ-loop
 unless-wanted-requires c κs =
     let k = c .before .before .before .before in
@@ -93,7 +77,6 @@ unless-wanted-requires c κs =
       part-width (s .args .rows .now) (s .args .m) (lit< tt) (s .pre .1 .0) z (k .loop .j) (c .before .before .before .loop-test .taken),
     )
 
--- src/lib.rt:51:9
 add-k : tie.Need-add-k Inv-loop μ-loop
 add-k c =
     let k = c .before .before .before .before .before .before .before .before .before in
@@ -105,15 +88,12 @@ add-k c =
     let facts = leaving-facts (z .list) (k .loop .j + 1) (leaving-next (z .list) (k .loop .j) (k .loop .inv .2 (y .state) (y .fits) (z .list) (z .laid)) (s .args .rows .now) (s .args .m) (s .pre .1 .0) (z .laid) taken (λ m g. turn m g)) (y .fits) in
     record { fits = omega (arith, facts .3) }
 
--- src/lib.rt:52:9
 add-j : tie.Need-add-j Inv-loop μ-loop
 add-j c = search needs
 
--- src/lib.rt:48:5
 loop-less : tie.Need-loop-less Inv-loop μ-loop
 loop-less c = search needs
 
--- src/lib.rt:48:5
 loop-again : tie.Need-loop-again Inv-loop μ-loop
 loop-again c =
     let k = c .before .before .before .before .before .before .before .before .before in
@@ -127,15 +107,12 @@ loop-again c =
       λ st f l h. leaving-next l (k .loop .j) (k .loop .inv .2 st f l h) (s .args .rows .now) (s .args .m) (s .pre .1 .0) h taken (λ m g. turn m g),
     )
 
--- src/lib.rt:41:1
 same-length : tie.Need-same-length Inv-loop μ-loop
 same-length c = c .before .loop .inv .1 .1 ∙ sym (sizes-valid (ready-valid (c .before .before .before .before .before .pre .0)) .long)
 
--- src/lib.rt:41:1
 same-length-2 : tie.Need-same-length-2 Inv-loop μ-loop
 same-length-2 c = search needs
 
--- src/lib.rt:41:1
 returns : tie.Need-returns Inv-loop μ-loop
 returns c =
     let s = c .before .before .before .before .before in

@@ -2,7 +2,7 @@ use Rattle.leave.specs.Turns.{fall-kept, fall-strayless, fall-local, fal
 use Rattle.deletion.specs.Delete.{ready-valid}
 use Rattle.view.specs.Parts.{listed-there}
 use borrow.Author.Tests.{not-true, not-false}
-use mathlib.Core.Path.{sym, _∙_}
+use mathlib.Core.Path.{_∙_}
 use borrow.Author.Needs.{needs}
 use Rattle.leave.proofs.fall.Statement.{statement}
 use Rattle.leave.proofs.fall.Tie as tie

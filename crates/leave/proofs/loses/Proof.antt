@@ -9,14 +9,11 @@ use lib.ListN.{drop}
 use lib.Dec.{lit<}
 use native.Mathlib.Omega.{arith}
 use mathlib.Core.List.{List}
-use mathlib.Core.Path.{_≡_, refl, sym, ap, _∙_}
-use Prim.Native.Nat.{_+_, _-_, _*_, _≤_}
+use mathlib.Core.Path.{_≡_, refl, sym, _∙_}
+use Prim.Native.Nat.{_-_, _≤_}
 use borrow.Author.Needs.{needs}
 use Rattle.leave.proofs.loses.Statement.{statement}
 use Rattle.leave.proofs.loses.Tie as tie
-use Rattle.leave.proofs.loses.Reads as reads
-use Rattle.leave.proofs.loses.Lts as lts
-use Rattle.leave.proofs.lost.Reads as lost-reads
 
 abbrev Inv-loop : tie.InvT-loop
 Inv-loop s rows m j₀ j =
@@ -25,64 +22,51 @@ Inv-loop s rows m j₀ j =
 abbrev μ-loop : tie.MeasureT-loop
 μ-loop s rows m j₀ j = m - j
 
--- src/lib.rt:77:5
 loop-holds : tie.Need-loop-holds Inv-loop μ-loop
 loop-holds c = (search needs, λ st h l q. refl)
 
--- src/lib.rt:78:18
 mul-at : tie.Need-mul-at Inv-loop μ-loop
 mul-at c = search needs
 
--- src/lib.rt:79:27
 add-r : tie.Need-add-r Inv-loop μ-loop
 add-r c = search needs
 
--- src/lib.rt:79:17
 mul-r : tie.Need-mul-r Inv-loop μ-loop
 mul-r c = search needs
 
--- src/lib.rt:79:17
 sub-r : tie.Need-sub-r Inv-loop μ-loop
 sub-r c = search needs
 
--- src/lib.rt:79:17
 part-r-start : tie.Need-part-r-start Inv-loop μ-loop
 part-r-start c = search needs
 
--- src/lib.rt:79:17
 part-r-end : tie.Need-part-r-end Inv-loop μ-loop
 part-r-end c = search needs
 
--- src/lib.rt:80:12
 lost-requires : tie.Need-lost-requires Inv-loop μ-loop
 lost-requires c κs =
     let k = c .before .before in
     let s = k .before .before .before in
     (s .pre .0, part-width (s .args .rows .now) (s .args .m) (lit< tt) (s .pre .1 .0) (s .pre .1 .1) (k .loop .j) (c .before .loop-test .taken))
 
--- src/lib.rt:81:13
 returns : tie.Need-returns Inv-loop μ-loop
 returns c =
     let k = c .before .before .before .before in
     let s = k .before .before .before in
     λ st h l q. some-here (s .args .rows .now) (s .args .m) (lit< tt) (s .pre .1 .0) (loses (st .addresses)) l q (k .loop .j) (k .loop .inv .1 st h l q) (c .before .before .before .loop-test .taken) (sym (c .before .lost .ensures st h) ∙ c .if1 .taken)
 
--- src/lib.rt:83:9
 add-j : tie.Need-add-j Inv-loop μ-loop
 add-j c = search needs
 
--- src/lib.rt:77:5
 loop-less : tie.Need-loop-less Inv-loop μ-loop
 loop-less c = search needs
 
--- src/lib.rt:77:5
 loop-again : tie.Need-loop-again Inv-loop μ-loop
 loop-again c =
     let k = c .before .before .before .before in
     let s = k .before .before .before in
     (omega arith, λ st h l q. some-past (s .args .rows .now) (s .args .m) (lit< tt) (s .pre .1 .0) (loses (st .addresses)) l q (k .loop .j) (k .loop .inv .1 st h l q) (c .before .before .before .loop-test .taken) (sym (c .before .lost .ensures st h) ∙ c .if1 .left))
 
--- src/lib.rt:71:1
 returns-2 : tie.Need-returns-2 Inv-loop μ-loop
 returns-2 c =
     let k = c .before in

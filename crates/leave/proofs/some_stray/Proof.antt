@@ -1,6 +1,5 @@
 use Rattle.view.specs.Parts.{ready-routes, of-routes}
 use Rattle.state.specs.Holds.{sizes-valid}
-use borrow.Author.Needs.{needs}
 use Rattle.leave.proofs.some_stray.Statement.{statement}
 use Rattle.leave.proofs.some_stray.Tie as tie
 

@@ -3,26 +3,15 @@ use Rattle.definition.specs.Kept.Shrinking.{weight}
 use Rattle.leave.specs.One.{unlessWanted}
 use Rattle.definition.specs.State.{through}
 use Rattle.leave.specs.Turns.{step-facts, step-valid, step-ready, routes-gone}
-use Rattle.deletion.specs.Delete.{ready-valid}
-use Rattle.state.specs.Holds.{sizes-valid}
 use native.Mathlib.Omega.{arith}
-use mathlib.Core.Path.{sym, _∙_}
 use Prim.Native.Nat.{_-_}
 use borrow.Author.Needs.{needs}
 use Rattle.leave.proofs.take_routes.Statement.{statement}
 use Rattle.leave.proofs.take_routes.Tie as tie
-use Rattle.leave.proofs.take_routes.Reads as reads
-use Rattle.leave.proofs.take_routes.Lts as lts
-use Rattle.leave.proofs.delete_unwanted.Reads as delete-unwanted-reads
-use Rattle.leave.proofs.fall.Reads as fall-reads
-use Rattle.leave.proofs.loses.Reads as loses-reads
-use Rattle.retain.proofs.disable.Reads as disable-reads
 
--- src/lib.rt:112:9
 delete-unwanted-requires : tie.Need-delete-unwanted-requires
 delete-unwanted-requires c κs = c .before .before .before .before .before .pre
 
--- src/lib.rt:113:9
 loses-requires : tie.Need-loses-requires
 loses-requires c κs =
     let s = c .before .before .before .before .before .before .before .before .before .before .before in
@@ -31,7 +20,6 @@ loses-requires c κs =
     let t = c .before .before .before .before .before .delete-unwanted .ensures (y .state) (y .fits) (z .list) (z .laid) in
     (step-valid t, s .pre .1)
 
--- src/lib.rt:114:29
 mul-fall : tie.Need-mul-fall
 mul-fall c =
     let s = c .before .before .before .before .before .before .before .before .before .before .before .before .before in
@@ -40,7 +28,6 @@ mul-fall c =
     let t = c .before .before .before .before .before .before .before .delete-unwanted .ensures (y .state) (y .fits) (z .list) (z .laid) in
     record { fits = omega (arith, (step-facts (y .fits) t) .3) }
 
--- src/lib.rt:114:21
 mul-fall-2 : tie.Need-mul-fall-2
 mul-fall-2 c =
     let s = c .before .before .before .before .before .before .before .before .before .before .before .before .before in
@@ -49,7 +36,6 @@ mul-fall-2 c =
     let t = c .before .before .before .before .before .before .before .delete-unwanted .ensures (y .state) (y .fits) (z .list) (z .laid) in
     record { fits = omega (arith, (step-facts (y .fits) t) .3) }
 
--- src/lib.rt:114:21
 sub-fall : tie.Need-sub-fall
 sub-fall c =
     let s = c .before .before .before .before .before .before .before .before .before .before .before .before .before in
@@ -58,7 +44,6 @@ sub-fall c =
     let t = c .before .before .before .before .before .before .before .delete-unwanted .ensures (y .state) (y .fits) (z .list) (z .laid) in
     (step-facts (y .fits) t) .0
 
--- src/lib.rt:114:21
 part-fall-start : tie.Need-part-fall-start
 part-fall-start c =
     let s = c .before .before .before .before .before .before .before .before .before .before .before .before .before in
@@ -67,11 +52,9 @@ part-fall-start c =
     let t = c .before .before .before .before .before .before .before .delete-unwanted .ensures (y .state) (y .fits) (z .list) (z .laid) in
     omega (arith, (step-facts (y .fits) t) .0)
 
--- src/lib.rt:114:21
 part-fall-end : tie.Need-part-fall-end
 part-fall-end c = search needs
 
--- src/lib.rt:114:9
 fall-requires : tie.Need-fall-requires
 fall-requires c κs =
     let s = c .before .before .before .before .before .before .before .before .before .before .before .before .before .before in
@@ -80,7 +63,6 @@ fall-requires c κs =
     let t = c .before .before .before .before .before .before .before .before .delete-unwanted .ensures (y .state) (y .fits) (z .list) (z .laid) in
     step-ready t
 
--- src/lib.rt:115:5
 disable-requires : tie.Need-disable-requires
 disable-requires c κs =
     let s = c .before .before .before .before .before .before .before .before .before .before .before .before .before .before .before .before .before .before .before .before in
@@ -89,7 +71,6 @@ disable-requires c κs =
     let t = c .before .before .before .before .before .before .before .before .before .before .before .before .before .before .delete-unwanted .ensures (y .state) (y .fits) (z .list) (z .laid) in
     step-valid (c .before .before .before .before .before .fall .ensures _ ((step-ready t) .fits))
 
--- src/lib.rt:116:5
 add-result : tie.Need-add-result
 add-result c =
     let s = c .before .before .before .before .before .before .before .before .before .before .before .before .before .before .before .before .before .before .before .before .before .before .before in
@@ -99,15 +80,12 @@ add-result c =
     let r = (step-ready t) .fits in
     record { fits = omega (arith, (step-facts (y .fits) t) .3, (step-facts r (c .before .before .before .before .before .before .before .before .fall .ensures _ r)) .3) }
 
--- src/lib.rt:107:1
 same-length : tie.Need-same-length
 same-length c = search needs
 
--- src/lib.rt:107:1
 same-length-2 : tie.Need-same-length-2
 same-length-2 c = search needs
 
--- src/lib.rt:107:1
 returns : tie.Need-returns
 returns c =
     let s = c .before .before .before .before .before .before .before .before .before .before .before .before .before .before .before .before .before .before .before .before .before .before .before in

@@ -5,38 +5,27 @@ use mathlib.Core.Path.{sym, _∙_}
 use borrow.Author.Needs.{needs}
 use Rattle.leave.proofs.unless_wanted.Statement.{statement}
 use Rattle.leave.proofs.unless_wanted.Tie as tie
-use Rattle.leave.proofs.unless_wanted.Reads as reads
-use Rattle.leave.proofs.unless_wanted.Lts as lts
-use Rattle.named.proofs.kernel_del4.Reads as kernel-del4-reads
-use Rattle.leave.proofs.wanted_in.Reads as wanted-in-reads
 
--- src/lib.rt:35:8
 wanted-in-requires : tie.Need-wanted-in-requires
 wanted-in-requires c κs = (ready-valid (c .before .before .before .before .pre .0), c .before .before .before .before .pre .1)
 
--- src/lib.rt:36:9
 same-length : tie.Need-same-length
 same-length c = search needs
 
--- src/lib.rt:36:9
 returns : tie.Need-returns
 returns c = λ st f. wanted-stays (c .before .before .before .before .before .before .args .r .now) f (sym (c .before .wanted-in .ensures st (f .holds)) ∙ c .if1 .taken)
 
--- src/lib.rt:38:5
 kernel-del4-requires : tie.Need-kernel-del4-requires
 kernel-del4-requires c κs =
     let s = c .before .before .before .before .before .before .before .before in
     (ready-valid (s .pre .0), (s .pre .1, λ b. ready-row (s .pre .0) b))
 
--- src/lib.rt:30:1
 same-length-2 : tie.Need-same-length-2
 same-length-2 c = search needs
 
--- src/lib.rt:30:1
 same-length-3 : tie.Need-same-length-3
 same-length-3 c = search needs
 
--- src/lib.rt:30:1
 returns-2 : tie.Need-returns-2
 returns-2 c =
     let i = c .before .before .before .before .before .before .before in

@@ -6,24 +6,15 @@ use lib.ListN.{length}
 use mathlib.Core.List.{List}
 use mathlib.Core.Path.{sym, ap, subst, _∙_}
 use Prim.Native.Nat.{ℕ, _*_}
-use borrow.Author.Needs.{needs}
 use Rattle.leave.proofs.wanted_in.Statement.{statement}
 use Rattle.leave.proofs.wanted_in.Tie as tie
-use Rattle.leave.proofs.wanted_in.Reads as reads
-use Rattle.leave.proofs.wanted_in.Lts as lts
-use Rattle.state.proofs.address_count.Reads as address-count-reads
-use Rattle.view.proofs.addresses.Reads as addresses-reads
-use Rattle.wanted.proofs.wanted.Reads as wanted-reads
 
--- src/lib.rt:26:20
 addresses-requires : tie.Need-addresses-requires
 addresses-requires c κs = c .before .before .pre .0
 
--- src/lib.rt:26:40
 address-count-requires : tie.Need-address-count-requires
 address-count-requires c κs = sizes-valid (c .before .before .before .pre .0) .long
 
--- src/lib.rt:26:5
 wanted-requires : tie.Need-wanted-requires
 wanted-requires c κs =
     let s = c .before .before .before .before in
@@ -35,7 +26,6 @@ wanted-requires c κs =
       s .pre .1,
     )
 
--- src/lib.rt:21:1
 returns : tie.Need-returns
 returns c =
     λ st h. c .wanted .ensures (st .addresses) (subst (λ (x : List ℕ). Laid 20 fitAddress x (st .addresses)) (sym (c .before .before .addresses .ensures)) (laid-addresses h))

@@ -4,20 +4,13 @@ use Rattle.lookup.specs.AddrType.{type-none, type-rejects, type-kind}
 use borrow.Author.Needs.{needs}
 use Rattle.lookup.proofs.addr_type4.Statement.{statement}
 use Rattle.lookup.proofs.addr_type4.Tie as tie
-use Rattle.lookup.proofs.addr_type4.Reads as reads
-use Rattle.lookup.proofs.addr_type4.Lts as lts
-use Rattle.kind.proofs.error_of.Reads as error-of-reads
-use Rattle.lookup.proofs.table_lookup4.Reads as table-lookup4-reads
 
--- src/lib.rt:166:9
 returns : tie.Need-returns
 returns c = λ l h. rw (not-true (c .before .before .args .listed) (c .if1 .taken))
 
--- src/lib.rt:168:9
 table-lookup4-requires : tie.Need-table-lookup4-requires
 table-lookup4-requires c κs = search needs
 
--- src/lib.rt:180:9
 returns-2 : tie.Need-returns-2
 returns-2 c =
     let t = c .before in
@@ -27,27 +20,21 @@ returns-2 c =
     rw (not-false (a .listed) (t .before .if1 .left))
     (type-none (a .rows .now) (a .n) (s .pre .0) l h (setOf (a .set)) (a .ip) (t .table-lookup4 .result) (t .table-lookup4 .ensures l h) (c .if2 .taken))
 
--- src/lib.rt:182:21
 mul-kind : tie.Need-mul-kind
 mul-kind c = search needs
 
--- src/lib.rt:182:21
 add-kind : tie.Need-add-kind
 add-kind c = search needs
 
--- src/lib.rt:182:16
 mul-kind-2 : tie.Need-mul-kind-2
 mul-kind-2 c = search needs
 
--- src/lib.rt:182:16
 shared-slice-read-kind : tie.Need-shared-slice-read-kind
 shared-slice-read-kind c = search needs
 
--- src/lib.rt:183:8
 error-of-requires : tie.Need-error-of-requires
 error-of-requires c κs = search needs
 
--- src/lib.rt:184:9
 returns-3 : tie.Need-returns-3
 returns-3 c =
     let e = c .before in
@@ -59,7 +46,6 @@ returns-3 c =
     (type-rejects (a .rows .now) (a .n) (s .pre .0) l h (setOf (a .set)) (a .ip) (t .table-lookup4 .result) (t .table-lookup4 .ensures l h)
     (e .before .before .if2 .left) (e .error-of .result) (e .error-of .ensures) (c .if3 .taken))
 
--- src/lib.rt:161:1
 returns-4 : tie.Need-returns-4
 returns-4 c =
     let e = c .before in

@@ -1,27 +1,19 @@
 use borrow.Author.Needs.{needs}
 use Rattle.lookup.proofs.better.Statement.{statement}
 use Rattle.lookup.proofs.better.Tie as tie
-use Rattle.lookup.proofs.better.Reads as reads
-use Rattle.lookup.proofs.better.Lts as lts
-use Rattle.lookup.proofs.fits.Reads as fits-reads
 
--- src/lib.rt:48:9
 fits-requires : tie.Need-fits-requires
 fits-requires c κs = search needs
 
--- src/lib.rt:49:7
 shared-slice-read-result : tie.Need-shared-slice-read-result
 shared-slice-read-result c = search needs
 
--- src/lib.rt:49:27
 shared-slice-read-result-2 : tie.Need-shared-slice-read-result-2
 shared-slice-read-result-2 c = search needs
 
--- src/lib.rt:49:65
 shared-slice-read-result-3 : tie.Need-shared-slice-read-result-3
 shared-slice-read-result-3 c = search needs
 
--- src/lib.rt:44:1
 returns : tie.Need-returns
 returns c = cc
 

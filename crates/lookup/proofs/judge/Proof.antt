@@ -2,38 +2,28 @@ use Rattle.lookup.specs.Answer.{judge-none, judge-route, judge-again, ju
 use borrow.Author.Needs.{needs}
 use Rattle.lookup.proofs.judge.Statement.{statement}
 use Rattle.lookup.proofs.judge.Tie as tie
-use Rattle.lookup.proofs.judge.Reads as reads
-use Rattle.lookup.proofs.judge.Lts as lts
-use Rattle.kind.proofs.error_of.Reads as error-of-reads
 
--- src/lib.rt:101:9
 returns : tie.Need-returns
 returns c =
     let s = c .before .before in
     let a = s .args in
     λ l h. judge-none (a .rows .now) (a .n) (s .pre) l h (a .place) (c .if1 .taken)
 
--- src/lib.rt:103:37
 mul-error-of : tie.Need-mul-error-of
 mul-error-of c = search needs
 
--- src/lib.rt:103:37
 add-error-of : tie.Need-add-error-of
 add-error-of c = search needs
 
--- src/lib.rt:103:32
 mul-error-of-2 : tie.Need-mul-error-of-2
 mul-error-of-2 c = search needs
 
--- src/lib.rt:103:32
 shared-slice-read-error-of : tie.Need-shared-slice-read-error-of
 shared-slice-read-error-of c = search needs
 
--- src/lib.rt:103:9
 error-of-requires : tie.Need-error-of-requires
 error-of-requires c κs = search needs
 
--- src/lib.rt:105:9
 returns-2 : tie.Need-returns-2
 returns-2 c =
     let e = c .before in
@@ -43,7 +33,6 @@ returns-2 c =
     judge-route (a .rows .now) (a .n) (s .pre) l h (a .place) (e .error-of .result) (e .before .before .if1 .left)
     (e .error-of .ensures) (c .if2 .taken)
 
--- src/lib.rt:108:9
 returns-3 : tie.Need-returns-3
 returns-3 c =
     let e = c .before .before in
@@ -53,7 +42,6 @@ returns-3 c =
     judge-again (a .rows .now) (a .n) (s .pre) l h (a .place) (e .error-of .result) (e .before .before .if1 .left)
     (e .error-of .ensures) (c .before .if2 .left) (c .if3 .taken)
 
--- src/lib.rt:96:1
 returns-4 : tie.Need-returns-4
 returns-4 c =
     let e = c .before .before in

@@ -2,15 +2,10 @@ use mathlib.Core.Path.{refl}
 use borrow.Author.Needs.{needs}
 use Rattle.lookup.proofs.local4.Statement.{statement}
 use Rattle.lookup.proofs.local4.Tie as tie
-use Rattle.lookup.proofs.local4.Reads as reads
-use Rattle.lookup.proofs.local4.Lts as lts
-use Rattle.lookup.proofs.addr_type4.Reads as addr-type4-reads
 
--- src/lib.rt:194:9
 addr-type4-requires : tie.Need-addr-type4-requires
 addr-type4-requires c κs = search needs
 
--- src/lib.rt:190:1
 returns : tie.Need-returns
 returns c = λ l h. rw (← (c .addr-type4 .ensures l h)) refl
 

@@ -7,25 +7,17 @@ use Rattle.lookup.specs.Answer.{route-there, upper-route, upper-refuse, 
 use borrow.Author.Needs.{needs}
 use Rattle.lookup.proofs.lookup4_in.Statement.{statement}
 use Rattle.lookup.proofs.lookup4_in.Tie as tie
-use Rattle.lookup.proofs.lookup4_in.Reads as reads
-use Rattle.lookup.proofs.lookup4_in.Lts as lts
-use Rattle.lookup.proofs.judge.Reads as judge-reads
-use Rattle.lookup.proofs.table_lookup4.Reads as table-lookup4-reads
 use lib.Dec.{lit<}
 
--- src/lib.rt:118:9
 table-lookup4-requires : tie.Need-table-lookup4-requires
 table-lookup4-requires c κs = search needs
 
--- src/lib.rt:127:9
 judge-requires : tie.Need-judge-requires
 judge-requires c κs = search needs
 
--- src/lib.rt:129:26
 enum-told : tie.Need-enum-told
 enum-told c = search needs
 
--- src/lib.rt:129:26
 returns : tie.Need-returns
 returns c =
     let j = c .before .before in
@@ -37,11 +29,9 @@ returns c =
       λ l h. upper-route l (flowOf (a .f)) (a .default-listed) (t .table-lookup4 .result) (t .table-lookup4 .ensures l h) (sym (c .enum-told .given .1) ∙ j .judge .ensures l h),
     )
 
--- src/lib.rt:130:24
 enum-known-first : tie.Need-enum-known-first
 enum-known-first c = search needs
 
--- src/lib.rt:130:34
 returns-2 : tie.Need-returns-2
 returns-2 c =
     let j = c .before .before .before in
@@ -53,7 +43,6 @@ returns-2 c =
 enum-told-2 : tie.Need-enum-told-2
 enum-told-2 c = search needs
 
--- src/lib.rt:134:9
 returns-3 : tie.Need-returns-3
 returns-3 c =
     let j = c .before .before .before in
@@ -62,27 +51,21 @@ returns-3 c =
     let a = s .args in
     (tt, λ l h. upper-last l (flowOf (a .f)) (a .default-listed) (t .table-lookup4 .result) (t .table-lookup4 .ensures l h) (sym (c .before .enum-told2 .given .1) ∙ j .judge .ensures l h) (not-true (a .default-listed) (c .if1 .taken)))
 
--- src/lib.rt:136:9
 table-lookup4-requires-2 : tie.Need-table-lookup4-requires-2
 table-lookup4-requires-2 c κs = search needs
 
--- src/lib.rt:145:9
 judge-requires-2 : tie.Need-judge-requires-2
 judge-requires-2 c κs = search needs
 
--- src/lib.rt:147:26
 enum-told-3 : tie.Need-enum-told-3
 enum-told-3 c = search needs
 
--- src/lib.rt:148:24
 enum-known-second : tie.Need-enum-known-second
 enum-known-second c = search needs
 
--- src/lib.rt:149:26
 enum-told-4 : tie.Need-enum-told-4
 enum-told-4 c = search needs
 
--- src/lib.rt:114:1
 returns-4 : tie.Need-returns-4
 returns-4 c =
     let k = c .before .before in
@@ -99,7 +82,6 @@ returns-4 c =
       λ l h. lower-route l (flowOf (a .f)) (a .default-listed) (t .table-lookup4 .result) (t .table-lookup4 .ensures l h) (sym (m .enum-told2 .given .1) ∙ j .judge .ensures l h) on (v .table-lookup42 .result) (v .table-lookup42 .ensures l h) (sym (c .enum-told3 .given .1) ∙ k .judge2 .ensures l h),
     )
 
--- src/lib.rt:114:1
 returns-5 : tie.Need-returns-5
 returns-5 c =
     let k = c .before .before .before in
@@ -113,7 +95,6 @@ returns-5 c =
     let on = not-false (a .default-listed) (e .if1 .left) in
     (tt, λ l h. lower-refuse l (flowOf (a .f)) (a .default-listed) (t .table-lookup4 .result) (t .table-lookup4 .ensures l h) (sym (m .enum-told2 .given .1) ∙ j .judge .ensures l h) on (v .table-lookup42 .result) (v .table-lookup42 .ensures l h) (c .before .second .given .0 .0) (sym (c .before .second .given .1) ∙ k .judge2 .ensures l h))
 
--- src/lib.rt:114:1
 returns-6 : tie.Need-returns-6
 returns-6 c =
     let k = c .before .before in

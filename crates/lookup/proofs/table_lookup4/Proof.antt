@@ -16,9 +16,6 @@ use mathlib.Core.Path.{sym, _∙_}
 use borrow.Author.Needs.{needs}
 use Rattle.lookup.proofs.table_lookup4.Statement.{statement}
 use Rattle.lookup.proofs.table_lookup4.Tie as tie
-use Rattle.lookup.proofs.table_lookup4.Reads as reads
-use Rattle.lookup.proofs.table_lookup4.Lts as lts
-use Rattle.lookup.proofs.better.Reads as better-reads
 
 abbrev passing : Tables → Flow → Row → Bool
 passing set f r = setOf set (table r) && fits (flowOf f) r
@@ -31,48 +28,38 @@ Inv-loop rows n set f best₀ least₀ i₀ best least i =
 abbrev μ-loop : tie.MeasureT-loop
 μ-loop rows n set f best₀ least₀ i₀ best least i = n - i
 
--- src/lib.rt:59:5
 loop-holds : tie.Need-loop-holds Inv-loop μ-loop
 loop-holds c =
     let a = c .before .args in
     (search needs, λ l h. pass-start (a .rows .now) (a .n) (c .before .pre .0) (passing (a .set) (a .f)) l h)
 
--- src/lib.rt:60:18
 mul-at : tie.Need-mul-at Inv-loop μ-loop
 mul-at c = search needs
 
--- src/lib.rt:61:27
 add-r : tie.Need-add-r Inv-loop μ-loop
 add-r c = search needs
 
--- src/lib.rt:61:17
 mul-r : tie.Need-mul-r Inv-loop μ-loop
 mul-r c = search needs
 
--- src/lib.rt:61:17
 sub-r : tie.Need-sub-r Inv-loop μ-loop
 sub-r c = search needs
 
--- src/lib.rt:61:17
 part-r-start : tie.Need-part-r-start Inv-loop μ-loop
 part-r-start c = search needs
 
--- src/lib.rt:61:17
 part-r-end : tie.Need-part-r-end Inv-loop μ-loop
 part-r-end c = search needs
 
--- src/lib.rt:62:12
 better-requires : tie.Need-better-requires Inv-loop μ-loop
 better-requires c κs =
     let k = c .before .before in
     let s = k .before .before in
     part-fits (s .args .rows .now) (s .args .n) (s .pre .0) (k .loop .i) (c .before .loop-test .taken) (s .pre .1)
 
--- src/lib.rt:64:21
 shared-slice-read-least : tie.Need-shared-slice-read-least Inv-loop μ-loop
 shared-slice-read-least c = search needs
 
--- src/lib.rt:64:21
 add-least : tie.Need-add-least Inv-loop μ-loop
 add-least c =
     let k = c .before .before .before .before .before in
@@ -80,15 +67,12 @@ add-least c =
     let fit = part-fits (s .args .rows .now) (s .args .n) (s .pre .0) (k .loop .i) (c .before .before .before .before .loop-test .taken) (s .pre .1) in
     record { fits = omega (arith, fit .1) }
 
--- src/lib.rt:66:9
 add-i : tie.Need-add-i Inv-loop μ-loop
 add-i c = search needs
 
--- src/lib.rt:59:5
 loop-less : tie.Need-loop-less Inv-loop μ-loop
 loop-less c = search needs
 
--- src/lib.rt:59:5
 loop-again : tie.Need-loop-again Inv-loop μ-loop
 loop-again c =
     let k = c .before .before .before .before in
@@ -107,7 +91,6 @@ loop-again c =
           (c .if1 .came),
     )
 
--- src/lib.rt:52:1
 returns : tie.Need-returns Inv-loop μ-loop
 returns c =
     let s = c .before .before .before in

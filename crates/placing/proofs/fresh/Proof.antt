@@ -5,25 +5,16 @@ use Rattle.placing.specs.Rows.{fit-row-asked, row-fresh, fit-row-second,
 use borrow.Author.Needs.{needs}
 use Rattle.placing.proofs.fresh.Statement.{statement}
 use Rattle.placing.proofs.fresh.Tie as tie
-use Rattle.placing.proofs.fresh.Reads as reads
-use Rattle.placing.proofs.fresh.Lts as lts
-use Rattle.placing.proofs.in_subnet.Reads as in-subnet-reads
-use Rattle.rewrite.proofs.as_secondary.Reads as as-secondary-reads
-use Rattle.rewrite.proofs.asked.Reads as asked-reads
 
--- src/lib.rt:108:9
 in-subnet-requires : tie.Need-in-subnet-requires
 in-subnet-requires c κs = search needs
 
--- src/lib.rt:110:9
 asked-requires : tie.Need-asked-requires
 asked-requires c κs = search needs
 
--- src/lib.rt:111:9
 same-length : tie.Need-same-length
 same-length c = search needs
 
--- src/lib.rt:111:9
 returns : tie.Need-returns
 returns c =
     let w = c .before .before in
@@ -36,27 +27,21 @@ returns c =
       λ l h. row-fresh (a .q .now) (a .clock .0) (f .0) (f .1) (now (a .out)) (s .pre .1 .1) (w .asked .ensures) l (i .in-subnet .result) (i .in-subnet .ensures l h) (not-true (i .in-subnet .result) (t .if1 .taken)),
     )
 
--- src/lib.rt:114:30
 slice-aggregate-asked : tie.Need-slice-aggregate-asked
 slice-aggregate-asked c = search needs
 
--- src/lib.rt:114:5
 asked-requires-2 : tie.Need-asked-requires-2
 asked-requires-2 c κs = search needs
 
--- src/lib.rt:115:27
 slice-aggregate-as-secondary : tie.Need-slice-aggregate-as-secondary
 slice-aggregate-as-secondary c = search needs
 
--- src/lib.rt:115:5
 as-secondary-requires : tie.Need-as-secondary-requires
 as-secondary-requires c κs = search needs
 
--- src/lib.rt:101:1
 same-length-2 : tie.Need-same-length-2
 same-length-2 c = search needs
 
--- src/lib.rt:101:1
 returns-2 : tie.Need-returns-2
 returns-2 c =
     let w = c .before .before in

@@ -1,23 +1,18 @@
-use Prim.Native.Nat.{_+_, _-_, _≤_}
+use Prim.Native.Nat.{_-_, _≤_}
 use mathlib.Core.List.{List}
 use mathlib.Core.Path.{_≡_, refl, sym, _∙_}
-use native.Mathlib.Nat.{zero-add}
 use native.Mathlib.Omega.{arith}
 use lib.Dec.{lit<}
 use lib.ListN.{drop}
 use Rattle.lists.specs.Lists.{Row, any}
 use Rattle.lists.specs.Laid.{Laid}
-use Rattle.lists.specs.Place.{placeOf}
-use Rattle.lists.specs.Pass.{find-here, find-past, find-end, some-here, some-past, some-end}
+use Rattle.lists.specs.Pass.{some-here, some-past, some-end}
 use Rattle.layout.specs.Address.{fitAddress}
-use Rattle.definition.specs.Reference.Addresses.{sameAddress, sameSubnet}
+use Rattle.definition.specs.Reference.Addresses.{sameSubnet}
 use Rattle.subnet.specs.Laws.{part-short}
 use borrow.Author.Needs.{needs}
 use Rattle.placing.proofs.in_subnet.Statement.{statement}
 use Rattle.placing.proofs.in_subnet.Tie as tie
-use Rattle.placing.proofs.in_subnet.Reads as reads
-use Rattle.placing.proofs.in_subnet.Lts as lts
-use Rattle.subnet.proofs.same_subnet.Reads as same-subnet-reads
 
 abbrev Inv-loop : tie.InvT-loop
 Inv-loop addresses n q i₀ i =
@@ -26,42 +21,33 @@ Inv-loop addresses n q i₀ i =
 abbrev μ-loop : tie.MeasureT-loop
 μ-loop addresses n q i₀ i = n - i
 
--- src/lib.rt:90:5
 loop-holds : tie.Need-loop-holds Inv-loop μ-loop
 loop-holds c = (search needs, λ l h. refl)
 
--- src/lib.rt:91:18
 mul-at : tie.Need-mul-at Inv-loop μ-loop
 mul-at c = search needs
 
--- src/lib.rt:92:47
 add-same-subnet : tie.Need-add-same-subnet Inv-loop μ-loop
 add-same-subnet c = search needs
 
--- src/lib.rt:92:32
 mul-same-subnet : tie.Need-mul-same-subnet Inv-loop μ-loop
 mul-same-subnet c = search needs
 
--- src/lib.rt:92:32
 sub-same-subnet : tie.Need-sub-same-subnet Inv-loop μ-loop
 sub-same-subnet c = search needs
 
--- src/lib.rt:92:32
 part-same-subnet-start : tie.Need-part-same-subnet-start Inv-loop μ-loop
 part-same-subnet-start c = search needs
 
--- src/lib.rt:92:32
 part-same-subnet-end : tie.Need-part-same-subnet-end Inv-loop μ-loop
 part-same-subnet-end c = search needs
 
--- src/lib.rt:92:12
 same-subnet-requires : tie.Need-same-subnet-requires Inv-loop μ-loop
 same-subnet-requires c κs =
     let k = c .before .before in
     let s = k .before .before .before in
     (part-short (s .args .addresses .now) (s .args .n) (s .pre .0 .0) (s .pre .0 .1) (k .loop .i) (c .before .loop-test .taken), s .pre .1)
 
--- src/lib.rt:93:13
 returns : tie.Need-returns Inv-loop μ-loop
 returns c =
     let k = c .before .before .before .before in
@@ -69,15 +55,12 @@ returns c =
     let a = s .args in
     λ l h. some-here (a .addresses .now) (a .n) (lit< tt) (s .pre .0 .0) (λ old. sameSubnet old (a .q .now)) l h (k .loop .i) (k .loop .inv .1 l h) (c .before .before .before .loop-test .taken) (sym (c .before .same-subnet .ensures) ∙ c .if1 .taken)
 
--- src/lib.rt:95:9
 add-i : tie.Need-add-i Inv-loop μ-loop
 add-i c = search needs
 
--- src/lib.rt:90:5
 loop-less : tie.Need-loop-less Inv-loop μ-loop
 loop-less c = search needs
 
--- src/lib.rt:90:5
 loop-again : tie.Need-loop-again Inv-loop μ-loop
 loop-again c =
     let k = c .before .before .before .before in
@@ -85,7 +68,6 @@ loop-again c =
     let a = s .args in
     (omega arith, λ l h. some-past (a .addresses .now) (a .n) (lit< tt) (s .pre .0 .0) (λ old. sameSubnet old (a .q .now)) l h (k .loop .i) (k .loop .inv .1 l h) (c .before .before .before .loop-test .taken) (sym (c .before .same-subnet .ensures) ∙ c .if1 .left))
 
--- src/lib.rt:84:1
 returns-2 : tie.Need-returns-2 Inv-loop μ-loop
 returns-2 c =
     let k = c .before in

@@ -14,11 +14,6 @@ use Rattle.placing.specs.Rows.{pass-last, pass-more, pass-place, pass-le
 use borrow.Author.Needs.{needs}
 use Rattle.placing.proofs.place4.Statement.{statement}
 use Rattle.placing.proofs.place4.Tie as tie
-use Rattle.placing.proofs.place4.Reads as reads
-use Rattle.placing.proofs.place4.Lts as lts
-use Rattle.placing.proofs.choose.Reads as choose-reads
-use Rattle.placing.proofs.yields.Reads as yields-reads
-use Rattle.subnet.proofs.secondary.Reads as secondary-reads
 
 abbrev Inv-loop : tie.InvT-loop
 Inv-loop addresses n new place₀ i₀ place i =
@@ -27,65 +22,51 @@ Inv-loop addresses n new place₀ i₀ place i =
 abbrev μ-loop : tie.MeasureT-loop
 μ-loop addresses n new place₀ i₀ place i = n - i
 
--- src/lib.rt:41:8
 secondary-requires : tie.Need-secondary-requires Inv-loop μ-loop
 secondary-requires c κs = search needs
 
--- src/lib.rt:42:9
 returns : tie.Need-returns Inv-loop μ-loop
 returns c =
     let t = c .before in
     let s = t .before .before .before in
     (search needs, λ l h. pass-last (s .args .addresses .now) (s .args .n) (s .pre .0 .0) (s .args .new .now) l h (sym (t .secondary .ensures) ∙ c .if1 .taken))
 
--- src/lib.rt:46:5
 loop-holds : tie.Need-loop-holds Inv-loop μ-loop
 loop-holds c = (search needs, λ l h. refl)
 
--- src/lib.rt:47:18
 mul-at : tie.Need-mul-at Inv-loop μ-loop
 mul-at c = search needs
 
--- src/lib.rt:48:47
 add-yields : tie.Need-add-yields Inv-loop μ-loop
 add-yields c = search needs
 
--- src/lib.rt:48:32
 mul-yields : tie.Need-mul-yields Inv-loop μ-loop
 mul-yields c = search needs
 
--- src/lib.rt:48:32
 sub-yields : tie.Need-sub-yields Inv-loop μ-loop
 sub-yields c = search needs
 
--- src/lib.rt:48:32
 part-yields-start : tie.Need-part-yields-start Inv-loop μ-loop
 part-yields-start c = search needs
 
--- src/lib.rt:48:32
 part-yields-end : tie.Need-part-yields-end Inv-loop μ-loop
 part-yields-end c = search needs
 
--- src/lib.rt:48:13
 yields-requires : tie.Need-yields-requires Inv-loop μ-loop
 yields-requires c κs =
     let k = c .before .before in
     let s = k .before .before .before .before .before in
     (s .pre .1, part-short (s .args .addresses .now) (s .args .n) (s .pre .0 .0) (s .pre .0 .1) (k .loop .i) (c .before .loop-test .taken) .0)
 
--- src/lib.rt:49:9
 add-i : tie.Need-add-i Inv-loop μ-loop
 add-i c = search needs
 
--- src/lib.rt:50:9
 choose-requires : tie.Need-choose-requires Inv-loop μ-loop
 choose-requires c κs = search needs
 
--- src/lib.rt:46:5
 loop-less : tie.Need-loop-less Inv-loop μ-loop
 loop-less c = search needs
 
--- src/lib.rt:46:5
 loop-again : tie.Need-loop-again Inv-loop μ-loop
 loop-again c =
     let k = c .before .before .before .before in
@@ -98,7 +79,6 @@ loop-again c =
           ∙ pass-more (a .addresses .now) (a .n) (s .pre .0 .0) (a .new .now) l h (k .loop .i) (k .loop .place) (k .loop .inv .1 l h) (c .before .before .before .loop-test .taken),
     )
 
--- src/lib.rt:35:1
 returns-2 : tie.Need-returns-2 Inv-loop μ-loop
 returns-2 c =
     let k = c .before in

@@ -2,23 +2,16 @@ use Rattle.definition.specs.Reference.Addresses.{sameAddress}
 use borrow.Author.Needs.{needs}
 use Rattle.placing.proofs.same_address.Statement.{statement}
 use Rattle.placing.proofs.same_address.Tie as tie
-use Rattle.placing.proofs.same_address.Reads as reads
-use Rattle.placing.proofs.same_address.Lts as lts
-use Rattle.subnet.proofs.same_subnet.Reads as same-subnet-reads
 
--- src/lib.rt:61:9
 same-subnet-requires : tie.Need-same-subnet-requires
 same-subnet-requires c κs = search needs
 
--- src/lib.rt:62:6
 shared-slice-read-result : tie.Need-shared-slice-read-result
 shared-slice-read-result c = search needs
 
--- src/lib.rt:62:16
 shared-slice-read-result-2 : tie.Need-shared-slice-read-result-2
 shared-slice-read-result-2 c = search needs
 
--- src/lib.rt:56:1
 returns : tie.Need-returns
 unfolding sameAddress
 returns c = rw (c .before .before .same-subnet .ensures)

@@ -1,23 +1,20 @@
 use Prim.Native.Nat.{_+_, _-_, _≤_}
 use mathlib.Core.List.{List}
-use mathlib.Core.Path.{_≡_, refl, sym, _∙_}
+use mathlib.Core.Path.{_≡_, sym, _∙_}
 use native.Mathlib.Nat.{zero-add}
 use native.Mathlib.Omega.{arith}
 use lib.Dec.{lit<}
 use lib.ListN.{drop}
-use Rattle.lists.specs.Lists.{Row, any}
+use Rattle.lists.specs.Lists.{Row}
 use Rattle.lists.specs.Laid.{Laid}
 use Rattle.lists.specs.Place.{placeOf}
-use Rattle.lists.specs.Pass.{find-here, find-past, find-end, some-here, some-past, some-end}
+use Rattle.lists.specs.Pass.{find-here, find-past, find-end}
 use Rattle.layout.specs.Address.{fitAddress}
-use Rattle.definition.specs.Reference.Addresses.{sameAddress, sameSubnet}
+use Rattle.definition.specs.Reference.Addresses.{sameAddress}
 use Rattle.subnet.specs.Laws.{part-short}
 use borrow.Author.Needs.{needs}
 use Rattle.placing.proofs.same_at.Statement.{statement}
 use Rattle.placing.proofs.same_at.Tie as tie
-use Rattle.placing.proofs.same_at.Reads as reads
-use Rattle.placing.proofs.same_at.Lts as lts
-use Rattle.placing.proofs.same_address.Reads as same-address-reads
 
 abbrev Inv-loop : tie.InvT-loop
 Inv-loop addresses n q i₀ i =
@@ -26,42 +23,33 @@ Inv-loop addresses n q i₀ i =
 abbrev μ-loop : tie.MeasureT-loop
 μ-loop addresses n q i₀ i = n - i
 
--- src/lib.rt:73:5
 loop-holds : tie.Need-loop-holds Inv-loop μ-loop
 loop-holds c = (search needs, λ l h. sym (zero-add (placeOf (sameAddress (c .before .before .args .q .now)) l)))
 
--- src/lib.rt:74:18
 mul-at : tie.Need-mul-at Inv-loop μ-loop
 mul-at c = search needs
 
--- src/lib.rt:75:43
 add-same-address : tie.Need-add-same-address Inv-loop μ-loop
 add-same-address c = search needs
 
--- src/lib.rt:75:28
 mul-same-address : tie.Need-mul-same-address Inv-loop μ-loop
 mul-same-address c = search needs
 
--- src/lib.rt:75:28
 sub-same-address : tie.Need-sub-same-address Inv-loop μ-loop
 sub-same-address c = search needs
 
--- src/lib.rt:75:28
 part-same-address-start : tie.Need-part-same-address-start Inv-loop μ-loop
 part-same-address-start c = search needs
 
--- src/lib.rt:75:28
 part-same-address-end : tie.Need-part-same-address-end Inv-loop μ-loop
 part-same-address-end c = search needs
 
--- src/lib.rt:75:12
 same-address-requires : tie.Need-same-address-requires Inv-loop μ-loop
 same-address-requires c κs =
     let k = c .before .before in
     let s = k .before .before .before in
     (s .pre .1, part-short (s .args .addresses .now) (s .args .n) (s .pre .0 .0) (s .pre .0 .1) (k .loop .i) (c .before .loop-test .taken))
 
--- src/lib.rt:76:13
 returns : tie.Need-returns Inv-loop μ-loop
 returns c =
     let k = c .before .before .before .before in
@@ -69,15 +57,12 @@ returns c =
     let a = s .args in
     (search needs, λ l h. find-here (a .addresses .now) (a .n) (lit< tt) (s .pre .0 .0) (sameAddress (a .q .now)) l h (k .loop .i) (k .loop .inv .1 l h) (c .before .before .before .loop-test .taken) (sym (c .before .same-address .ensures) ∙ c .if1 .taken))
 
--- src/lib.rt:78:9
 add-i : tie.Need-add-i Inv-loop μ-loop
 add-i c = search needs
 
--- src/lib.rt:73:5
 loop-less : tie.Need-loop-less Inv-loop μ-loop
 loop-less c = search needs
 
--- src/lib.rt:73:5
 loop-again : tie.Need-loop-again Inv-loop μ-loop
 loop-again c =
     let k = c .before .before .before .before in
@@ -85,7 +70,6 @@ loop-again c =
     let a = s .args in
     (omega arith, λ l h. find-past (a .addresses .now) (a .n) (lit< tt) (s .pre .0 .0) (sameAddress (a .q .now)) l h (k .loop .i) (k .loop .inv .1 l h) (c .before .before .before .loop-test .taken) (sym (c .before .same-address .ensures) ∙ c .if1 .left))
 
--- src/lib.rt:66:1
 returns-2 : tie.Need-returns-2 Inv-loop μ-loop
 returns-2 c =
     let k = c .before in

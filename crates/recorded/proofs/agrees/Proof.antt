@@ -1,8 +1,8 @@
 -- `recorded::agrees` meets its contract: each part of the comparison is the definition's.
 -- Assumes nothing.
 use Prim.Native.Nat.{_-_}
-use mathlib.Core.Path.{ap, _∙_}
-use lib.ListN.{length, getD, take, drop, length-take, length-drop}
+use mathlib.Core.Path.{ap}
+use lib.ListN.{length, getD, drop, length-take, length-drop}
 use native.Mathlib.Omega.{arith}
 use denote.Ref.{now}
 use Rattle.recorded.specs.Laws.{agreed, after-long}

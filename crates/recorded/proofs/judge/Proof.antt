@@ -1,7 +1,6 @@
 -- `recorded::judge` meets its contract.
 -- Assumes nothing.
 use mathlib.Core.Path.{sym, _∙_}
-use native.Mathlib.Omega.{arith}
 use denote.Ref.{now}
 use Rattle.recorded.specs.Laws.{fits, damaged, same, other}
 use borrow.Author.Needs.{needs}

@@ -1,7 +1,7 @@
 -- `recorded::set_pairs` meets its contract: the pairs that are left, put in what is there, give the words.
 -- Assumes nothing.
 use lib.ListN.{length-set}
-use Prim.Native.Nat.{ℕ, _-_, _+_, _*_, _/_, _≤_, _<_}
+use Prim.Native.Nat.{_-_, _+_, _*_, _/_, _≤_}
 use mathlib.Core.Path.{_≡_, refl, sym, ap, _∙_}
 use native.Mathlib.Omega.{arith}
 use denote.Ref.{now}

@@ -7,15 +7,12 @@ use lib.ListN.{drop}
 use lib.Dec.{lit<}
 use native.Mathlib.Omega.{arith}
 use native.Mathlib.Nat.{zero-add}
-use mathlib.Core.Path.{_≡_, refl, sym, _∙_}
+use mathlib.Core.Path.{_≡_, sym, _∙_}
 use mathlib.Core.List.{List}
 use Prim.Native.Nat.{_+_, _-_, _≤_}
 use borrow.Author.Needs.{needs}
 use Rattle.removal.proofs.place_of.Statement.{statement}
 use Rattle.removal.proofs.place_of.Tie as tie
-use Rattle.removal.proofs.place_of.Reads as reads
-use Rattle.removal.proofs.place_of.Lts as lts
-use Rattle.words.proofs.same_words.Reads as same-words-reads
 
 abbrev Inv-loop : tie.InvT-loop
 Inv-loop rows n a i₀ i =
@@ -24,39 +21,30 @@ Inv-loop rows n a i₀ i =
 abbrev μ-loop : tie.MeasureT-loop
 μ-loop rows n a i₀ i = n - i
 
--- src/lib.rt:25:5
 loop-holds : tie.Need-loop-holds Inv-loop μ-loop
 loop-holds c = (search needs, λ l h. sym (zero-add (placeOf (eqRow (c .before .before .args .a .now)) l)))
 
--- src/lib.rt:26:18
 mul-at : tie.Need-mul-at Inv-loop μ-loop
 mul-at c = search needs
 
--- src/lib.rt:27:27
 add-r : tie.Need-add-r Inv-loop μ-loop
 add-r c = search needs
 
--- src/lib.rt:27:17
 mul-r : tie.Need-mul-r Inv-loop μ-loop
 mul-r c = search needs
 
--- src/lib.rt:27:17
 sub-r : tie.Need-sub-r Inv-loop μ-loop
 sub-r c = search needs
 
--- src/lib.rt:27:17
 part-r-start : tie.Need-part-r-start Inv-loop μ-loop
 part-r-start c = search needs
 
--- src/lib.rt:27:17
 part-r-end : tie.Need-part-r-end Inv-loop μ-loop
 part-r-end c = search needs
 
--- src/lib.rt:28:12
 same-words-requires : tie.Need-same-words-requires Inv-loop μ-loop
 same-words-requires c κs = search needs
 
--- src/lib.rt:29:13
 returns : tie.Need-returns Inv-loop μ-loop
 returns c =
     let k = c .before .before .before .before in
@@ -64,15 +52,12 @@ returns c =
     let a = s .args in
     λ l h. find-here (a .rows .now) (a .n) (lit< tt) (s .pre .0) (eqRow (a .a .now)) l h (k .loop .i) (k .loop .inv .1 l h) (c .before .before .before .loop-test .taken) (sym (c .before .same-words .ensures) ∙ c .if1 .taken)
 
--- src/lib.rt:31:9
 add-i : tie.Need-add-i Inv-loop μ-loop
 add-i c = search needs
 
--- src/lib.rt:25:5
 loop-less : tie.Need-loop-less Inv-loop μ-loop
 loop-less c = search needs
 
--- src/lib.rt:25:5
 loop-again : tie.Need-loop-again Inv-loop μ-loop
 loop-again c =
     let k = c .before .before .before .before in
@@ -82,7 +67,6 @@ loop-again c =
       λ l h. find-past (a .rows .now) (a .n) (lit< tt) (s .pre .0) (eqRow (a .a .now)) l h (k .loop .i) (k .loop .inv .1 l h) (c .before .before .before .loop-test .taken) (sym (c .before .same-words .ensures) ∙ c .if1 .left),
     )
 
--- src/lib.rt:20:1
 returns-2 : tie.Need-returns-2 Inv-loop μ-loop
 returns-2 c =
     let k = c .before in

@@ -1,5 +1,4 @@
-use Rattle.removal.specs.One.{Present, present-fit, present-room, present-ready, goneFrom, leaving-sized, block-laid, one-step}
-use Rattle.leave.specs.Turns.{anyRow}
+use Rattle.removal.specs.One.{present-fit, present-room, present-ready, goneFrom, leaving-sized, block-laid, one-step}
 use Rattle.events.specs.Step.{rest-fits}
 use Rattle.definition.specs.Reference.Removal.{leaving}
 use Rattle.subnet.specs.Laws.{fit-short}
@@ -14,32 +13,21 @@ use Rattle.lists.specs.Laid.{Laid, Lays}
 use lib.ListN.{length}
 use native.Mathlib.Omega.{arith}
 use mathlib.Core.List.{List}
-use mathlib.Core.Path.{_≡_, refl, sym, ap, subst, _∙_}
-use Prim.Native.Nat.{ℕ, _+_, _*_, _-_, _≤_}
+use mathlib.Core.Path.{sym, ap, subst, _∙_}
+use Prim.Native.Nat.{ℕ, _*_, _-_}
 use borrow.Author.Needs.{needs}
 use Rattle.removal.proofs.remove_one.Statement.{statement}
 use Rattle.removal.proofs.remove_one.Tie as tie
-use Rattle.removal.proofs.remove_one.Reads as reads
-use Rattle.removal.proofs.remove_one.Lts as lts
-use Rattle.candidates.proofs.leaving.Reads as leaving-reads
-use Rattle.leave.proofs.take_routes.Reads as take-routes-reads
-use Rattle.removal.proofs.take_out.Reads as take-out-reads
-use Rattle.state.proofs.address_count.Reads as address-count-reads
-use Rattle.view.proofs.addresses.Reads as addresses-reads
 
--- src/lib.rt:54:9
 address-count-requires : tie.Need-address-count-requires
 address-count-requires c κs = sizes-valid (ready-valid (present-ready (c .before .before .before .before .pre))) .long
 
--- src/lib.rt:55:33
 addresses-requires : tie.Need-addresses-requires
 addresses-requires c κs = search needs
 
--- src/lib.rt:55:59
 slice-aggregate-leaving : tie.Need-slice-aggregate-leaving
 slice-aggregate-leaving c = search needs
 
--- src/lib.rt:55:9
 leaving-requires : tie.Need-leaving-requires
 leaving-requires c κs =
     let s = c .before .before .before .before .before .before .before .before in
@@ -52,23 +40,18 @@ leaving-requires c κs =
       (fit-short _ (present-fit (s .pre)), search needs),
     )
 
--- src/lib.rt:56:9
 take-out-requires : tie.Need-take-out-requires
 take-out-requires c κs = search needs
 
--- src/lib.rt:57:15
 mul-end : tie.Need-mul-end
 mul-end c = search needs
 
--- src/lib.rt:58:41
 mul-take-routes : tie.Need-mul-take-routes
 mul-take-routes c = search needs
 
--- src/lib.rt:58:33
 mul-take-routes-2 : tie.Need-mul-take-routes-2
 mul-take-routes-2 c = search needs
 
--- src/lib.rt:58:33
 sub-take-routes : tie.Need-sub-take-routes
 sub-take-routes c =
     let s = c .before .before .before .before .before .before .before .before .before .before .before .before .before .before .before .before .before .before in
@@ -76,7 +59,6 @@ sub-take-routes c =
     let t = c .before .before .before .before .before .take-out .ensures .1 (y .state) (y .fits) (y .there) in
     (step-facts (y .fits) t) .0
 
--- src/lib.rt:58:33
 part-take-routes-start : tie.Need-part-take-routes-start
 part-take-routes-start c =
     let s = c .before .before .before .before .before .before .before .before .before .before .before .before .before .before .before .before .before .before in
@@ -84,27 +66,21 @@ part-take-routes-start c =
     let t = c .before .before .before .before .before .take-out .ensures .1 (y .state) (y .fits) (y .there) in
     omega (arith, (step-facts (y .fits) t) .0)
 
--- src/lib.rt:58:33
 part-take-routes-end : tie.Need-part-take-routes-end
 part-take-routes-end c = search needs
 
--- src/lib.rt:58:54
 sub-take-routes-2 : tie.Need-sub-take-routes-2
 sub-take-routes-2 c = search needs
 
--- src/lib.rt:58:54
 part-take-routes-start-2 : tie.Need-part-take-routes-start-2
 part-take-routes-start-2 c = search needs
 
--- src/lib.rt:58:54
 part-take-routes-end-2 : tie.Need-part-take-routes-end-2
 part-take-routes-end-2 c = search needs
 
--- src/lib.rt:58:73
 shared-slice-read-take-routes : tie.Need-shared-slice-read-take-routes
 shared-slice-read-take-routes c = omega (arith, (present-room (c .before .before .before .before .before .before .before .before .before .before .before .before .before .before .before .before .before .before .before .before .before .before .pre)) .1)
 
--- src/lib.rt:58:11
 take-routes-requires : tie.Need-take-routes-requires
 take-routes-requires c κs =
     let s = c .before .before .before .before .before .before .before .before .before .before .before .before .before .before .before .before .before .before .before .before .before .before in
@@ -117,7 +93,6 @@ take-routes-requires c κs =
     let b = block-laid l (g .leaving .result) _ (leaving-sized (st .addresses) (s .args .a .now)) (e .0) (e .1) in
     (step-ready t, (laid-length b ∙ ap (λ (n : ℕ). 32 * n) (sym (e .0)), record { list = l; laid = b }))
 
--- src/lib.rt:58:5
 add-result : tie.Need-add-result
 add-result c =
     let s = c .before .before .before .before .before .before .before .before .before .before .before .before .before .before .before .before .before .before .before .before .before .before .before .before .before .before .before in
@@ -131,15 +106,12 @@ add-result c =
     let r = rest-fits weight t in
     record { fits = omega (arith, (step-facts (y .fits) t) .3, (step-facts r (c .before .before .before .before .take-routes .ensures ((goneFrom (s .args .a .now) st) .state) r l b)) .3) }
 
--- src/lib.rt:49:1
 same-length : tie.Need-same-length
 same-length c = search needs
 
--- src/lib.rt:49:1
 same-length-2 : tie.Need-same-length-2
 same-length-2 c = search needs
 
--- src/lib.rt:49:1
 returns : tie.Need-returns
 returns c = λ st f q.
     let s = c .before .before .before .before .before .before .before .before .before .before .before .before .before .before .before .before .before .before .before .before .before .before .before .before .before .before .before in

@@ -3,25 +3,16 @@ use Rattle.events.specs.Turns.{going-ready}
 use Rattle.events.specs.Step.{Fits}
 use Rattle.definition.specs.Words.{addressCount}
 use Rattle.definition.specs.State.{State}
-use Rattle.leave.specs.Turns.{step-facts, step-ready}
 use Rattle.deletion.specs.Delete.{ready-valid}
-use Rattle.view.specs.Parts.{length-addresses, lays-addresses, laid-addresses}
 use Rattle.state.specs.Holds.{sizes-valid}
 use Rattle.definition.specs.Kept.Shrinking.{weight}
-use Rattle.layout.specs.Address.{fitAddress}
-use Rattle.lists.specs.Laid.{Laid, Lays}
 use lib.ListN.{length}
 use native.Mathlib.Omega.{arith}
-use mathlib.Core.List.{List}
-use mathlib.Core.Path.{_≡_, refl, sym, ap, subst, _∙_}
-use Prim.Native.Nat.{ℕ, _+_, _*_, _-_, _≤_}
+use mathlib.Core.Path.{_≡_, sym, _∙_}
+use Prim.Native.Nat.{_+_, _*_, _-_, _≤_}
 use borrow.Author.Needs.{needs}
 use Rattle.removal.proofs.remove_secondaries.Statement.{statement}
 use Rattle.removal.proofs.remove_secondaries.Tie as tie
-use Rattle.removal.proofs.remove_secondaries.Reads as reads
-use Rattle.removal.proofs.remove_secondaries.Lts as lts
-use Rattle.removal.proofs.gone_turn.Reads as gone-turn-reads
-use Rattle.state.proofs.address_count.Reads as address-count-reads
 
 abbrev Inv-loop : tie.InvT-loop
 Inv-loop s₀ ev₀ a n j₀ k₀ s ev j k =
@@ -33,11 +24,9 @@ Inv-loop s₀ ev₀ a n j₀ k₀ s ev j k =
 abbrev μ-loop : tie.MeasureT-loop
 μ-loop s₀ ev₀ a n j₀ k₀ s ev j k = n - j
 
--- src/lib.rt:96:9
 address-count-requires : tie.Need-address-count-requires Inv-loop μ-loop
 address-count-requires c κs = sizes-valid (ready-valid (c .before .before .before .before .pre .0)) .long
 
--- src/lib.rt:99:5
 loop-holds : tie.Need-loop-holds Inv-loop μ-loop
 loop-holds c =
     let s = c .before .before .before .before .before in
@@ -50,39 +39,30 @@ loop-holds c =
       λ st f. gone-start a (c .address-count .result) n f,
     )
 
--- src/lib.rt:100:21
 address-count-requires-2 : tie.Need-address-count-requires-2 Inv-loop μ-loop
 address-count-requires-2 c κs = c .before .before .loop .inv .2 .0 .1
 
--- src/lib.rt:100:17
 add-i : tie.Need-add-i Inv-loop μ-loop
 add-i c = search needs
 
--- src/lib.rt:100:17
 sub-i : tie.Need-sub-i Inv-loop μ-loop
 sub-i c = search needs
 
--- src/lib.rt:101:35
 mul-gone-turn : tie.Need-mul-gone-turn Inv-loop μ-loop
 mul-gone-turn c = search needs
 
--- src/lib.rt:101:27
 mul-gone-turn-2 : tie.Need-mul-gone-turn-2 Inv-loop μ-loop
 mul-gone-turn-2 c = search needs
 
--- src/lib.rt:101:27
 sub-gone-turn : tie.Need-sub-gone-turn Inv-loop μ-loop
 sub-gone-turn c = search needs
 
--- src/lib.rt:101:27
 part-gone-turn-start : tie.Need-part-gone-turn-start Inv-loop μ-loop
 part-gone-turn-start c = search needs
 
--- src/lib.rt:101:27
 part-gone-turn-end : tie.Need-part-gone-turn-end Inv-loop μ-loop
 part-gone-turn-end c = search needs
 
--- src/lib.rt:101:14
 gone-turn-requires : tie.Need-gone-turn-requires Inv-loop μ-loop
 gone-turn-requires c κs =
     let k = c .before .before .before .before .before in
@@ -90,7 +70,6 @@ gone-turn-requires c κs =
     let y = s .pre .0 in
     (going-ready weight (k .loop .inv .3 (y .state) (y .fits)), (omega (arith, c .before .before .before .before .loop-test .taken, c .before .before .address-count2 .ensures, k .loop .inv .2 .1), s .pre .1))
 
--- src/lib.rt:101:9
 add-k : tie.Need-add-k Inv-loop μ-loop
 add-k c =
     let k = c .before .before .before .before .before .before .before .before .before .before in
@@ -106,15 +85,12 @@ add-k c =
     let facts = gone-facts a n (k .loop .j + 1) (gone-next a n (k .loop .j) (k .loop .inv .3 (y .state) (y .fits)) taken i e (λ x f. turn x f)) (y .fits) in
     record { fits = omega (arith, facts .0 .3) }
 
--- src/lib.rt:102:9
 add-j : tie.Need-add-j Inv-loop μ-loop
 add-j c = search needs
 
--- src/lib.rt:99:5
 loop-less : tie.Need-loop-less Inv-loop μ-loop
 loop-less c = search needs
 
--- src/lib.rt:99:5
 loop-again : tie.Need-loop-again Inv-loop μ-loop
 loop-again c =
     let k = c .before .before .before .before .before .before .before .before .before .before in
@@ -133,15 +109,12 @@ loop-again c =
       λ st f. gone-next a n (k .loop .j) (k .loop .inv .3 st f) taken i e (λ x f. turn x f),
     )
 
--- src/lib.rt:91:1
 same-length : tie.Need-same-length Inv-loop μ-loop
 same-length c = c .before .loop .inv .2 .0 .1 ∙ sym (sizes-valid (ready-valid (c .before .before .before .before .before .before .before .pre .0)) .long)
 
--- src/lib.rt:91:1
 same-length-2 : tie.Need-same-length-2 Inv-loop μ-loop
 same-length-2 c = search needs
 
--- src/lib.rt:91:1
 returns : tie.Need-returns Inv-loop μ-loop
 returns c =
     let k = c .before in

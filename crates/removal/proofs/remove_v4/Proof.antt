@@ -1,22 +1,14 @@
 use Rattle.removal.specs.One.{present-ready, present-fit, primary-present, removed-step}
 use Rattle.leave.specs.Turns.{step-facts}
-use Rattle.definition.specs.Kept.Shrinking.{weight}
 use native.Mathlib.Omega.{arith}
-use mathlib.Core.Path.{sym, _∙_}
 use Prim.Native.Nat.{_-_}
 use borrow.Author.Needs.{needs}
 use Rattle.removal.proofs.remove_v4.Statement.{statement}
 use Rattle.removal.proofs.remove_v4.Tie as tie
-use Rattle.removal.proofs.remove_v4.Reads as reads
-use Rattle.removal.proofs.remove_v4.Lts as lts
-use Rattle.removal.proofs.remove_one.Reads as remove-one-reads
-use Rattle.removal.proofs.remove_secondaries.Reads as remove-secondaries-reads
 
--- src/lib.rt:112:9
 remove-secondaries-requires : tie.Need-remove-secondaries-requires
 remove-secondaries-requires c κs = (present-ready (c .before .before .before .before .before .pre), present-fit (c .before .before .before .before .before .pre))
 
--- src/lib.rt:113:31
 mul-remove-one : tie.Need-mul-remove-one
 mul-remove-one c =
     let s = c .before .before .before .before .before .before .before .before .before .before .before in
@@ -24,7 +16,6 @@ mul-remove-one c =
     let t = c .before .before .before .before .before .remove-secondaries .ensures (y .state) (y .fits) in
     record { fits = omega (arith, (step-facts (y .fits) t) .3) }
 
--- src/lib.rt:113:23
 mul-remove-one-2 : tie.Need-mul-remove-one-2
 mul-remove-one-2 c =
     let s = c .before .before .before .before .before .before .before .before .before .before .before in
@@ -32,7 +23,6 @@ mul-remove-one-2 c =
     let t = c .before .before .before .before .before .remove-secondaries .ensures (y .state) (y .fits) in
     record { fits = omega (arith, (step-facts (y .fits) t) .3) }
 
--- src/lib.rt:113:23
 sub-remove-one : tie.Need-sub-remove-one
 sub-remove-one c =
     let s = c .before .before .before .before .before .before .before .before .before .before .before in
@@ -40,7 +30,6 @@ sub-remove-one c =
     let t = c .before .before .before .before .before .remove-secondaries .ensures (y .state) (y .fits) in
     (step-facts (y .fits) t) .0
 
--- src/lib.rt:113:23
 part-remove-one-start : tie.Need-part-remove-one-start
 part-remove-one-start c =
     let s = c .before .before .before .before .before .before .before .before .before .before .before in
@@ -48,11 +37,9 @@ part-remove-one-start c =
     let t = c .before .before .before .before .before .remove-secondaries .ensures (y .state) (y .fits) in
     omega (arith, (step-facts (y .fits) t) .0)
 
--- src/lib.rt:113:23
 part-remove-one-end : tie.Need-part-remove-one-end
 part-remove-one-end c = search needs
 
--- src/lib.rt:113:9
 remove-one-requires : tie.Need-remove-one-requires
 remove-one-requires c κs =
     let s = c .before .before .before .before .before .before .before .before .before .before .before .before in
@@ -60,7 +47,6 @@ remove-one-requires c κs =
     let t = c .before .before .before .before .before .before .remove-secondaries .ensures (y .state) (y .fits) in
     primary-present (s .args .a .now) (y .there) t
 
--- src/lib.rt:113:5
 add-result : tie.Need-add-result
 add-result c =
     let s = c .before .before .before .before .before .before .before .before .before .before .before .before .before .before .before .before .before in
@@ -69,15 +55,12 @@ add-result c =
     let p = primary-present (s .args .a .now) (y .there) t in
     record { fits = omega (arith, (step-facts (y .fits) t) .3, (step-facts (p .fits) (c .before .before .before .before .remove-one .ensures (p .state) (p .fits) (p .there))) .3) }
 
--- src/lib.rt:108:1
 same-length : tie.Need-same-length
 same-length c = search needs
 
--- src/lib.rt:108:1
 same-length-2 : tie.Need-same-length-2
 same-length-2 c = search needs
 
--- src/lib.rt:108:1
 returns : tie.Need-returns
 returns c = λ st f q.
     removed-step (c .before .before .before .before .before .before .before .before .before .before .before .before .before .before .before .before .before .args .a .now) q (c .before .before .before .before .before .before .before .before .before .before .before .remove-secondaries .ensures st f) (λ m g p. c .before .before .before .before .remove-one .ensures m g p)

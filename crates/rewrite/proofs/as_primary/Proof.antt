@@ -1,13 +1,9 @@
 use native.Mathlib.Omega.{arith}
 use lib.Dec.{lit<}
 use Rattle.layout.specs.Bits.{clear-and}
-use borrow.Author.Needs.{needs}
 use Rattle.rewrite.proofs.as_primary.Statement.{statement}
 use Rattle.rewrite.proofs.as_primary.Tie as tie
-use Rattle.rewrite.proofs.as_primary.Reads as reads
-use Rattle.rewrite.proofs.as_primary.Lts as lts
 
--- src/lib.rt:23:1
 returns : tie.Need-returns
 returns c = clear-and 0 (c .args .flags) (lit< tt) (omega arith)
 

@@ -7,28 +7,19 @@ use Rattle.rewrite.specs.Rows.{secondary-row}
 use borrow.Author.Needs.{needs}
 use Rattle.rewrite.proofs.as_secondary.Statement.{statement}
 use Rattle.rewrite.proofs.as_secondary.Tie as tie
-use Rattle.rewrite.proofs.as_secondary.Reads as reads
-use Rattle.rewrite.proofs.as_secondary.Lts as lts
-use Rattle.rewrite.proofs.flagged.Reads as flagged-reads
-use Rattle.rewrite.proofs.second.Reads as second-reads
 
--- src/lib.rt:153:23
 shared-slice-read-second : tie.Need-shared-slice-read-second
 shared-slice-read-second c = search needs
 
--- src/lib.rt:153:16
 second-requires : tie.Need-second-requires
 second-requires c κs = search needs
 
--- src/lib.rt:153:5
 flagged-requires : tie.Need-flagged-requires
 flagged-requires c κs = search needs
 
--- src/lib.rt:148:1
 same-length : tie.Need-same-length
 same-length c = search needs
 
--- src/lib.rt:148:1
 returns : tie.Need-returns
 returns c =
     let w = c .before .before in

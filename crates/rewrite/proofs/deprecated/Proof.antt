@@ -1,11 +1,7 @@
 use Rattle.layout.specs.Bits.{set-or}
-use borrow.Author.Needs.{needs}
 use Rattle.rewrite.proofs.deprecated.Statement.{statement}
 use Rattle.rewrite.proofs.deprecated.Tie as tie
-use Rattle.rewrite.proofs.deprecated.Reads as reads
-use Rattle.rewrite.proofs.deprecated.Lts as lts
 
--- src/lib.rt:35:1
 returns : tie.Need-returns
 returns c = set-or 5 (c .args .flags)
 

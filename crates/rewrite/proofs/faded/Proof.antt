@@ -7,28 +7,19 @@ use Rattle.rewrite.specs.Rows.{faded-row}
 use borrow.Author.Needs.{needs}
 use Rattle.rewrite.proofs.faded.Statement.{statement}
 use Rattle.rewrite.proofs.faded.Tie as tie
-use Rattle.rewrite.proofs.faded.Reads as reads
-use Rattle.rewrite.proofs.faded.Lts as lts
-use Rattle.rewrite.proofs.deprecated.Reads as deprecated-reads
-use Rattle.rewrite.proofs.flagged.Reads as flagged-reads
 
--- src/lib.rt:162:27
 shared-slice-read-deprecated : tie.Need-shared-slice-read-deprecated
 shared-slice-read-deprecated c = search needs
 
--- src/lib.rt:162:16
 deprecated-requires : tie.Need-deprecated-requires
 deprecated-requires c κs = search needs
 
--- src/lib.rt:162:5
 flagged-requires : tie.Need-flagged-requires
 flagged-requires c κs = search needs
 
--- src/lib.rt:157:1
 same-length : tie.Need-same-length
 same-length c = search needs
 
--- src/lib.rt:157:1
 returns : tie.Need-returns
 returns c =
     let w = c .before .before in

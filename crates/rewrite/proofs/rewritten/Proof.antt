@@ -8,85 +8,61 @@ use Rattle.rewrite.specs.Rows.{rewritten-words}
 use borrow.Author.Needs.{needs}
 use Rattle.rewrite.proofs.rewritten.Statement.{statement}
 use Rattle.rewrite.proofs.rewritten.Tie as tie
-use Rattle.rewrite.proofs.rewritten.Reads as reads
-use Rattle.rewrite.proofs.rewritten.Lts as lts
-use Rattle.life.proofs.Nanoseconds.high.Reads as high-reads
-use Rattle.life.proofs.Nanoseconds.low.Reads as low-reads
-use Rattle.words.proofs.store.Reads as store-reads
 
--- src/lib.rt:42:9
 low-requires : tie.Need-low-requires
 low-requires c κs = search needs
 
--- src/lib.rt:43:9
 high-requires : tie.Need-high-requires
 high-requires c κs = search needs
 
--- src/lib.rt:44:9
 low-requires-2 : tie.Need-low-requires-2
 low-requires-2 c κs = search needs
 
--- src/lib.rt:45:9
 high-requires-2 : tie.Need-high-requires-2
 high-requires-2 c κs = search needs
 
--- src/lib.rt:47:9
 shared-slice-read-t15 : tie.Need-shared-slice-read-t15
 shared-slice-read-t15 c = search needs
 
--- src/lib.rt:48:9
 shared-slice-read-t17 : tie.Need-shared-slice-read-t17
 shared-slice-read-t17 c = search needs
 
--- src/lib.rt:49:9
 shared-slice-read-t19 : tie.Need-shared-slice-read-t19
 shared-slice-read-t19 c = search needs
 
--- src/lib.rt:50:9
 shared-slice-read-t21 : tie.Need-shared-slice-read-t21
 shared-slice-read-t21 c = search needs
 
--- src/lib.rt:51:9
 shared-slice-read-t23 : tie.Need-shared-slice-read-t23
 shared-slice-read-t23 c = search needs
 
--- src/lib.rt:52:9
 shared-slice-read-t25 : tie.Need-shared-slice-read-t25
 shared-slice-read-t25 c = search needs
 
--- src/lib.rt:55:9
 shared-slice-read-t27 : tie.Need-shared-slice-read-t27
 shared-slice-read-t27 c = search needs
 
--- src/lib.rt:56:9
 shared-slice-read-t29 : tie.Need-shared-slice-read-t29
 shared-slice-read-t29 c = search needs
 
--- src/lib.rt:57:9
 shared-slice-read-t31 : tie.Need-shared-slice-read-t31
 shared-slice-read-t31 c = search needs
 
--- src/lib.rt:58:9
 shared-slice-read-t33 : tie.Need-shared-slice-read-t33
 shared-slice-read-t33 c = search needs
 
--- src/lib.rt:59:9
 shared-slice-read-t35 : tie.Need-shared-slice-read-t35
 shared-slice-read-t35 c = search needs
 
--- src/lib.rt:68:26
 slice-aggregate-store : tie.Need-slice-aggregate-store
 slice-aggregate-store c = search needs
 
--- src/lib.rt:68:5
 store-requires : tie.Need-store-requires
 store-requires c κs = search needs
 
--- src/lib.rt:35:1
 same-length : tie.Need-same-length
 same-length c = search needs
 
--- src/lib.rt:35:1
 returns : tie.Need-returns
 returns c =
     let w = c .before .before in

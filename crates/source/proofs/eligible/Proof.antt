@@ -2,18 +2,13 @@ use Rattle.source.specs.Laws.{eligible-test}
 use borrow.Author.Needs.{needs}
 use Rattle.source.proofs.eligible.Statement.{statement}
 use Rattle.source.proofs.eligible.Tie as tie
-use Rattle.source.proofs.eligible.Reads as reads
-use Rattle.source.proofs.eligible.Lts as lts
 
--- src/lib.rt:33:6
 shared-slice-read-result : tie.Need-shared-slice-read-result
 shared-slice-read-result c = search needs
 
--- src/lib.rt:33:33
 shared-slice-read-result-2 : tie.Need-shared-slice-read-result-2
 shared-slice-read-result-2 c = search needs
 
--- src/lib.rt:29:1
 returns : tie.Need-returns
 returns c =
     let a = c .before .before .args in

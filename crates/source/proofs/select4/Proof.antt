@@ -12,10 +12,6 @@ use Rattle.source.specs.Pass.{Sofar, part-fits, select-start, select-fou
 use borrow.Author.Needs.{needs}
 use Rattle.source.proofs.select4.Statement.{statement}
 use Rattle.source.proofs.select4.Tie as tie
-use Rattle.source.proofs.select4.Reads as reads
-use Rattle.source.proofs.select4.Lts as lts
-use Rattle.source.proofs.eligible.Reads as eligible-reads
-use Rattle.source.proofs.reaches.Reads as reaches-reads
 
 abbrev Inv-loop : tie.InvT-loop
 Inv-loop addresses n dst-present dst scope kept₀ i₀ kept i =
@@ -26,55 +22,44 @@ Inv-loop addresses n dst-present dst scope kept₀ i₀ kept i =
 abbrev μ-loop : tie.MeasureT-loop
 μ-loop addresses n dst-present dst scope kept₀ i₀ kept i = n - i
 
--- src/lib.rt:52:5
 loop-holds : tie.Need-loop-holds Inv-loop μ-loop
 loop-holds c =
     let a = c .before .args in
     (search needs, search needs, λ long l h. select-start (a .addresses .now) (a .n) long (wanted (a .dst-present) (a .dst)) (a .scope) l h)
 
--- src/lib.rt:53:18
 mul-at : tie.Need-mul-at Inv-loop μ-loop
 mul-at c = search needs
 
--- src/lib.rt:54:32
 add-a : tie.Need-add-a Inv-loop μ-loop
 add-a c = search needs
 
--- src/lib.rt:54:17
 mul-a : tie.Need-mul-a Inv-loop μ-loop
 mul-a c = search needs
 
--- src/lib.rt:54:17
 sub-a : tie.Need-sub-a Inv-loop μ-loop
 sub-a c = search needs
 
--- src/lib.rt:54:17
 part-a-start : tie.Need-part-a-start Inv-loop μ-loop
 part-a-start c = search needs
 
--- src/lib.rt:54:17
 part-a-end : tie.Need-part-a-end Inv-loop μ-loop
 part-a-end c = search needs
 
--- src/lib.rt:55:13
 eligible-requires : tie.Need-eligible-requires Inv-loop μ-loop
 eligible-requires c κs =
     let k = c .before .before in
     let s = k .before .before in
     part-fits (s .args .addresses .now) (s .args .n) (s .pre .0) (k .loop .i) (c .before .loop-test .taken) (s .pre .1) .0
 
--- src/lib.rt:56:13
 reaches-requires : tie.Need-reaches-requires Inv-loop μ-loop
 reaches-requires c κs =
     let k = c .before .before .before in
     let s = k .before .before in
     part-fits (s .args .addresses .now) (s .args .n) (s .pre .0) (k .loop .i) (c .before .before .loop-test .taken) (s .pre .1)
 
--- src/lib.rt:58:36
 shared-slice-read-t19 : tie.Need-shared-slice-read-t19 Inv-loop μ-loop
 shared-slice-read-t19 c = search needs
 
--- src/lib.rt:58:13
 returns : tie.Need-returns Inv-loop μ-loop
 returns c =
     let r = c .before .before in
@@ -86,15 +71,12 @@ returns c =
     (r .before .before .before .loop-test .taken) (k .loop .inv .2 (s .pre .0) l h)
     (r .before .eligible .result) (r .reaches .result) (r .before .eligible .ensures) (r .reaches .ensures) (c .before .if1 .taken)
 
--- src/lib.rt:63:9
 add-i : tie.Need-add-i Inv-loop μ-loop
 add-i c = search needs
 
--- src/lib.rt:52:5
 loop-less : tie.Need-loop-less Inv-loop μ-loop
 loop-less c = search needs
 
--- src/lib.rt:52:5
 loop-again : tie.Need-loop-again Inv-loop μ-loop
 loop-again c =
     let r = c .before .before in
@@ -118,7 +100,6 @@ loop-again c =
           (c .if2 .came),
     )
 
--- src/lib.rt:66:9
 returns-2 : tie.Need-returns-2 Inv-loop μ-loop
 returns-2 c =
     let k = c .before .before in
@@ -128,19 +109,15 @@ returns-2 c =
     select-none (a .addresses .now) (a .n) (s .pre .0) (wanted (a .dst-present) (a .dst)) (a .scope) l h (k .loop .i) (k .loop .kept)
     (c .before .loop-test .left) (k .loop .inv .2 (s .pre .0) l h) (c .if3 .taken)
 
--- src/lib.rt:68:31
 mul-t22 : tie.Need-mul-t22 Inv-loop μ-loop
 mul-t22 c = search needs
 
--- src/lib.rt:68:21
 mul-t23 : tie.Need-mul-t23 Inv-loop μ-loop
 mul-t23 c = search needs
 
--- src/lib.rt:68:21
 shared-slice-read-t25 : tie.Need-shared-slice-read-t25 Inv-loop μ-loop
 shared-slice-read-t25 c = search needs
 
--- src/lib.rt:46:1
 returns-3 : tie.Need-returns-3 Inv-loop μ-loop
 returns-3 c =
     let e = c .before in

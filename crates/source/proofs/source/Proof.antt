@@ -3,21 +3,14 @@ use Rattle.source.specs.Answer.{width-at, source-local, source-none, sou
 use borrow.Author.Needs.{needs}
 use Rattle.source.proofs.source.Statement.{statement}
 use Rattle.source.proofs.source.Tie as tie
-use Rattle.source.proofs.source.Reads as reads
-use Rattle.source.proofs.source.Lts as lts
-use Rattle.lookup.proofs.lookup4_in.Reads as lookup4-in-reads
 use Rattle.lookup.specs.Answer.{place-within}
-use Rattle.source.proofs.source4.Reads as source4-reads
 
--- src/lib.rt:91:9
 lookup4-in-requires : tie.Need-lookup4-in-requires
 lookup4-in-requires c κs = search needs
 
--- src/lib.rt:103:28
 enum-known-found : tie.Need-enum-known-found
 enum-known-found c = search needs
 
--- src/lib.rt:104:22
 mul-at : tie.Need-mul-at
 mul-at c =
     let f = c .before in
@@ -26,7 +19,6 @@ mul-at c =
     let a = s .args in
     omega (arith, place-within (a .m) (g .lookup4-in .result) (f .found .given .0 .0) (f .found .given .1) (g .lookup4-in .ensures .0))
 
--- src/lib.rt:105:60
 add-source4 : tie.Need-add-source4
 add-source4 c =
     let f = c .before in
@@ -35,7 +27,6 @@ add-source4 c =
     let a = s .args in
     omega (arith, place-within (a .m) (g .lookup4-in .result) (f .found .given .0 .0) (f .found .given .1) (g .lookup4-in .ensures .0))
 
--- src/lib.rt:105:48
 mul-source4 : tie.Need-mul-source4
 mul-source4 c =
     let f = c .before in
@@ -44,15 +35,12 @@ mul-source4 c =
     let a = s .args in
     omega (arith, place-within (a .m) (g .lookup4-in .result) (f .found .given .0 .0) (f .found .given .1) (g .lookup4-in .ensures .0))
 
--- src/lib.rt:105:48
 sub-source4 : tie.Need-sub-source4
 sub-source4 c = search needs
 
--- src/lib.rt:105:48
 part-source4-start : tie.Need-part-source4-start
 part-source4-start c = search needs
 
--- src/lib.rt:105:48
 part-source4-end : tie.Need-part-source4-end
 part-source4-end c =
     let f = c .before in
@@ -61,7 +49,6 @@ part-source4-end c =
     let a = s .args in
     omega (arith, place-within (a .m) (g .lookup4-in .result) (f .found .given .0 .0) (f .found .given .1) (g .lookup4-in .ensures .0))
 
--- src/lib.rt:105:17
 source4-requires : tie.Need-source4-requires
 source4-requires c κs =
     let f = c .before .before in
@@ -71,19 +58,15 @@ source4-requires c κs =
     let within = place-within (a .m) (g .lookup4-in .result) (f .found .given .0 .0) (f .found .given .1) (g .lookup4-in .ensures .0) in
     (s .pre .0, s .pre .1, width-at (a .routes .now) (a .m) (s .pre .2) (f .found .given .0 .0) within)
 
--- src/lib.rt:107:33
 enum-known-chosen : tie.Need-enum-known-chosen
 enum-known-chosen c = search needs
 
--- src/lib.rt:108:38
 enum-told : tie.Need-enum-told
 enum-told c = search needs
 
--- src/lib.rt:111:39
 enum-told-2 : tie.Need-enum-told-2
 enum-told-2 c = search needs
 
--- src/lib.rt:87:1
 returns : tie.Need-returns
 returns c =
     let o = c .before .before .before in
@@ -96,7 +79,6 @@ returns c =
     source-local (a .routes .now) (a .m) (s .pre .2) (a .default-listed) l k j (a .ip) (g .lookup4-in .result) (g .lookup4-in .ensures .1 k j)
     (f .found .given .0 .0) (f .found .given .1) within (o .source4 .result) (o .source4 .ensures l h) (c .before .chosen .given .0 .0) (c .before .chosen .given .1)
 
--- src/lib.rt:87:1
 returns-2 : tie.Need-returns-2
 returns-2 c =
     let o = c .before .before in
@@ -109,7 +91,6 @@ returns-2 c =
     source-none (a .routes .now) (a .m) (s .pre .2) (a .default-listed) l k j (a .ip) (g .lookup4-in .result) (g .lookup4-in .ensures .1 k j)
     (f .found .given .0 .0) (f .found .given .1) within (o .source4 .result) (o .source4 .ensures l h) (c .enum-told .given .1)
 
--- src/lib.rt:87:1
 returns-3 : tie.Need-returns-3
 returns-3 c =
     let g = c .before .before in

@@ -2,52 +2,39 @@ use Rattle.source.specs.Answer.{source4-preferred, source4-local, source
 use borrow.Author.Needs.{needs}
 use Rattle.source.proofs.source4.Statement.{statement}
 use Rattle.source.proofs.source4.Tie as tie
-use Rattle.source.proofs.source4.Reads as reads
-use Rattle.source.proofs.source4.Lts as lts
-use Rattle.source.proofs.select4.Reads as select4-reads
 
--- src/lib.rt:77:8
 shared-slice-read-if1 : tie.Need-shared-slice-read-if1
 shared-slice-read-if1 c = search needs
 
--- src/lib.rt:78:32
 shared-slice-read-t9 : tie.Need-shared-slice-read-t9
 shared-slice-read-t9 c = search needs
 
--- src/lib.rt:78:9
 returns : tie.Need-returns
 returns c =
     let s = c .before .before .before .before .before in
     λ l h. source4-preferred l (s .args .row .now) (s .args .ip) (c .before .if1 .taken)
 
--- src/lib.rt:80:8
 shared-slice-read-if2 : tie.Need-shared-slice-read-if2
 shared-slice-read-if2 c = search needs
 
--- src/lib.rt:81:9
 returns-2 : tie.Need-returns-2
 returns-2 c =
     let e = c .before .before in
     let s = e .before .before .before .before in
     λ l h. source4-local l (s .args .row .now) (s .args .ip) (e .if1 .left) (c .if2 .taken)
 
--- src/lib.rt:83:27
 shared-slice-read-select4 : tie.Need-shared-slice-read-select4
 shared-slice-read-select4 c = search needs
 
--- src/lib.rt:83:41
 shared-slice-read-select4-2 : tie.Need-shared-slice-read-select4-2
 shared-slice-read-select4-2 c = search needs
 
--- src/lib.rt:83:50
 shared-slice-read-select4-3 : tie.Need-shared-slice-read-select4-3
 shared-slice-read-select4-3 c = search needs
 
--- src/lib.rt:83:5
 select4-requires : tie.Need-select4-requires
 select4-requires c κs = search needs
 
--- src/lib.rt:73:1
 returns-3 : tie.Need-returns-3
 returns-3 c =
     let f = c .before .before .before .before in

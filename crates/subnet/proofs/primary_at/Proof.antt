@@ -1,6 +1,6 @@
 use Prim.Native.Nat.{_+_, _-_, _≤_}
 use mathlib.Core.List.{List}
-use mathlib.Core.Path.{_≡_, refl, sym, _∙_}
+use mathlib.Core.Path.{_≡_, sym, _∙_}
 use native.Mathlib.Nat.{zero-add}
 use native.Mathlib.Omega.{arith}
 use lib.Dec.{lit<}
@@ -15,9 +15,6 @@ use Rattle.subnet.specs.Laws.{part-short}
 use borrow.Author.Needs.{needs}
 use Rattle.subnet.proofs.primary_at.Statement.{statement}
 use Rattle.subnet.proofs.primary_at.Tie as tie
-use Rattle.subnet.proofs.primary_at.Reads as reads
-use Rattle.subnet.proofs.primary_at.Lts as lts
-use Rattle.subnet.proofs.primary_for.Reads as primary-for-reads
 
 abbrev Inv-loop : tie.InvT-loop
 Inv-loop addresses n a i₀ i =
@@ -26,42 +23,33 @@ Inv-loop addresses n a i₀ i =
 abbrev μ-loop : tie.MeasureT-loop
 μ-loop addresses n a i₀ i = n - i
 
--- src/lib.rt:108:5
 loop-holds : tie.Need-loop-holds Inv-loop μ-loop
 loop-holds c = (search needs, λ l h. sym (zero-add (placeOf (primaryFor (c .before .before .args .a .now)) l)))
 
--- src/lib.rt:109:18
 mul-at : tie.Need-mul-at Inv-loop μ-loop
 mul-at c = search needs
 
--- src/lib.rt:110:32
 add-b : tie.Need-add-b Inv-loop μ-loop
 add-b c = search needs
 
--- src/lib.rt:110:17
 mul-b : tie.Need-mul-b Inv-loop μ-loop
 mul-b c = search needs
 
--- src/lib.rt:110:17
 sub-b : tie.Need-sub-b Inv-loop μ-loop
 sub-b c = search needs
 
--- src/lib.rt:110:17
 part-b-start : tie.Need-part-b-start Inv-loop μ-loop
 part-b-start c = search needs
 
--- src/lib.rt:110:17
 part-b-end : tie.Need-part-b-end Inv-loop μ-loop
 part-b-end c = search needs
 
--- src/lib.rt:111:12
 primary-for-requires : tie.Need-primary-for-requires Inv-loop μ-loop
 primary-for-requires c κs =
     let k = c .before .before in
     let s = k .before .before .before in
     (part-short (s .args .addresses .now) (s .args .n) (s .pre .0 .0) (s .pre .0 .1) (k .loop .i) (c .before .loop-test .taken), s .pre .1)
 
--- src/lib.rt:112:13
 returns : tie.Need-returns Inv-loop μ-loop
 returns c =
     let k = c .before .before .before .before in
@@ -69,15 +57,12 @@ returns c =
     let a = s .args in
     λ l h. find-here (a .addresses .now) (a .n) (lit< tt) (s .pre .0 .0) (primaryFor (a .a .now)) l h (k .loop .i) (k .loop .inv .1 l h) (c .before .before .before .loop-test .taken) (sym (c .before .primary-for .ensures) ∙ c .if1 .taken)
 
--- src/lib.rt:114:9
 add-i : tie.Need-add-i Inv-loop μ-loop
 add-i c = search needs
 
--- src/lib.rt:108:5
 loop-less : tie.Need-loop-less Inv-loop μ-loop
 loop-less c = search needs
 
--- src/lib.rt:108:5
 loop-again : tie.Need-loop-again Inv-loop μ-loop
 loop-again c =
     let k = c .before .before .before .before in
@@ -87,7 +72,6 @@ loop-again c =
       λ l h. find-past (a .addresses .now) (a .n) (lit< tt) (s .pre .0 .0) (primaryFor (a .a .now)) l h (k .loop .i) (k .loop .inv .1 l h) (c .before .before .before .loop-test .taken) (sym (c .before .primary-for .ensures) ∙ c .if1 .left),
     )
 
--- src/lib.rt:102:1
 returns-2 : tie.Need-returns-2 Inv-loop μ-loop
 returns-2 c =
     let k = c .before in

@@ -5,34 +5,22 @@ use Rattle.state.specs.Holds.{sizes-valid}
 use Rattle.lookup.specs.Flow.{flowOf}
 use Rattle.lookup.specs.Answer.{placed, lookupRows, lookup-rows}
 use Rattle.view.specs.Parts.{ready-routes, of-routes, listed-there}
-use borrow.Author.Needs.{needs}
 use Rattle.view.proofs.lookup4_in.Statement.{statement}
 use Rattle.view.proofs.lookup4_in.Tie as tie
-use Rattle.view.proofs.lookup4_in.Reads as reads
-use Rattle.view.proofs.lookup4_in.Lts as lts
-use Rattle.lookup.proofs.lookup4_in.Reads as lookup4-in-reads
-use Rattle.state.proofs.route_count.Reads as route-count-reads
-use Rattle.tables.proofs.listed.Reads as listed-reads
-use Rattle.view.proofs.routes.Reads as routes-reads
 
--- src/lib.rt:43:9
 listed-requires : tie.Need-listed-requires
 listed-requires c κs = c .before .pre
 
--- src/lib.rt:44:24
 routes-requires : tie.Need-routes-requires
 routes-requires c κs = c .before .before .pre
 
--- src/lib.rt:44:35
 route-count-requires : tie.Need-route-count-requires
 route-count-requires c κs = sizes-valid (c .before .before .before .pre) .long
 
--- src/lib.rt:44:5
 lookup4-in-requires : tie.Need-lookup4-in-requires
 lookup4-in-requires c κs =
     ready-routes (c .before .routes .result .now) (c .route-count .result) (c .before .before .before .before .pre) (c .before .routes .ensures) (c .route-count .ensures)
 
--- src/lib.rt:39:1
 returns : tie.Need-returns
 returns c =
     let r = c .before .before in

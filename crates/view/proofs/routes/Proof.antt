@@ -7,35 +7,25 @@ use Rattle.view.specs.Parts.{route-end}
 use borrow.Author.Needs.{needs}
 use Rattle.view.proofs.routes.Statement.{statement}
 use Rattle.view.proofs.routes.Tie as tie
-use Rattle.view.proofs.routes.Reads as reads
-use Rattle.view.proofs.routes.Lts as lts
-use Rattle.state.proofs.route_count.Reads as route-count-reads
 
--- src/lib.rt:23:9
 route-count-requires : tie.Need-route-count-requires
 route-count-requires c κs = sizes-valid (c .before .pre) .long
 
--- src/lib.rt:24:20
 mul-e : tie.Need-mul-e
 mul-e c = record { fits = omega (arith, c .route-count .ensures, route-end (c .before .before .pre) .1) }
 
--- src/lib.rt:24:13
 add-e : tie.Need-add-e
 add-e c = record { fits = omega (arith, c .route-count .ensures, route-end (c .before .before .pre) .1) }
 
--- src/lib.rt:25:5
 sub-result : tie.Need-sub-result
 sub-result c = search needs
 
--- src/lib.rt:25:5
 part-result-start : tie.Need-part-result-start
 part-result-start c = search needs
 
--- src/lib.rt:25:5
 part-result-end : tie.Need-part-result-end
 part-result-end c = omega (arith, c .route-count .ensures, route-end (c .before .before .pre) .0)
 
--- src/lib.rt:19:1
 returns : tie.Need-returns
 returns c =
     ap (λ (n : ℕ). take (1283 + 32 * n - 1283) (drop 1283 (c .before .before .before .args .s .now))) (c .before .route-count .ensures)

@@ -1,28 +1,18 @@
 use Rattle.state.specs.Holds.{sizes-valid}
 use Rattle.view.specs.Parts.{ready-addresses, of-addresses}
-use borrow.Author.Needs.{needs}
 use Rattle.view.proofs.select4.Statement.{statement}
 use Rattle.view.proofs.select4.Tie as tie
-use Rattle.view.proofs.select4.Reads as reads
-use Rattle.view.proofs.select4.Lts as lts
-use Rattle.source.proofs.select4.Reads as select4-reads
-use Rattle.state.proofs.address_count.Reads as address-count-reads
-use Rattle.view.proofs.addresses.Reads as addresses-reads
 
--- src/lib.rt:64:9
 addresses-requires : tie.Need-addresses-requires
 addresses-requires c κs = c .before .pre
 
--- src/lib.rt:65:9
 address-count-requires : tie.Need-address-count-requires
 address-count-requires c κs = sizes-valid (c .before .before .pre) .long
 
--- src/lib.rt:63:5
 select4-requires : tie.Need-select4-requires
 select4-requires c κs =
     ready-addresses (c .before .addresses .result .now) (c .address-count .result) (c .before .before .before .pre) (c .before .addresses .ensures) (c .address-count .ensures)
 
--- src/lib.rt:59:1
 returns : tie.Need-returns
 returns c = λ st h. c .select4 .ensures (st .addresses) (of-addresses (c .before .before .addresses .result .now) h (c .before .before .addresses .ensures))
 

@@ -3,39 +3,24 @@ use mathlib.Core.Bool.{Bool}
 use Rattle.source.specs.Selected.{sourceRows, source-rows}
 use Rattle.state.specs.Holds.{sizes-valid}
 use Rattle.view.specs.Parts.{ready-addresses, ready-routes, of-addresses, of-routes, listed-there}
-use borrow.Author.Needs.{needs}
 use Rattle.view.proofs.source.Statement.{statement}
 use Rattle.view.proofs.source.Tie as tie
-use Rattle.view.proofs.source.Reads as reads
-use Rattle.view.proofs.source.Lts as lts
-use Rattle.source.proofs.source.Reads as source-reads
-use Rattle.state.proofs.address_count.Reads as address-count-reads
-use Rattle.state.proofs.route_count.Reads as route-count-reads
-use Rattle.tables.proofs.listed.Reads as listed-reads
-use Rattle.view.proofs.addresses.Reads as addresses-reads
-use Rattle.view.proofs.routes.Reads as routes-reads
 
--- src/lib.rt:85:9
 listed-requires : tie.Need-listed-requires
 listed-requires c κs = c .before .pre
 
--- src/lib.rt:87:9
 addresses-requires : tie.Need-addresses-requires
 addresses-requires c κs = c .before .before .pre
 
--- src/lib.rt:88:9
 address-count-requires : tie.Need-address-count-requires
 address-count-requires c κs = sizes-valid (c .before .before .before .pre) .long
 
--- src/lib.rt:89:9
 routes-requires : tie.Need-routes-requires
 routes-requires c κs = c .before .before .before .before .pre
 
--- src/lib.rt:90:9
 route-count-requires : tie.Need-route-count-requires
 route-count-requires c κs = sizes-valid (c .before .before .before .before .before .pre) .long
 
--- src/lib.rt:86:5
 source-requires : tie.Need-source-requires
 source-requires c κs =
     let r = c .before in
@@ -46,7 +31,6 @@ source-requires c κs =
     let y = ready-routes (r .routes .result .now) (c .route-count .result) v (r .routes .ensures) (c .route-count .ensures) in
     (x .0, x .1, y .0, y .1)
 
--- src/lib.rt:81:1
 returns : tie.Need-returns
 returns c =
     let r = c .before .before in

@@ -13,9 +13,6 @@ use Rattle.definition.specs.Reference.Removal.{straysFrom}
 use borrow.Author.Needs.{needs}
 use Rattle.wanted.proofs.strays.Statement.{statement}
 use Rattle.wanted.proofs.strays.Tie as tie
-use Rattle.wanted.proofs.strays.Reads as reads
-use Rattle.wanted.proofs.strays.Lts as lts
-use Rattle.wanted.proofs.strays_from.Reads as strays-from-reads
 
 abbrev Inv-loop : tie.InvT-loop
 Inv-loop rows n ip i₀ i =
@@ -24,42 +21,33 @@ Inv-loop rows n ip i₀ i =
 abbrev μ-loop : tie.MeasureT-loop
 μ-loop rows n ip i₀ i = n - i
 
--- src/lib.rt:95:5
 loop-holds : tie.Need-loop-holds Inv-loop μ-loop
 loop-holds c = (search needs, λ l h. refl)
 
--- src/lib.rt:96:18
 mul-at : tie.Need-mul-at Inv-loop μ-loop
 mul-at c = search needs
 
--- src/lib.rt:97:27
 add-r : tie.Need-add-r Inv-loop μ-loop
 add-r c = search needs
 
--- src/lib.rt:97:17
 mul-r : tie.Need-mul-r Inv-loop μ-loop
 mul-r c = search needs
 
--- src/lib.rt:97:17
 sub-r : tie.Need-sub-r Inv-loop μ-loop
 sub-r c = search needs
 
--- src/lib.rt:97:17
 part-r-start : tie.Need-part-r-start Inv-loop μ-loop
 part-r-start c = search needs
 
--- src/lib.rt:97:17
 part-r-end : tie.Need-part-r-end Inv-loop μ-loop
 part-r-end c = search needs
 
--- src/lib.rt:98:12
 strays-from-requires : tie.Need-strays-from-requires Inv-loop μ-loop
 strays-from-requires c κs =
     let k = c .before .before in
     let s = k .before .before in
     part-width (s .args .rows .now) (s .args .n) (lit< tt) (s .pre .0) (s .pre .1) (k .loop .i) (c .before .loop-test .taken)
 
--- src/lib.rt:99:13
 returns : tie.Need-returns Inv-loop μ-loop
 returns c =
     let k = c .before .before .before .before in
@@ -67,15 +55,12 @@ returns c =
     let a = s .args in
     λ l h. some-here (a .rows .now) (a .n) (lit< tt) (s .pre .0) (straysFrom (a .ip)) l h (k .loop .i) (k .loop .inv .1 l h) (c .before .before .before .loop-test .taken) (sym (c .before .strays-from .ensures) ∙ c .if1 .taken)
 
--- src/lib.rt:101:9
 add-i : tie.Need-add-i Inv-loop μ-loop
 add-i c = search needs
 
--- src/lib.rt:95:5
 loop-less : tie.Need-loop-less Inv-loop μ-loop
 loop-less c = search needs
 
--- src/lib.rt:95:5
 loop-again : tie.Need-loop-again Inv-loop μ-loop
 loop-again c =
     let k = c .before .before .before .before in
@@ -85,7 +70,6 @@ loop-again c =
       λ l h. some-past (a .rows .now) (a .n) (lit< tt) (s .pre .0) (straysFrom (a .ip)) l h (k .loop .i) (k .loop .inv .1 l h) (c .before .before .before .loop-test .taken) (sym (c .before .strays-from .ensures) ∙ c .if1 .left),
     )
 
--- src/lib.rt:90:1
 returns-2 : tie.Need-returns-2 Inv-loop μ-loop
 returns-2 c =
     let k = c .before in

@@ -14,9 +14,6 @@ use Rattle.wanted.specs.Laws.{wanted-rows}
 use borrow.Author.Needs.{needs}
 use Rattle.wanted.proofs.wanted.Statement.{statement}
 use Rattle.wanted.proofs.wanted.Tie as tie
-use Rattle.wanted.proofs.wanted.Reads as reads
-use Rattle.wanted.proofs.wanted.Lts as lts
-use Rattle.wanted.proofs.wants.Reads as wants-reads
 
 abbrev Inv-loop : tie.InvT-loop
 Inv-loop addresses n r dst len kind i₀ i =
@@ -25,54 +22,42 @@ Inv-loop addresses n r dst len kind i₀ i =
 abbrev μ-loop : tie.MeasureT-loop
 μ-loop addresses n r dst len kind i₀ i = n - i
 
--- src/lib.rt:66:15
 shared-slice-read-dst : tie.Need-shared-slice-read-dst Inv-loop μ-loop
 shared-slice-read-dst c = search needs
 
--- src/lib.rt:67:15
 shared-slice-read-len : tie.Need-shared-slice-read-len Inv-loop μ-loop
 shared-slice-read-len c = search needs
 
--- src/lib.rt:68:16
 shared-slice-read-kind : tie.Need-shared-slice-read-kind Inv-loop μ-loop
 shared-slice-read-kind c = search needs
 
--- src/lib.rt:70:5
 loop-holds : tie.Need-loop-holds Inv-loop μ-loop
 loop-holds c = (search needs, λ l h. refl)
 
--- src/lib.rt:71:18
 mul-at : tie.Need-mul-at Inv-loop μ-loop
 mul-at c = search needs
 
--- src/lib.rt:72:32
 add-a : tie.Need-add-a Inv-loop μ-loop
 add-a c = search needs
 
--- src/lib.rt:72:17
 mul-a : tie.Need-mul-a Inv-loop μ-loop
 mul-a c = search needs
 
--- src/lib.rt:72:17
 sub-a : tie.Need-sub-a Inv-loop μ-loop
 sub-a c = search needs
 
--- src/lib.rt:72:17
 part-a-start : tie.Need-part-a-start Inv-loop μ-loop
 part-a-start c = search needs
 
--- src/lib.rt:72:17
 part-a-end : tie.Need-part-a-end Inv-loop μ-loop
 part-a-end c = search needs
 
--- src/lib.rt:73:12
 wants-requires : tie.Need-wants-requires Inv-loop μ-loop
 wants-requires c κs =
     let k = c .before .before in
     let s = k .before .before .before .before .before .before in
     part-short (s .args .addresses .now) (s .args .n) (s .pre .0 .0) (s .pre .0 .1) (k .loop .i) (c .before .loop-test .taken)
 
--- src/lib.rt:74:13
 returns : tie.Need-returns Inv-loop μ-loop
 returns c =
     let k = c .before .before .before .before in
@@ -80,15 +65,12 @@ returns c =
     let a = s .args in
     λ l h. some-here (a .addresses .now) (a .n) (lit< tt) (s .pre .0 .0) (wantsRow (a .r .now)) l h (k .loop .i) (k .loop .inv .1 l h) (c .before .before .before .loop-test .taken) (sym (c .before .wants .ensures) ∙ c .if1 .taken) ∙ wanted-rows l (a .r .now)
 
--- src/lib.rt:76:9
 add-i : tie.Need-add-i Inv-loop μ-loop
 add-i c = search needs
 
--- src/lib.rt:70:5
 loop-less : tie.Need-loop-less Inv-loop μ-loop
 loop-less c = search needs
 
--- src/lib.rt:70:5
 loop-again : tie.Need-loop-again Inv-loop μ-loop
 loop-again c =
     let k = c .before .before .before .before in
@@ -98,7 +80,6 @@ loop-again c =
       λ l h. some-past (a .addresses .now) (a .n) (lit< tt) (s .pre .0 .0) (wantsRow (a .r .now)) l h (k .loop .i) (k .loop .inv .1 l h) (c .before .before .before .loop-test .taken) (sym (c .before .wants .ensures) ∙ c .if1 .left),
     )
 
--- src/lib.rt:61:1
 returns-2 : tie.Need-returns-2 Inv-loop μ-loop
 returns-2 c =
     let k = c .before in

@@ -2,28 +2,19 @@ use borrow.Author.Tests.{eq-eqb, ne-eqb}
 use borrow.Author.Needs.{needs}
 use Rattle.wanted.proofs.wants.Statement.{statement}
 use Rattle.wanted.proofs.wants.Tie as tie
-use Rattle.wanted.proofs.wants.Reads as reads
-use Rattle.wanted.proofs.wants.Lts as lts
-use Rattle.wanted.proofs.wants_broadcast.Reads as wants-broadcast-reads
-use Rattle.wanted.proofs.wants_local.Reads as wants-local-reads
 
--- src/lib.rt:52:9
 wants-local-requires : tie.Need-wants-local-requires
 wants-local-requires c κs = search needs
 
--- src/lib.rt:52:9
 returns : tie.Need-returns
 returns c = simp (eq-eqb _ _ (c .before .if1 .taken)) (c .wants-local .ensures)
 
--- src/lib.rt:55:9
 wants-broadcast-requires : tie.Need-wants-broadcast-requires
 wants-broadcast-requires c κs = search needs
 
--- src/lib.rt:55:9
 returns-2 : tie.Need-returns-2
 returns-2 c = simp (ne-eqb _ _ (c .before .before .if1 .left), eq-eqb _ _ (c .before .if2 .taken)) (c .wants-broadcast .ensures)
 
--- src/lib.rt:47:1
 returns-3 : tie.Need-returns-3
 returns-3 c = simp (ne-eqb _ _ (c .before .if1 .left), ne-eqb _ _ (c .if2 .left))
 

@@ -7,31 +7,21 @@ use Rattle.whole.specs.Room.{add-certain}
 use borrow.Author.Needs.{needs}
 use Rattle.whole.proofs.add_v4.Statement.{statement}
 use Rattle.whole.proofs.add_v4.Tie as tie
-use Rattle.whole.proofs.add_v4.Reads as reads
-use Rattle.whole.proofs.add_v4.Lts as lts
-use Rattle.adding.proofs.add_v4.Reads as add-v4-reads
-use Rattle.whole.proofs.has_room.Reads as has-room-reads
-use Rattle.whole.proofs.try_add_v4.Reads as try-add-v4-reads
 
--- src/lib.rt:66:8
 has-room-requires : tie.Need-has-room-requires
 has-room-requires c κs =
     let v = c .before .before .before .before .pre .0 in
     (sound-long v, (sizes-of (v .holds) .routes, omega arith))
 
--- src/lib.rt:67:9
 add-v4-requires : tie.Need-add-v4-requires
 add-v4-requires c κs = search needs
 
--- src/lib.rt:67:9
 same-length : tie.Need-same-length
 same-length c = search needs
 
--- src/lib.rt:67:9
 same-length-2 : tie.Need-same-length-2
 same-length-2 c = search needs
 
--- src/lib.rt:67:9
 returns : tie.Need-returns
 returns c =
     let d = c .before .before .before .before in
@@ -47,19 +37,15 @@ returns c =
       ),
     )
 
--- src/lib.rt:69:5
 try-add-v4-requires : tie.Need-try-add-v4-requires
 try-add-v4-requires c κs = search needs
 
--- src/lib.rt:58:1
 same-length-3 : tie.Need-same-length-3
 same-length-3 c = search needs
 
--- src/lib.rt:58:1
 same-length-4 : tie.Need-same-length-4
 same-length-4 c = search needs
 
--- src/lib.rt:58:1
 returns-2 : tie.Need-returns-2
 returns-2 c = search needs
 

@@ -2,49 +2,37 @@ use mathlib.Core.Path.{refl, sym, _∙_}
 use native.Mathlib.Omega.{arith}
 use Rattle.definition.specs.Reference.Addresses.{addV4}
 use Rattle.state.specs.Holds.{sound-long}
-use Rattle.whole.specs.Copy.{copy-sound, copy-holds, take-room, call-few, Tried, tried-comes, comes-back, refused-left, full-left, rows-full, refused-full}
+use Rattle.whole.specs.Copy.{copy-sound, copy-holds, take-room, call-few, tried-comes, comes-back, refused-left, full-left, rows-full, refused-full}
 use Prim.Native.Nat.{_*_}
 use borrow.Author.Needs.{needs}
 use Rattle.whole.proofs.try_add_v4.Statement.{statement}
 use Rattle.whole.proofs.try_add_v4.Tie as tie
-use Rattle.whole.proofs.try_add_v4.Reads as reads
-use Rattle.whole.proofs.try_add_v4.Lts as lts
-use Rattle.adding.proofs.add_v4.Reads as add-v4-reads
-use Rattle.words.proofs.store.Reads as store-reads
 
--- src/lib.rt:29:18
 slice-aggregate-store : tie.Need-slice-aggregate-store
 slice-aggregate-store c = search needs
 
--- src/lib.rt:29:5
 store-requires : tie.Need-store-requires
 store-requires c κs =
     omega (arith, sound-long (c .before .before .before .before .before .pre .0))
 
--- src/lib.rt:31:31
 slice-aggregate-add-v4 : tie.Need-slice-aggregate-add-v4
 slice-aggregate-add-v4 c = search needs
 
--- src/lib.rt:31:42
 slice-aggregate-add-v4-2 : tie.Need-slice-aggregate-add-v4-2
 slice-aggregate-add-v4-2 c = search needs
 
--- src/lib.rt:31:9
 add-v4-requires : tie.Need-add-v4-requires
 add-v4-requires c κs =
     let w = c .before .before .before in
     let s = w .before .before .before .before .before .before in
     (copy-sound _ (s .args .s .now) (sym (sound-long (s .pre .0))) (w .store .ensures) (s .pre .0), (s .pre .1 .0, omega arith))
 
--- src/lib.rt:33:20
 enum-known-came : tie.Need-enum-known-came
 enum-known-came c = search needs
 
--- src/lib.rt:34:32
 slice-aggregate-store-2 : tie.Need-slice-aggregate-store-2
 slice-aggregate-store-2 c = search needs
 
--- src/lib.rt:34:13
 store-requires-2 : tie.Need-store-requires-2
 store-requires-2 c κs =
     let d = c .before .before .before .before .before .before .before in
@@ -59,7 +47,6 @@ store-requires-2 c κs =
     let x = tried-comes (addV4 q (a .clock .0) (v .state)) (d .add-v4 .result) k (e .came .given .1) (d .add-v4 .ensures .1 (v .state) (copy-holds _ (a .s .now) (sym (sound-long v)) (w .store .ensures) (v .state) (v .holds)) (v .fits)) in
     omega (arith, x .long, sound-long v)
 
--- src/lib.rt:35:23
 mul-end : tie.Need-mul-end
 mul-end c =
     let d = c .before .before .before .before .before .before .before .before .before .before in
@@ -74,15 +61,12 @@ mul-end c =
     let x = tried-comes (addV4 q (a .clock .0) (v .state)) (d .add-v4 .result) k (e .came .given .1) (d .add-v4 .ensures .1 (v .state) (copy-holds _ (a .s .now) (sym (sound-long v)) (w .store .ensures) (v .state) (v .holds)) (v .fits)) in
     omega (arith, five)
 
--- src/lib.rt:36:33
 sub-store : tie.Need-sub-store
 sub-store c = search needs
 
--- src/lib.rt:36:33
 part-store-start : tie.Need-part-store-start
 part-store-start c = search needs
 
--- src/lib.rt:36:33
 part-store-end : tie.Need-part-store-end
 part-store-end c =
     let d = c .before .before .before .before .before .before .before .before .before .before .before .before in
@@ -97,7 +81,6 @@ part-store-end c =
     let x = tried-comes (addV4 q (a .clock .0) (v .state)) (d .add-v4 .result) k (e .came .given .1) (d .add-v4 .ensures .1 (v .state) (copy-holds _ (a .s .now) (sym (sound-long v)) (w .store .ensures) (v .state) (v .holds)) (v .fits)) in
     omega (arith, x .room, x .wide)
 
--- src/lib.rt:36:13
 store-requires-3 : tie.Need-store-requires-3
 store-requires-3 c κs =
     let d = c .before .before .before .before .before .before .before .before .before .before .before .before .before in
@@ -112,23 +95,18 @@ store-requires-3 c κs =
     let x = tried-comes (addV4 q (a .clock .0) (v .state)) (d .add-v4 .result) k (e .came .given .1) (d .add-v4 .ensures .1 (v .state) (copy-holds _ (a .s .now) (sym (sound-long v)) (w .store .ensures) (v .state) (v .holds)) (v .fits)) in
     omega (arith, take-room (34 * k) (d .add-v4 .last .1 .0), five, s .pre .1 .1)
 
--- src/lib.rt:39:23
 enum-known-came-2 : tie.Need-enum-known-came-2
 enum-known-came-2 c = search needs
 
--- src/lib.rt:40:23
 enum-told : tie.Need-enum-told
 enum-told c = search needs
 
--- src/lib.rt:20:1
 same-length : tie.Need-same-length
 same-length c = search needs
 
--- src/lib.rt:20:1
 same-length-2 : tie.Need-same-length-2
 same-length-2 c = search needs
 
--- src/lib.rt:20:1
 returns : tie.Need-returns
 returns c =
     let d = c .before .before .before .before .before .before .before .before .before .before .before .before .before .before .before .before in
@@ -149,11 +127,9 @@ returns c =
       ),
     )
 
--- src/lib.rt:20:1
 same-length-3 : tie.Need-same-length-3
 same-length-3 c = search needs
 
--- src/lib.rt:20:1
 returns-2 : tie.Need-returns-2
 returns-2 c =
     let d = c .before .before .before .before .before in
@@ -171,11 +147,9 @@ returns-2 c =
       ),
     )
 
--- src/lib.rt:20:1
 same-length-4 : tie.Need-same-length-4
 same-length-4 c = search needs
 
--- src/lib.rt:20:1
 returns-3 : tie.Need-returns-3
 returns-3 c =
     let d = c .before .before .before .before in

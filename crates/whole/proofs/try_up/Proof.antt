@@ -3,49 +3,37 @@ use native.Mathlib.Omega.{arith}
 use Rattle.definition.specs.Reference.Addresses.{up}
 use Rattle.state.specs.Holds.{sound-long}
 use Rattle.bring.specs.Sound.{rows-are}
-use Rattle.whole.specs.Copy.{copy-sound, copy-holds, take-room, Tried, tried-adds, adds-back, adds-left, told-full}
+use Rattle.whole.specs.Copy.{copy-sound, copy-holds, take-room, tried-adds, adds-back, adds-left, told-full}
 use Prim.Native.Nat.{_*_}
 use borrow.Author.Needs.{needs}
 use Rattle.whole.proofs.try_up.Statement.{statement}
 use Rattle.whole.proofs.try_up.Tie as tie
-use Rattle.whole.proofs.try_up.Reads as reads
-use Rattle.whole.proofs.try_up.Lts as lts
-use Rattle.adding.proofs.up.Reads as up-reads
-use Rattle.words.proofs.store.Reads as store-reads
 
--- src/lib.rt:80:18
 slice-aggregate-store : tie.Need-slice-aggregate-store
 slice-aggregate-store c = search needs
 
--- src/lib.rt:80:5
 store-requires : tie.Need-store-requires
 store-requires c κs =
     omega (arith, sound-long (c .before .before .before .before .pre .0))
 
--- src/lib.rt:82:27
 slice-aggregate-up : tie.Need-slice-aggregate-up
 slice-aggregate-up c = search needs
 
--- src/lib.rt:82:38
 slice-aggregate-up-2 : tie.Need-slice-aggregate-up-2
 slice-aggregate-up-2 c = search needs
 
--- src/lib.rt:82:9
 up-requires : tie.Need-up-requires
 up-requires c κs =
     let w = c .before .before .before in
     let s = w .before .before .before .before .before in
     (copy-sound _ (s .args .s .now) (sym (sound-long (s .pre .0))) (w .store .ensures) (s .pre .0), omega arith)
 
--- src/lib.rt:84:20
 enum-known-came : tie.Need-enum-known-came
 enum-known-came c = search needs
 
--- src/lib.rt:85:32
 slice-aggregate-store-2 : tie.Need-slice-aggregate-store-2
 slice-aggregate-store-2 c = search needs
 
--- src/lib.rt:85:13
 store-requires-2 : tie.Need-store-requires-2
 store-requires-2 c κs =
     let d = c .before .before .before .before .before .before .before in
@@ -59,7 +47,6 @@ store-requires-2 c κs =
     let x = tried-adds (up (a .clock .0) (v .state)) (d .up .result) k (e .came .given .1) (d .up .ensures .1 (v .state) (copy-holds _ (a .s .now) (sym (sound-long v)) (w .store .ensures) (v .state) (v .holds)) (v .fits)) in
     omega (arith, x .long, sound-long v)
 
--- src/lib.rt:86:23
 mul-end : tie.Need-mul-end
 mul-end c =
     let d = c .before .before .before .before .before .before .before .before .before .before in
@@ -73,15 +60,12 @@ mul-end c =
     let x = tried-adds (up (a .clock .0) (v .state)) (d .up .result) k (e .came .given .1) (d .up .ensures .1 (v .state) (copy-holds _ (a .s .now) (sym (sound-long v)) (w .store .ensures) (v .state) (v .holds)) (v .fits)) in
     omega (arith, few)
 
--- src/lib.rt:87:33
 sub-store : tie.Need-sub-store
 sub-store c = search needs
 
--- src/lib.rt:87:33
 part-store-start : tie.Need-part-store-start
 part-store-start c = search needs
 
--- src/lib.rt:87:33
 part-store-end : tie.Need-part-store-end
 part-store-end c =
     let d = c .before .before .before .before .before .before .before .before .before .before .before .before in
@@ -95,7 +79,6 @@ part-store-end c =
     let x = tried-adds (up (a .clock .0) (v .state)) (d .up .result) k (e .came .given .1) (d .up .ensures .1 (v .state) (copy-holds _ (a .s .now) (sym (sound-long v)) (w .store .ensures) (v .state) (v .holds)) (v .fits)) in
     omega (arith, x .room, x .wide)
 
--- src/lib.rt:87:13
 store-requires-3 : tie.Need-store-requires-3
 store-requires-3 c κs =
     let d = c .before .before .before .before .before .before .before .before .before .before .before .before .before in
@@ -109,19 +92,15 @@ store-requires-3 c κs =
     let x = tried-adds (up (a .clock .0) (v .state)) (d .up .result) k (e .came .given .1) (d .up .ensures .1 (v .state) (copy-holds _ (a .s .now) (sym (sound-long v)) (w .store .ensures) (v .state) (v .holds)) (v .fits)) in
     omega (arith, take-room (34 * k) (d .up .last .1 .0), few, s .pre .1)
 
--- src/lib.rt:90:23
 enum-told : tie.Need-enum-told
 enum-told c = search needs
 
--- src/lib.rt:72:1
 same-length : tie.Need-same-length
 same-length c = search needs
 
--- src/lib.rt:72:1
 same-length-2 : tie.Need-same-length-2
 same-length-2 c = search needs
 
--- src/lib.rt:72:1
 returns : tie.Need-returns
 returns c =
     let d = c .before .before .before .before .before .before .before .before .before .before .before .before .before .before .before .before in
@@ -141,11 +120,9 @@ returns c =
       ),
     )
 
--- src/lib.rt:72:1
 same-length-3 : tie.Need-same-length-3
 same-length-3 c = search needs
 
--- src/lib.rt:72:1
 returns-2 : tie.Need-returns-2
 returns-2 c =
     let d = c .before .before .before .before in

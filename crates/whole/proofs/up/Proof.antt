@@ -1,5 +1,5 @@
 use Prim.Native.Nat.{ℕ, _+_, _*_}
-use mathlib.Core.Path.{refl, ap}
+use mathlib.Core.Path.{ap}
 use native.Mathlib.Omega.{arith}
 use Rattle.definition.specs.Reference.Addresses.{up}
 use Rattle.state.specs.Holds.{sizes-of, sound-long, sound-few}
@@ -8,47 +8,33 @@ use Rattle.whole.specs.Room.{up-certain}
 use borrow.Author.Needs.{needs}
 use Rattle.whole.proofs.up.Statement.{statement}
 use Rattle.whole.proofs.up.Tie as tie
-use Rattle.whole.proofs.up.Reads as reads
-use Rattle.whole.proofs.up.Lts as lts
-use Rattle.adding.proofs.up.Reads as up-reads
-use Rattle.state.proofs.address_count.Reads as address-count-reads
-use Rattle.whole.proofs.has_room.Reads as has-room-reads
-use Rattle.whole.proofs.try_up.Reads as try-up-reads
 
--- src/lib.rt:102:21
 address-count-requires : tie.Need-address-count-requires
 address-count-requires c κs =
     sound-long (c .before .before .before .pre .0)
 
--- src/lib.rt:102:21
 add-most : tie.Need-add-most
 add-most c =
     omega (arith, sound-few (c .before .before .before .before .pre .0), c .address-count .ensures)
 
--- src/lib.rt:102:16
 mul-most : tie.Need-mul-most
 mul-most c =
     omega (arith, sound-few (c .before .before .before .before .pre .0), c .address-count .ensures)
 
--- src/lib.rt:103:8
 has-room-requires : tie.Need-has-room-requires
 has-room-requires c κs =
     let v = c .before .before .before .before .before .pre .0 in
     (sound-long v, (sizes-of (v .holds) .routes, omega (arith, sound-few v, c .before .address-count .ensures)))
 
--- src/lib.rt:104:9
 up-requires : tie.Need-up-requires
 up-requires c κs = search needs
 
--- src/lib.rt:104:9
 same-length : tie.Need-same-length
 same-length c = search needs
 
--- src/lib.rt:104:9
 same-length-2 : tie.Need-same-length-2
 same-length-2 c = search needs
 
--- src/lib.rt:104:9
 returns : tie.Need-returns
 returns c =
     let d = c .before .before .before .before in
@@ -65,19 +51,15 @@ returns c =
       ),
     )
 
--- src/lib.rt:106:5
 try-up-requires : tie.Need-try-up-requires
 try-up-requires c κs = search needs
 
--- src/lib.rt:95:1
 same-length-3 : tie.Need-same-length-3
 same-length-3 c = search needs
 
--- src/lib.rt:95:1
 same-length-4 : tie.Need-same-length-4
 same-length-4 c = search needs
 
--- src/lib.rt:95:1
 returns-2 : tie.Need-returns-2
 returns-2 c = search needs
 

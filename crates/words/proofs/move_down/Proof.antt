@@ -14,10 +14,6 @@ use Rattle.lists.specs.Put.{put-part, span-part}
 use borrow.Author.Needs.{needs}
 use Rattle.words.proofs.move_down.Statement.{statement}
 use Rattle.words.proofs.move_down.Tie as tie
-use Rattle.words.proofs.move_down.Reads as reads
-use Rattle.words.proofs.move_down.Lts as lts
-use Rattle.words.proofs.walk_down.Reads as walk-down-reads
-use Rattle.words.proofs.walk_down_32.Reads as walk-down-32-reads
 
 sub-if1 : tie.Need-sub-if1
 sub-if1 c = search needs

@@ -14,10 +14,6 @@ use Rattle.lists.specs.Put.{put-part, span-part}
 use borrow.Author.Needs.{needs}
 use Rattle.words.proofs.move_up.Statement.{statement}
 use Rattle.words.proofs.move_up.Tie as tie
-use Rattle.words.proofs.move_up.Reads as reads
-use Rattle.words.proofs.move_up.Lts as lts
-use Rattle.words.proofs.walk_up.Reads as walk-up-reads
-use Rattle.words.proofs.walk_up_32.Reads as walk-up-32-reads
 
 sub-if1 : tie.Need-sub-if1
 sub-if1 c = search needs

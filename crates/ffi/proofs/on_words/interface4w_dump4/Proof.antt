@@ -3,7 +3,6 @@
 use mathlib.Core.Path.{ap, _∙_}
 use lib.ListN.{length}
 use Rattle.definition.specs.Step.{dump4Call}
-use Rattle.dump.specs.Answer.{listedBy}
 use Rattle.reply.specs.Answer.{replyFrom}
 use Rattle.dump.specs.Listing.{dump4-lists, listed-small}
 use borrow.Author.Needs.{needs}

@@ -2,7 +2,6 @@
 -- Assumes nothing.
 use mathlib.Core.Path.{ap, _∙_}
 use Rattle.reply.specs.Answer.{replyFrom}
-use lib.ListN.{length}
 use borrow.Author.Needs.{needs}
 use Rattle.ffi.proofs.on_words.interface4w_lookup4_flow.Statement.{statement}
 use Rattle.ffi.proofs.on_words.interface4w_lookup4_flow.Tie as tie

@@ -1,4 +1,4 @@
--- The first element that passes, behind a front where none does.
+-- The first element that passes, behind a front where none does; elements at a place.
 -- Assumes nothing.
 use Prim.Native.Nat.{ℕ, zero, suc, _+_, _<_}
 use mathlib.Core.Path.{_≡_, ap}
@@ -9,16 +9,16 @@ use native.Mathlib.Omega.{arith}
 use native.Mathlib.Numerals.{add-one}
 use lib.ListN.{length, getD, take, drop}
 use lib.Seq.{take-at, drop-at, drop-cons, take-suc, length-take-le}
 use Rattle.lists.specs.Lists.{any, keep, first, removeFirst}
-use Rattle.lists.specs.Bools.{or-false}
+use Rattle.lists.specs.Bools.{or-false, or-left, or-right}
 use Rattle.lists.specs.At.{removeAt}
 
 module _ {A : Type 0} where
-  pub any-joined : (p : A → Bool) (l m : List A) → any p l ≡ false → any p m ≡ false → any p (l ++ m) ≡ false
-  any-joined p [] m g h = h
-  any-joined p (x ∷ l) m g h =
+  pub none-joined : (p : A → Bool) (l m : List A) → any p l ≡ false → any p m ≡ false → any p (l ++ m) ≡ false
+  none-joined p [] m g h = h
+  none-joined p (x ∷ l) m g h =
       let k = or-false (p x) (any p l) g in
-      rw (k .0) (any-joined p l m (k .1) h)
+      rw (k .0) (none-joined p l m (k .1) h)
 
   module _ (q : A → Bool) where
     pub first-behind : (front : List A) (x : A) (l : List A) → any q front ≡ false → q x ≡ true → first q (front ++ (x ∷ l)) ≡ some x
@@ -51,7 +51,7 @@ module _ {A : Type 0} where
     -- the front with one element more
     pub front-more : (i : ℕ) (l : List A) (d : A) → any q (take i l) ≡ false → i < length l → q (getD l i d) ≡ false → any q (take (i + 1) l) ≡ false
     front-more i l d c b e =
-        rw (add-one, take-suc l i d b) (any-joined q (take i l) (getD l i d ∷ []) c (rw e))
+        rw (add-one, take-suc l i d b) (none-joined q (take i l) (getD l i d ∷ []) c (rw e))
 
     -- what passes from there on
     pub keep-here : (i : ℕ) (l : List A) (d : A) → i < length l → q (getD l i d) ≡ true → keep q (drop i l) ≡ getD l i d ∷ keep q (drop (suc i) l)
@@ -68,3 +68,9 @@ module _ {A : Type 0} where
   pub drop-removed : (i : ℕ) (l : List A) → i < length l → drop i (removeAt i l) ≡ drop (suc i) l
   unfolding removeAt
   drop-removed i l b = drop-at (take i l) (drop (suc i) l) i (length-take-le i l (omega arith))
+
+  -- an element at a place is in the list
+  pub any-here : (p : A → Bool) (l : List A) (i : ℕ) (d : A) → i < length l → p (getD l i d) ≡ true → any p l ≡ true
+  any-here p [] i d b e = absurd (omega arith)
+  any-here p (x ∷ l) zero d b e = or-left (p x) (any p l) e
+  any-here p (x ∷ l) (suc i) d b e = or-right (p x) (any p l) (any-here p l i d (omega arith) e)
