@@ -15,6 +15,7 @@ use Rattle.lists.specs.All.{eqRow-true, eqRow-refl, all-head, all-tail, all-app
 use Rattle.lists.specs.At.{removeAt}
 use Rattle.lists.specs.Rows.{length-zeros, sized, length-flat}
 use Rattle.lists.specs.Put.{put-whole}
+use Rattle.lists.specs.Front.{any-here}
 use Rattle.lists.specs.Count.{length-removeFirst, count-removeFirst}
 use Rattle.lists.specs.Laid.{Laid}
 use Rattle.lists.specs.Place.{placeOf, remove-at, any-at}
@@ -40,7 +41,7 @@ use Rattle.candidates.specs.Laws.{route-long}
 use Rattle.deletion.specs.Delete.{step-eq}
 use Rattle.leave.specs.One.{unlessWanted, unwanted-turns, loses, fallFrom, fall-from}
 use Rattle.leave.specs.Turns.{anyRow, routesGo, step-facts}
-use Rattle.removal.specs.Gone.{goesWith, goneTurn, any-here, secondaries, remove-parts, primary-there, pass, Passed, pass-start, gone-turn, pass-end}
+use Rattle.removal.specs.Gone.{goesWith, goneTurn, secondaries, remove-parts, primary-there, pass, Passed, pass-start, gone-turn, pass-end}
 
 -- ---- an address that is there
 pub record Present (a : Row) (s ev : List ℕ) : Type 0 where
