@@ -11,26 +11,23 @@ use Rattle.lists.specs.Put.{put-no-rows}
 use Rattle.definition.specs.State.{State, Out}
 use Rattle.definition.specs.Words.{within, stateSize, encode, decode, wellFormed}
 use Rattle.definition.specs.Call.{refusal, written}
-use Rattle.definition.specs.Step.{Result, checks, changing, outcome, downCall, eventsFit}
+use Rattle.definition.specs.Step.{Result, changing, outcome, downCall, eventsFit}
 use Rattle.definition.specs.Reference.Addresses.{Outcome, goes, down}
 use Rattle.definition.specs.Kept.Peaks.{down-roomy}
 use Rattle.definition.specs.Kept.Encode.{good-decode}
 use Rattle.state.specs.Holds.{Holds}
-use Rattle.interface.specs.Laws.{checked, passed}
+use Rattle.interface.specs.Laws.{tests, checked, passed}
 use Rattle.changes.specs.declared.Done.the-variants.{Refused, Rows}
 use Rattle.changes.specs.Answer.{doneOf}
 
 module _ (buffers request : Bool) (f : State → Outcome) (w : List ℕ) (n : ℕ) (c : n ≡ checked buffers true request w) where
-  same : n ≡ checks (eqb (length w) stateSize && buffers) (wellFormed w) request
-  same = c ∙ ap (λ (b : Bool). checks (eqb (length w) stateSize && buffers) b request) (and-true (wellFormed w))
-
-  pub change-refused : (n ≡ 0 → ⊥) → changing buffers request f w ≡ record { reply = refusal n; words = w }
+  pub change-refused : (n ≡ 0 → ⊥) → changing (tests buffers true request) f w ≡ record { reply = refusal n; words = w }
   unfolding changing
-  change-refused h = rw (← same, ne-eqb n 0 h)
+  change-refused h = rw (← c, ne-eqb n 0 h)
 
-  pub change-made : n ≡ 0 → changing buffers request f w ≡ outcome (f (decode w)) w
+  pub change-made : n ≡ 0 → changing (tests buffers true request) f w ≡ outcome (f (decode w)) w
   unfolding changing
-  change-made h = rw (← same, eq-eqb n 0 h)
+  change-made h = rw (← c, eq-eqb n 0 h)
 
 -- what a public call promises of a result
 pub record Answers (x : Result) (w′ ev ev′ : List ℕ) (r : Rattle.changes.specs.declared.Done.Done) : Type 0 where

@@ -12,14 +12,14 @@ use Rattle.lists.specs.Lists.{flat, put}
 use Rattle.definition.specs.State.{State, Out, sizes}
 use Rattle.definition.specs.Words.{within, stateSize, encode, decode, wellFormed}
 use Rattle.definition.specs.Call.{refusal, written}
-use Rattle.definition.specs.Step.{Result, checks, changing, outcome, requestIs, eventsFit}
+use Rattle.definition.specs.Step.{Result, checks, unless, changing, outcome, requestIs, eventsFit}
 use Rattle.definition.specs.Kept.Encode.{good-decode, encode-decode, Good}
 use Rattle.definition.specs.Reference.Addresses.{Outcome, goes, refused}
 use Rattle.definition.specs.Kept.Numbers.{Numbered}
 use Rattle.state.specs.Holds.{Sound, Holds}
 use Rattle.request.specs.declared.Done as request
 use Rattle.request.specs.Done.{Requested}
-use Rattle.interface.specs.Laws.{checked, passed, held}
+use Rattle.interface.specs.Laws.{tests, checked, passed, held}
 use Rattle.changes.specs.declared.Done.{Done}
 use Rattle.changes.specs.declared.Done.the-variants.{Refused, Rows}
 use Rattle.changes.specs.Answer.{doneOf, publicOf}
@@ -52,13 +52,13 @@ module _ (w w′ ev ev′ : List ℕ) (same : encode (decode w) ≡ w) (r : requ
   request-answers x (refused n st) e m d = refused-answers x n st (within (sizes st)) (m .positive) e (d .answer) (d .holds .words) (d .events)
 
 -- the request's flag with its length, where the length is checked before
-no-room : (b c r q : Bool) → checks (b && false) c r ≡ checks (b && false) c q
+no-room : (b c : Bool) (r q : ℕ) → checks (b && false) c r ≡ checks (b && false) c q
 no-room true c r q = refl
 no-room false c r q = refl
 
 pub sized-first : (sized room fit : Bool) (w : List ℕ) → checked (sized && room) true (sized && fit) w ≡ checked (sized && room) true fit w
 sized-first true room fit w = refl
-sized-first false room fit w = no-room (eqb (length w) stateSize) (wellFormed w && true) false fit
+sized-first false room fit w = no-room (eqb (length w) stateSize) (wellFormed w && true) 202 (unless fit 202)
 
 -- words that passed the checks hold a fit state
 pub sound : (buffers request : Bool) (w : List ℕ) (n : ℕ) → n ≡ checked buffers true request w → n ≡ 0 → Sound w
@@ -75,7 +75,7 @@ pub record Asked (size : ℕ) (fitted : Bool) (f : State → Outcome) (q w ev : 
   pub good : Good (decode w)
   pub holds : Holds w (decode w)
   pub same : encode (decode w) ≡ w
-  pub made : changing (requestIs size q && eventsFit (length ev)) fitted f w ≡ outcome (f (decode w)) w
+  pub made : changing (tests (requestIs size q && eventsFit (length ev)) true fitted) f w ≡ outcome (f (decode w)) w
 
 pub asked-sound : {size : ℕ} {fitted : Bool} {f : State → Outcome} {q w ev : List ℕ} → Asked size fitted f q w ev → Sound w
 asked-sound {w = w} p = record { state = decode w; holds = p .holds; fits = p .good .fits }
@@ -86,9 +86,9 @@ module _ (q w ev : List ℕ) (n size : ℕ) (fitted flag : Bool) (f : State → 
   by-fit : n ≡ checked (requestIs size q && eventsFit (length ev)) true fitted w
   by-fit = c ∙ ap (λ (b : Bool). checked (requestIs size q && eventsFit (length ev)) true b w) k ∙ sized-first (requestIs size q) (eventsFit (length ev)) fitted w
 
-  pub request-no : (n ≡ 0 → ⊥) → Answers (changing (requestIs size q && eventsFit (length ev)) fitted f w) w ev ev (Refused n)
+  pub request-no : (n ≡ 0 → ⊥) → Answers (changing (tests (requestIs size q && eventsFit (length ev)) true fitted) f w) w ev ev (Refused n)
   request-no h =
-      answers-refused (changing (requestIs size q && eventsFit (length ev)) fitted f w) w ev n h
+      answers-refused (changing (tests (requestIs size q && eventsFit (length ev)) true fitted) f w) w ev n h
       (change-refused (requestIs size q && eventsFit (length ev)) fitted f w n by-fit h)
 
   pub request-asked : n ≡ 0 → Asked size fitted f q w ev
@@ -105,6 +105,6 @@ module _ (q w ev : List ℕ) (n size : ℕ) (fitted flag : Bool) (f : State → 
       }
 
 pub request-yes : {size : ℕ} {fitted : Bool} {f : State → Outcome} {q w ev : List ℕ} → Asked size fitted f q w ev → (w′ ev′ : List ℕ) (r : request.Done) → Numbered (f (decode w))
-    → Requested (f (decode w)) (decode w) w′ ev ev′ r → Answers (changing (requestIs size q && eventsFit (length ev)) fitted f w) w′ ev ev′ (publicOf r)
+    → Requested (f (decode w)) (decode w) w′ ev ev′ r → Answers (changing (tests (requestIs size q && eventsFit (length ev)) true fitted) f w) w′ ev ev′ (publicOf r)
 request-yes {size} {fitted} {f} {q} {w} {ev} p w′ ev′ r m d =
-    request-answers w w′ ev ev′ (p .same) r (changing (requestIs size q && eventsFit (length ev)) fitted f w) (f (decode w)) (p .made) m d
+    request-answers w w′ ev ev′ (p .same) r (changing (tests (requestIs size q && eventsFit (length ev)) true fitted) f w) (f (decode w)) (p .made) m d

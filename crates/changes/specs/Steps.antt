@@ -23,7 +23,7 @@ use Rattle.definition.specs.Kept.Peaks.{expire-roomy, delV4-roomy}
 use Rattle.definition.specs.Kept.Encode.{Good, good-decode}
 use Rattle.state.specs.Holds.{Holds}
 use Rattle.events.specs.Step.{Fits, Step}
-use Rattle.interface.specs.Laws.{checked, passed, held}
+use Rattle.interface.specs.Laws.{tests, checked, passed, held}
 use Rattle.changes.specs.declared.Done.the-variants.{Refused, Rows}
 use Rattle.delv4.specs.declared.Deleted as Deleted
 use Rattle.delv4.specs.declared.Deleted.{Deleted}
@@ -76,11 +76,11 @@ module _ (w ev : List ℕ) (n clock : ℕ) (c : n ≡ checked (eventsFit (length
 
 -- a deletion of an address: by what it comes to
 module _ (q w ev : List ℕ) (p : Asked delV4Size (fitDelV4 q) (delV4 q) q w ev) where
-  pub deletes-answers : (w′ ev′ : List ℕ) (d : Deleted) → Deletes q (decode w) w′ ev ev′ d → Answers (changing (requestIs delV4Size q && eventsFit (length ev)) (fitDelV4 q) (delV4 q) w) w′ ev ev′ (deletedOf d)
+  pub deletes-answers : (w′ ev′ : List ℕ) (d : Deleted) → Deletes q (decode w) w′ ev ev′ d → Answers (changing (tests (requestIs delV4Size q && eventsFit (length ev)) true (fitDelV4 q)) (delV4 q) w) w′ ev ev′ (deletedOf d)
   deletes-answers w′ ev′ (Deleted.the-variants.Rows r) t =
       let roomy-here : within (t .out .peak) ≡ true = rw (t .is) at (delV4-roomy q (decode w) (p .good)) in
-      step-answers (changing (requestIs delV4Size q && eventsFit (length ev)) (fitDelV4 q) (delV4 q) w) (decode w) (t .out) w w′ ev ev′ r
+      step-answers (changing (tests (requestIs delV4Size q && eventsFit (length ev)) true (fitDelV4 q)) (delV4 q) w) (decode w) (t .out) w w′ ev ev′ r
       (p .made ∙ ap (λ (o : Outcome). outcome o w) (t .is)) roomy-here (t .step)
   deletes-answers w′ ev′ Deleted.the-variants.Nothing t =
-      answers-by (changing (requestIs delV4Size q && eventsFit (length ev)) (fitDelV4 q) (delV4 q) w) (record { reply = refusal 99; words = encode (decode w) }) w′ ev ev′ (Refused 99)
+      answers-by (changing (tests (requestIs delV4Size q && eventsFit (length ev)) true (fitDelV4 q)) (delV4 q) w) (record { reply = refusal 99; words = encode (decode w) }) w′ ev ev′ (Refused 99)
       (p .made ∙ ap (λ (o : Outcome). outcome o w) (t .0) ∙ rw (p .good .limits) refl) refl (t .1 .words) (t .2 ∙ put-no-rows ev)

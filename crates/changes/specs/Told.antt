@@ -3,9 +3,8 @@
 use Prim.Native.Nat.{ℕ, _≤_, _<_}
 use native.Mathlib.Omega.{arith}
 use mathlib.Core.Path.{_≡_, refl, ap, _∙_}
-use mathlib.Core.Bool.{Bool, true, _&&_}
+use mathlib.Core.Bool.{Bool, true, false≢true}
 use mathlib.Core.List.{List}
-use mathlib.Core.Option.{some}
 use lib.Dec.{eqb}
 use lib.ListN.{length}
 use borrow.Author.Tests.{eqb-true}
@@ -13,13 +12,12 @@ use Rattle.lists.specs.Lists.{Row}
 use Rattle.lists.specs.Bools.{cond-case, test-case}
 use Rattle.lists.specs.Rows.{sized}
 use Rattle.definition.specs.State.{State, sizes}
-use Rattle.definition.specs.Words.{stateSize, decode, wellFormed, within}
+use Rattle.definition.specs.Words.{decode, within}
 use Rattle.definition.specs.Call as Call
 use Rattle.definition.specs.Call.{Reply, refusal, written}
-use Rattle.definition.specs.Step.{Result, checks, changing, outcome, step, upCall, downCall, addV4Call, delV4Call, expireCall, addRoute4Call, delRoute4Call}
+use Rattle.definition.specs.Step.{Result, Action, changes, replies, lists, alters, semantics, outcome, step, upCall, downCall, addV4Call, delV4Call, expireCall, addRoute4Call, delRoute4Call}
 use Rattle.definition.specs.Reference.Addresses.{Outcome}
-use Rattle.definition.specs.Kept.Change.{Change, changeOf, step-change}
-use Rattle.definition.specs.Kept.Step.{told-bound}
+use Rattle.definition.specs.Kept.Step.{acted, perform-case, told-bound}
 use Rattle.interface.specs.Answer.{Numbers, numbers}
 use Rattle.changes.specs.Answer.{doneBy, doneOf}
 use Rattle.changes.specs.declared.Done.{Done}
@@ -30,12 +28,6 @@ comes : (P : Reply → Type 0) (o : Outcome) (w : List ℕ) → ((n : ℕ) → P
 comes P (Outcome.goes o) w refuses answers = cond-case (λ (r : Result). P (r .reply)) (within (o .peak)) (λ e. answers (o .told)) (λ e. refuses 203)
 comes P (Outcome.refused n st) w refuses answers = cond-case (λ (r : Result). P (r .reply)) (within (sizes st)) (λ e. refuses n) (λ e. refuses 203)
 
-changes : (P : Reply → Type 0) (buffers request : Bool) (f : State → Outcome) (w : List ℕ) → ((n : ℕ) → P (refusal n)) → ((l : List Row) → P (written l)) → P (changing buffers request f w .reply)
-unfolding changing
-changes P buffers request f w refuses answers =
-    let n = checks (eqb (length w) stateSize && buffers) (wellFormed w) request in
-    cond-case (λ (r : Result). P (r .reply)) (eqb n 0) (λ e. comes P (f (decode w)) w refuses answers) (λ e. refuses n)
-
 record Tells (r : Reply) : Type 0 where
   pub says : doneBy (doneOf r) ≡ numbers r
   pub counts : r .value ≡ length (r .rows)
@@ -43,8 +35,13 @@ record Tells (r : Reply) : Type 0 where
 tells-none : (n : ℕ) → Tells (refusal n)
 tells-none n = record { says = test-case (eqb n 0) (λ e. rw (e, eqb-true n 0 e)) (λ e. rw e); counts = refl }
 
-tells : (d : Change) (w : List ℕ) → Tells (changing (d .buffers) (d .request) (d .does) w .reply)
-tells d w = changes Tells (d .buffers) (d .request) (d .does) w tells-none (λ l. record { says = refl; counts = refl })
+tells : (c : Call.Call) (w : List ℕ) → alters (semantics c .action) ≡ true → Tells (step c w .reply)
+tells c w t = perform-case (λ (r : Result). Tells (r .reply)) w (semantics c) (λ z. go (semantics c .action) t) (λ n e z. tells-none n)
+  where
+    go : (a : Action) → alters a ≡ true → Tells (acted a w .reply)
+    go (changes listed f) t = comes Tells (f (decode w)) w tells-none (λ l. record { says = refl; counts = refl })
+    go (replies f) t = absurd (false≢true t)
+    go (lists f) t = absurd (false≢true t)
 
 pub record Told (r : Reply) : Type 0 where
   pub says : doneBy (doneOf r) ≡ numbers r
@@ -52,40 +49,40 @@ pub record Told (r : Reply) : Type 0 where
   pub few : length (r .rows) ≤ 384
   pub size : sized 34 (r .rows) ≡ true
 
-told : (c : Call.Call) (d : Change) (w : List ℕ) → changeOf c ≡ some d → Told (step c w .reply)
-told c d w e =
-    let t : Tells (step c w .reply) = rw (step-change c d w e) (tells d w) in
-    let b = told-bound c d w e in
+told : (c : Call.Call) (w : List ℕ) → alters (semantics c .action) ≡ true → Told (step c w .reply)
+told c w e =
+    let t = tells c w e in
+    let b = told-bound c w e in
     record { says = t .says; counts = t .counts; few = b .few; size = b .size }
 
 module _ (w : List ℕ) (events : ℕ) where
   pub up-told : (now : ℕ) → Told (upCall events now w .reply)
-  unfolding step
-  up-told now = told (Call.up events now) _ w refl
+  unfolding upCall
+  up-told now = told (Call.up events now) w refl
 
   pub down-told : Told (downCall events w .reply)
-  unfolding step
-  down-told = told (Call.down events) _ w refl
+  unfolding downCall
+  down-told = told (Call.down events) w refl
 
   pub add-v4-told : (q : Row) (now : ℕ) → Told (addV4Call q events now w .reply)
-  unfolding step
-  add-v4-told q now = told (Call.addV4 q events now) _ w refl
+  unfolding addV4Call
+  add-v4-told q now = told (Call.addV4 q events now) w refl
 
   pub del-v4-told : (q : Row) → Told (delV4Call q events w .reply)
-  unfolding step
-  del-v4-told q = told (Call.delV4 q events) _ w refl
+  unfolding delV4Call
+  del-v4-told q = told (Call.delV4 q events) w refl
 
   pub expire-told : (now : ℕ) → Told (expireCall events now w .reply)
-  unfolding step
-  expire-told now = told (Call.expire events now) _ w refl
+  unfolding expireCall
+  expire-told now = told (Call.expire events now) w refl
 
   pub add-route4-told : (q : Row) → Told (addRoute4Call q events w .reply)
-  unfolding step
-  add-route4-told q = told (Call.addRoute4 q events) _ w refl
+  unfolding addRoute4Call
+  add-route4-told q = told (Call.addRoute4 q events) w refl
 
   pub del-route4-told : (q : Row) → Told (delRoute4Call q events w .reply)
-  unfolding step
-  del-route4-told q = told (Call.delRoute4 q events) _ w refl
+  unfolding delRoute4Call
+  del-route4-told q = told (Call.delRoute4 q events) w refl
 
 -- so a call whose answer is the reply's case promises the reply's numbers
 pub told-says : {x : Reply} {r : Done} → Told x → r ≡ doneOf x → doneBy r ≡ numbers x

@@ -12,6 +12,7 @@ pub mod Growing
 pub mod Shrinking
 pub mod Numbers
 pub mod Told
+pub mod Refused
 pub mod Change
 pub mod Step
 pub mod Reading

@@ -99,3 +99,15 @@ wellFormed w =
     && leb (tableCount w) tableLimit
     && fitState (decode w)
     && unusedZero w
+
+-- ---- what a call sees of the words that it is lent, and what it leaves
+-- the state that they hold
+abbrev pub stateOf : List ℕ → State
+stateOf w = decode w
+
+abbrev pub formed : List ℕ → Bool
+formed w = wellFormed w
+
+-- the words that a call on w leaves, where the state becomes st
+abbrev pub leaves : List ℕ → State → List ℕ
+leaves w st = encode st

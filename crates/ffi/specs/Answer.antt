@@ -11,7 +11,7 @@ use Rattle.definition.specs.Step.{Result, checks}
 
 -- words looked at alone: 200 or 201 as each call gives it, else 0
 abbrev pub checkCall : List ℕ → Result
-checkCall w = record { reply = Call.refusal (checks (eqb (length w) stateSize) (wellFormed w) true); words = w }
+checkCall w = record { reply = Call.refusal (checks (eqb (length w) stateSize) (wellFormed w) 0); words = w }
 
 -- ---- on bytes: 200 where there are not as many as there must be
 abbrev pub onBytes : Bool → Call.Reply → Call.Reply

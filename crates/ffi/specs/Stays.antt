@@ -12,9 +12,10 @@ use borrow.Author.Tests.{eqb-true, leb-true}
 use mir.Syntax.{w8}
 use mir.Val.{Fits}
 use Rattle.lists.specs.Lists.{Row, put}
+use Rattle.definition.specs.State.{State}
 use Rattle.definition.specs.Call as Call
-use Rattle.definition.specs.Step.{Result, step, upCall, downCall, addV4Call, delV4Call, addRoute4Call, delRoute4Call}
-use Rattle.definition.specs.Laws.Refusals.{alone, unfit-leaves, addsRoute, others-leave}
+use Rattle.definition.specs.Step.{Result, semantics, step, upCall, downCall, addV4Call, delV4Call, addRoute4Call, delRoute4Call}
+use Rattle.definition.specs.Laws.Refusals.{alone, unfit-leaves, listedBy, others-leave}
 use Rattle.endian.specs.Endian.{wordsOf, bytesOf}
 use Rattle.endian.specs.Laws.{bytes-words, bytes-none}
 use Rattle.reply.specs.declared.Reply.{Reply}
@@ -28,7 +29,7 @@ refused : (c : Call.Call) (w : List ℕ) → step c w .reply .number ≢ 0 → s
 refused c w n e = record { words = e; value = ap (λ (r : Call.Reply). r .value) (alone c w n) }
 
 -- any refusal but add_route4's, which may have listed its table
-others : (c : Call.Call) (w : List ℕ) → addsRoute c ≡ false → 1 ≤ step c w .reply .number → Stays (step c w) w
+others : (c : Call.Call) (w : List ℕ) → ((st : State) → listedBy (semantics c .action) st ≡ st) → 1 ≤ step c w .reply .number → Stays (step c w) w
 others c w e h = let n : step c w .reply .number ≢ 0 = λ z. omega arith in refused c w n (others-leave c w e n)
 
 -- 200 to 203
@@ -37,28 +38,28 @@ unfit c w h = refused c w (λ z. omega arith) (unfit-leaves c w h)
 
 module _ (w : List ℕ) (events : ℕ) where
   pub up-stays : (now : ℕ) → 1 ≤ upCall events now w .reply .number → Stays (upCall events now w) w
-  unfolding step
-  up-stays now h = others (Call.up events now) w refl h
+  unfolding upCall
+  up-stays now h = others (Call.up events now) w (λ st. refl) h
 
   pub down-stays : 1 ≤ downCall events w .reply .number → Stays (downCall events w) w
-  unfolding step
-  down-stays h = others (Call.down events) w refl h
+  unfolding downCall
+  down-stays h = others (Call.down events) w (λ st. refl) h
 
   pub add-v4-stays : (q : Row) (now : ℕ) → 1 ≤ addV4Call q events now w .reply .number → Stays (addV4Call q events now w) w
-  unfolding step
-  add-v4-stays q now h = others (Call.addV4 q events now) w refl h
+  unfolding addV4Call
+  add-v4-stays q now h = others (Call.addV4 q events now) w (λ st. refl) h
 
   pub del-v4-stays : (q : Row) → 1 ≤ delV4Call q events w .reply .number → Stays (delV4Call q events w) w
-  unfolding step
-  del-v4-stays q h = others (Call.delV4 q events) w refl h
+  unfolding delV4Call
+  del-v4-stays q h = others (Call.delV4 q events) w (λ st. refl) h
 
   pub add-route4-stays : (q : Row) → 200 ≤ addRoute4Call q events w .reply .number → Stays (addRoute4Call q events w) w
-  unfolding step
+  unfolding addRoute4Call
   add-route4-stays q h = unfit (Call.addRoute4 q events) w h
 
   pub del-route4-stays : (q : Row) → 1 ≤ delRoute4Call q events w .reply .number → Stays (delRoute4Call q events w) w
-  unfolding step
-  del-route4-stays q h = others (Call.delRoute4 q events) w refl h
+  unfolding delRoute4Call
+  del-route4-stays q h = others (Call.delRoute4 q events) w (λ st. refl) h
 
 -- ---- on bytes
 -- where the call on their words stays, the bytes are those of the words that it left

@@ -195,7 +195,7 @@ pub fn well_formed(s: &[u32]) -> bool
 
 // What any words get: 200 where they are not as many as a state's, 201 where they are not well-formed, else 0.
 pub fn check(s: &[u32]) -> u32
-    ensures { λ r. ⌜ r ≡ checks (eqb (length (now (s .entry))) stateSize) (wellFormed (now (s .entry))) true ⌝ }
+    ensures { λ r. ⌜ r ≡ checks (eqb (length (now (s .entry))) stateSize) (wellFormed (now (s .entry))) 0 ⌝ }
 {
     if s.len() != 9507 {
         return 200;

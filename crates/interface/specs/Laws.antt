@@ -16,11 +16,12 @@ use Rattle.layout.specs.Route.{fitRoute}
 use Rattle.definition.specs.State.{State}
 use Rattle.definition.specs.Words.{stateSize, decode, wellFormed, routeCount}
 use Rattle.definition.specs.Call.{Reply, refusal, valued, optionally, foundRow}
-use Rattle.definition.specs.Step.{Result, checks, reading, local4Call, sourceCall, source4Call, select4Call}
+use Rattle.definition.specs.Step.{Result, Checks, checked as definition·checked, unless, reading, local4Call, sourceCall, source4Call, select4Call}
 use Rattle.definition.specs.Reference.Lookup as Lookup
 use Rattle.definition.specs.Reference.Lookup.{lookupIn, local4}
 use Rattle.definition.specs.Reference.Source.{source, source4, select4, present}
 use Rattle.definition.specs.Kept.Numbers.{OfFound, lookup-number}
+use Rattle.definition.specs.Kept.Change.{unless-passed}
 use Rattle.definition.specs.Kept.Step.{checks-zero}
 use Rattle.lookup.specs.declared.Looked as Looked
 use Rattle.lookup.specs.Answer.{foundBy as lookup·foundBy}
@@ -35,16 +36,19 @@ use Rattle.interface.specs.declared.Chosen as Chosen
 use Rattle.interface.specs.declared.Sourced as Sourced
 use Rattle.interface.specs.Answer.{foundOf, foundIn, rowsIn, localOf, chosenOf, chosenFor, sourcedOf}
 
--- what the checks of a call give
+-- what the checks of a call give, whose request is fit or gets 202
+abbrev pub tests : Bool → Bool → Bool → Checks
+tests buffers row request = record { buffers = buffers; row = row; request = unless request 202 }
+
 abbrev pub checked : Bool → Bool → Bool → List ℕ → ℕ
-checked buffers row request w = checks (eqb (length w) stateSize && buffers) (wellFormed w && row) request
+checked buffers row request w = definition·checked (tests buffers row request) w
 
 module _ (buffers row request : Bool) (f : State → Reply) (w : List ℕ) (n : ℕ) (c : n ≡ checked buffers row request w) where
-  pub read-refused : (n ≡ 0 → ⊥) → reading buffers row request f w .reply ≡ refusal n
+  pub read-refused : (n ≡ 0 → ⊥) → reading (tests buffers row request) f w .reply ≡ refusal n
   unfolding reading
   read-refused h = rw (← c, ne-eqb n 0 h)
 
-  pub read-answered : n ≡ 0 → reading buffers row request f w .reply ≡ f (decode w)
+  pub read-answered : n ≡ 0 → reading (tests buffers row request) f w .reply ≡ f (decode w)
   unfolding reading
   read-answered h = rw (← c, eq-eqb n 0 h)
 
@@ -72,13 +76,13 @@ pub record Passed (buffers row request : Bool) (w : List ℕ) : Type 0 where
 
 pub passed : (buffers row request : Bool) (w : List ℕ) (n : ℕ) → n ≡ checked buffers row request w → n ≡ 0 → Passed buffers row request w
 passed buffers row request w n c z =
-    let k = checks-zero (eqb (length w) stateSize && buffers) (wellFormed w && row) request (sym c ∙ z) in
+    let k = checks-zero (eqb (length w) stateSize && buffers) (wellFormed w && row) (unless request 202) (sym c ∙ z) in
     record {
       long = eqb-true (length w) stateSize (and-left (eqb (length w) stateSize) buffers (k .room));
       room = and-right (eqb (length w) stateSize) buffers (k .room);
       formed = and-left (wellFormed w) row (k .formed);
       handed = and-right (wellFormed w) row (k .formed);
-      asked = k .asked;
+      asked = unless-passed request (k .asked);
     }
 
 -- ---- answers
@@ -171,7 +175,7 @@ found-at w st h i b =
 -- lookups: of any flow, by whether its tos is a byte
 module _ (w row : List ℕ) (n : ℕ) (b : Bool) (f : Lookup.Flow) where
   abbrev pub looking : Result
-  looking = reading (leb 32 (length row)) true b (λ st. foundRow (lookupIn st f)) w
+  looking = reading (tests (leb 32 (length row)) true b) (λ st. foundRow (lookupIn st f)) w
 
   pub look-no : n ≡ checked (leb 32 (length row)) true b w → (n ≡ 0 → ⊥) → (Found.the-variants.Refused n ≡ foundOf (looking .reply)) × (row ≡ put 0 (flat (looking .reply .rows)) row)
   look-no c h =

@@ -15,12 +15,13 @@ use Rattle.layout.specs.Route.{fitRoute}
 use Rattle.definition.specs.State.{State}
 use Rattle.definition.specs.Words.{stateSize, decode, wellFormed}
 use Rattle.definition.specs.Call.{Reply, refusal, valued, optionally, foundRow}
-use Rattle.definition.specs.Step.{checks, reading, lookup4Call, lookup4FlowCall, local4Call, source4Call, sourceCall, select4Call}
+use Rattle.definition.specs.Step.{checked, reading, lookup4Call, lookup4FlowCall, local4Call, source4Call, sourceCall, select4Call}
 use Rattle.definition.specs.Reference.Lookup as Lookup
 use Rattle.definition.specs.Reference.Lookup.{lookup4, lookup4Flow, local4}
 use Rattle.definition.specs.Reference.Source.{source, source4, select4, present}
 use Rattle.definition.specs.Kept.Encode.{Good, good-decode}
-use Rattle.definition.specs.Kept.Step.{checks-zero}
+use Rattle.definition.specs.Kept.Step.{good-held, checked-held}
+use Rattle.interface.specs.Laws.{tests}
 use Rattle.interface.specs.Answer.{numbers, foundBy, foundOf, localBy, localOf, chosenBy, chosenOf, sourcedBy, sourcedOf}
 use Rattle.interface.specs.declared.Found.{Found}
 use Rattle.interface.specs.declared.Local.{Local}
@@ -30,14 +31,12 @@ use Rattle.interface.specs.declared.Sourced.{Sourced}
 -- ---- what holds of a refusal and of an answer holds of a call's reply: a refusal has a number, and words that are not refused hold
 -- a good state
 module _ (P : Reply → Type 0) (buffers row request : Bool) (f : State → Reply) (w : List ℕ) where
-  pub reads : ((n : ℕ) → (n ≡ 0 → ⊥) → P (refusal n)) → (Good (decode w) → P (f (decode w))) → P (reading buffers row request f w .reply)
+  pub reads : ((n : ℕ) → (n ≡ 0 → ⊥) → P (refusal n)) → (Good (decode w) → P (f (decode w))) → P (reading (tests buffers row request) f w .reply)
   unfolding reading
   reads refuses answers =
-      let n = checks (eqb (length w) stateSize && buffers) (wellFormed w && row) request in
+      let n = checked (tests buffers row request) w in
       cond-case P (eqb n 0)
-      (λ e.
-      let p = checks-zero (eqb (length w) stateSize && buffers) (wellFormed w && row) request (eqb-true n 0 e) in
-      answers (good-decode w (eqb-true (length w) stateSize (and-left (eqb (length w) stateSize) buffers (p .room))) (and-left (wellFormed w) row (p .formed))))
+      (λ e. answers (good-held w (checked-held (tests buffers row request) w (eqb-true n 0 e))))
       (λ e. refuses n (eqb-false n 0 e))
 
 -- ---- refusals

@@ -11,4 +11,4 @@ use Rattle.definition.specs.Reference.Addresses.{primaryOf}
 
 -- 200 for words that are no state, 201 for one that is not well-formed or a row that could not stand in one
 unfoldable pub primaryOfCall : Row → List ℕ → Result
-primaryOfCall row w = reading true (fitAddress row) true (λ st. valued (primaryOf (st .addresses) row)) w
+primaryOfCall row w = reading (record { buffers = true; row = fitAddress row; request = 0 }) (λ st. valued (primaryOf (st .addresses) row)) w

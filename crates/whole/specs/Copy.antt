@@ -14,7 +14,7 @@ use Rattle.lists.specs.Put.{put-whole}
 use Rattle.definition.specs.State.{State, Out}
 use Rattle.definition.specs.Words.{within}
 use Rattle.definition.specs.Reference.Addresses.{Outcome, goes, refused}
-use Rattle.definition.specs.Kept.Step.{roomy}
+use Rattle.definition.specs.Step.{roomy}
 use Rattle.state.specs.Holds.{Holds, holds-long, Sound}
 use Rattle.events.specs.Does.{Does, does-length}
 use Rattle.steps.specs.Adds.{Adds, adds-rows, adds-full, does-adds, full-adds}

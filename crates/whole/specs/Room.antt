@@ -29,7 +29,8 @@ use Rattle.definition.specs.Reference.Insert.{addTable, listTable, create4, ins
 use Rattle.definition.specs.Reference.Addresses.{Outcome, refused, step, only, kernelRoute, localRoute, prefixRoute, upRoutes, candidates, primaryOf, bring, place4, newAddress, changedTo, reroutes, moved, changeV4, addedOver, addV4, sameAddress, loopback, up, namesBroadcast, ownNetwork}
 use Rattle.definition.specs.Kept.Growing.{Grows, insert-grows, no-replacing, length-place4}
 use Rattle.definition.specs.Kept.Peaks.{kernelAdd4-rises, newAddress-rises, up-rises, rises-within, kernelDel4-under}
-use Rattle.definition.specs.Kept.Step.{covered, roomy}
+use Rattle.definition.specs.Kept.Step.{covered}
+use Rattle.definition.specs.Step.{roomy}
 use Rattle.steps.specs.Adds.{within-also}
 use Rattle.adding.specs.Every.{turn, every}
 use Rattle.candidates.specs.Rows.{subnetRoute}

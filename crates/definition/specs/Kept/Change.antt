@@ -1,162 +1,168 @@
--- The seven calls that change the state, and what is kept by all of them.
+-- What every call keeps, call by call: the one place where the laws of the reference meet the calls.
 -- Assumes nothing.
 use Prim.Native.Nat.{ℕ}
-use mathlib.Core.Path.{_≡_, refl, ap}
-use mathlib.Core.Bool.{Bool, true, _&&_}
-use mathlib.Core.List.{List}
+use mathlib.Core.Path.{_≡_, refl}
+use mathlib.Core.Bool.{Bool, true, false, cond, _&&_}
+use mathlib.Core.Logic.{_≢_}
 use mathlib.Core.Option.{Option, none, some}
 use native.Mathlib.Omega.{arith}
-use lib.Dec.{leb}
+use lib.Dec.{leb, ltb}
 use lib.ListN.{length}
 use borrow.Author.Tests.{eqb-true}
 use Rattle.lists.specs.Lists.{Row}
 use Rattle.lists.specs.Bools.{and-left}
 use Rattle.life.specs.Life.{allowance}
+use Rattle.layout.specs.Address.{optional}
 use Rattle.layout.specs.Request.{fitAddV4, fitDelV4, fitAddRoute4, fitDelRoute4}
 use Rattle.definition.specs.State.{State, Out}
-use Rattle.definition.specs.Call.{Call}
-use Rattle.definition.specs.Reference.Addresses.{Outcome, goes, addV4, up, down}
-use Rattle.definition.specs.Reference.Removal.{delV4, expire}
-use Rattle.definition.specs.Reference.Routes.{addRoute4, delRoute4Request}
-use Rattle.definition.specs.Step.{Result, changing, reading, eventsFit, requestIs, clockLimit, upCall, downCall, addV4Call, delV4Call, expireCall, addRoute4Call, delRoute4Call, dump4Call, lookup4Call, lookup4FlowCall, local4Call, source4Call, sourceCall, select4Call, step}
+use Rattle.definition.specs.Call.{Call, Reply, refusal, valued, optionally, foundRow}
+use Rattle.definition.specs.Reference.Lookup.{Found, lookup4, lookup4Flow, flowTo, lookupIn}
+use Rattle.definition.specs.Reference.Source.{source4, select4, present}
+use Rattle.definition.specs.Reference.Addresses.{Outcome, goes, up, down}
+use Rattle.definition.specs.Reference.Removal.{expire}
+use Rattle.definition.specs.Step.{Checks, Action, changes, replies, lists, Semantics, going, query, unless, eventsFit, requestIs, clockLimit, semantics}
 use Rattle.definition.specs.Kept.Fit.{Fit, fit-state}
 use Rattle.definition.specs.Kept.Encode.{Good}
 use Rattle.definition.specs.Kept.Keeps.{Keeps, KeptOutcome}
 use Rattle.definition.specs.Kept.Addresses.{addV4-keeps, up-keeps, down-keeps}
 use Rattle.definition.specs.Kept.Removal.{delV4-keeps, expire-keeps}
 use Rattle.definition.specs.Kept.Requests.{addRoute4-keeps, delRoute4-keeps}
-use Rattle.definition.specs.Kept.Numbers.{Numbered, addV4-number, delV4-number, addRoute4-number, delRoute4-number}
+use Rattle.definition.specs.Kept.Numbers.{Numbered, OfFound, lookup-number, addV4-number, delV4-number, addRoute4-number, delRoute4-number}
+use Rattle.definition.specs.Kept.Refused.{Leaves, addV4-leaves, delV4-leaves, addRoute4-leaves, delRoute4-leaves}
 use Rattle.definition.specs.Kept.Told.{Brief, BriefOutcome, up-brief, down-brief, addV4-brief, delV4-brief, expire-brief, addRoute4-brief, delRoute4-brief}
 
--- a changing call: that its buffers suffice, that its request is fit, and what it does
-pub record Change : Type 0 where
-  pub buffers : Bool
-  pub request : Bool
-  pub does : State → Outcome
+-- the checks are passed
+pub record Passes (k : Checks) : Type 0 where
+  pub room : k .buffers ≡ true
+  pub handed : k .row ≡ true
+  pub fit : k .request ≡ 0
 
-abbrev pub changeOf : Call → Option Change
-changeOf (Call.up events now) = some (record { buffers = eventsFit events; request = true; does = λ st. goes (up now st) })
-changeOf (Call.down events) = some (record { buffers = eventsFit events; request = true; does = λ st. goes (down st) })
-changeOf (Call.addV4 q events now) =
-    some (record { buffers = requestIs 18 q && eventsFit events; request = fitAddV4 q; does = addV4 q now })
-changeOf (Call.delV4 q events) =
-    some (record { buffers = requestIs 11 q && eventsFit events; request = fitDelV4 q; does = delV4 q })
-changeOf (Call.expire events now) =
-    some (record { buffers = eventsFit events; request = leb now clockLimit; does = λ st. goes (expire allowance now st) })
-changeOf (Call.addRoute4 q events) =
-    some (record { buffers = requestIs 34 q && eventsFit events; request = fitAddRoute4 q; does = addRoute4 q })
-changeOf (Call.delRoute4 q events) =
-    some (record { buffers = requestIs 49 q && eventsFit events; request = fitDelRoute4 q; does = delRoute4Request q })
-changeOf (Call.dump4 listing) = none
-changeOf (Call.lookup4 rowRoom ip) = none
-changeOf (Call.lookup4Flow rowRoom ip tos oif) = none
-changeOf (Call.local4 ip) = none
-changeOf (Call.source4 row ip) = none
-changeOf (Call.source ip) = none
-changeOf (Call.select4 dstPresent dst scope) = none
-
-abbrev pub change : Change → List ℕ → Result
-change d w = changing (d .buffers) (d .request) (d .does) w
-
-same-change : (x d : Change) (w : List ℕ) → some x ≡ some d → change x w ≡ change d w
-same-change x d w e = let s : x ≡ d = cc in ap (λ (y : Change). change y w) s
-
-pub step-change : (c : Call) (d : Change) (w : List ℕ) → changeOf c ≡ some d → step c w ≡ change d w
-unfolding step upCall downCall addV4Call delV4Call expireCall addRoute4Call delRoute4Call
-step-change (Call.up events now) d w e = same-change _ d w e
-step-change (Call.down events) d w e = same-change _ d w e
-step-change (Call.addV4 q events now) d w e = same-change _ d w e
-step-change (Call.delV4 q events) d w e = same-change _ d w e
-step-change (Call.expire events now) d w e = same-change _ d w e
-step-change (Call.addRoute4 q events) d w e = same-change _ d w e
-step-change (Call.delRoute4 q events) d w e = same-change _ d w e
-step-change (Call.dump4 listing) d w e = cc
-step-change (Call.lookup4 rowRoom ip) d w e = cc
-step-change (Call.lookup4Flow rowRoom ip tos oif) d w e = cc
-step-change (Call.local4 ip) d w e = cc
-step-change (Call.source4 row ip) d w e = cc
-step-change (Call.source ip) d w e = cc
-step-change (Call.select4 dstPresent dst scope) d w e = cc
-
--- the other calls leave the words as they were
-pub step-reads : (c : Call) (w : List ℕ) → changeOf c ≡ none → (step c w) .words ≡ w
-unfolding step reading dump4Call lookup4Call lookup4FlowCall local4Call source4Call sourceCall select4Call
-step-reads (Call.up events now) w e = cc
-step-reads (Call.down events) w e = cc
-step-reads (Call.addV4 q events now) w e = cc
-step-reads (Call.delV4 q events) w e = cc
-step-reads (Call.expire events now) w e = cc
-step-reads (Call.addRoute4 q events) w e = cc
-step-reads (Call.delRoute4 q events) w e = cc
-step-reads (Call.dump4 listing) w e = refl
-step-reads (Call.lookup4 rowRoom ip) w e = refl
-step-reads (Call.lookup4Flow rowRoom ip tos oif) w e = refl
-step-reads (Call.local4 ip) w e = refl
-step-reads (Call.source4 row ip) w e = refl
-step-reads (Call.source ip) w e = refl
-step-reads (Call.select4 dstPresent dst scope) w e = refl
-
--- ---- what all of them keep
-pub record Sound (o : Outcome) : Type 0 where
+-- an outcome: fit, told in few rows, refused with a number of the reference, and then the state is `later`
+pub record Sound (later : State) (o : Outcome) : Type 0 where
   pub kept : KeptOutcome o
   pub brief : BriefOutcome o
   pub numbered : Numbered o
+  pub leaves : Leaves later o
 
--- on a good state, once the checks are passed
-pub record Sounds (d : Change) : Type 0 where
-  pub sound : (st : State) → Good st → d .buffers ≡ true → d .request ≡ true → Sound (d .does st)
+-- a reply: with a number nothing else, and never for want of space
+pub record Proper (r : Reply) : Type 0 where
+  pub alone : r .number ≢ 0 → r ≡ refusal (r .number)
+  pub spaced : r .number ≢ 203
 
+-- ---- what all calls keep, on a good state, once the checks are passed
+pub record Changes (k : Checks) (listed : State → State) (f : State → Outcome) : Type 0 where
+  pub sound : (st : State) → Good st → Passes k → Sound (listed st) (f st)
+
+pub record Replies (f : State → Reply) : Type 0 where
+  pub proper : (st : State) → Proper (f st)
+
+abbrev pub Acts : Checks → Action → Type 0
+Acts k (changes listed f) = Changes k listed f
+Acts k (replies f) = Replies f
+Acts k (lists f) = Unit {0}
+
+pub record Lawful (s : Semantics) : Type 0 where
+  pub request : s .checks .request ≢ 203
+  pub acts : Acts (s .checks) (s .action)
+
+-- ---- helpers
 abbrev fit : (st : State) → Good st → Fit st
 fit st g = fit-state st (g .fits)
+
+none-asked : _≢_ {A = ℕ} 0 203
+none-asked e = omega arith
+
+pub unless-202 : (b : Bool) → unless b 202 ≢ 203
+unless-202 true e = omega arith
+unless-202 false e = omega arith
+
+-- a check that gives 0 is passed
+pub unless-passed : (b : Bool) → unless b 202 ≡ 0 → b ≡ true
+unless-passed true e = refl
+unless-passed false e = absurd (omega arith)
 
 -- the request has its words
 sized-request : (n events : ℕ) (q : Row) → requestIs n q && eventsFit events ≡ true → length q ≡ n
 sized-request n events q h = eqb-true (length q) n (and-left (requestIs n q) (eventsFit events) h)
 
-same-sounds : (x d : Change) → some x ≡ some d → Sounds x → Sounds d
-same-sounds x d e h = let s : x ≡ d = cc in rw s at h
-
 -- a step that always goes on
-going : (f : State → Out) (buffers request : Bool) → Keeps f → ((st : State) → Good st → Brief (f st))
-    → Sounds (record { buffers = buffers; request = request; does = λ st. goes (f st) })
-going f buffers request k b =
-    record { sound = λ st g x y. record { kept = k .kept st (fit st g); brief = b st g; numbered = tt } }
+going-lawful : (events request : ℕ) (f : State → Out) → request ≢ 203 → Keeps f → ((st : State) → Good st → Brief (f st)) → Lawful (going events request f)
+going-lawful events request f r k b =
+    record {
+      request = r;
+      acts = record { sound = λ st g p. record { kept = k .kept st (fit st g); brief = b st g; numbered = tt; leaves = tt } };
+    }
 
-none-some : (d : Change) → none ≡ some d → ⊥
-none-some d e = let z : _≡_ {A = ℕ} 0 1 = cc in omega arith
+found-proper : (f : Found) → OfFound f → Proper (foundRow f)
+found-proper (Found.route r) o = record { alone = λ h. absurd (h refl); spaced = none-asked }
+found-proper (Found.refused n) o = record { alone = λ h. refl; spaced = λ e. omega (arith, o .most) }
 
-pub sounds : (c : Call) (d : Change) → changeOf c ≡ some d → Sounds d
-sounds (Call.up events now) d e =
-    same-sounds _ d e (going (up now) (eventsFit events) true (up-keeps now) (λ st g. up-brief st g now))
-sounds (Call.down events) d e = same-sounds _ d e (going down (eventsFit events) true down-keeps (λ st g. down-brief st g))
-sounds (Call.addV4 q events now) d e =
-    same-sounds _ d e
-    (record {
-      sound = λ st g x y.
+pub valued-proper : (v : ℕ) → Proper (valued v)
+valued-proper v = record { alone = λ h. absurd (h refl); spaced = none-asked }
+
+optionally-proper : (o : Option ℕ) → Proper (optionally o)
+optionally-proper none = record { alone = λ h. absurd (h refl); spaced = none-asked }
+optionally-proper (some v) = record { alone = λ h. absurd (h refl); spaced = none-asked }
+
+-- ---- the calls
+pub lawful : (c : Call) → Lawful (semantics c)
+unfolding lookup4 lookup4Flow
+lawful (Call.up events now) = going-lawful events 0 (up now) none-asked (up-keeps now) (λ st g. up-brief st g now)
+lawful (Call.down events) = going-lawful events 0 down none-asked down-keeps (λ st g. down-brief st g)
+lawful (Call.addV4 q events now) =
+    record {
+      request = unless-202 (fitAddV4 q);
+      acts =
           record {
-            kept = (addV4-keeps q now (sized-request 18 events q x) y) .kept st (fit st g);
-            brief = addV4-brief st g q now (sized-request 18 events q x) y;
-            numbered = addV4-number q now st;
+            sound = λ st g p.
+                let long = sized-request 18 events q (p .room) in
+                let fitted = unless-passed (fitAddV4 q) (p .fit) in
+                record {
+                  kept = addV4-keeps q now long fitted .kept st (fit st g);
+                  brief = addV4-brief st g q now long fitted;
+                  numbered = addV4-number q now st;
+                  leaves = addV4-leaves q now st;
+                };
           };
-    })
-sounds (Call.delV4 q events) d e =
-    same-sounds _ d e
-    (record { sound = λ st g x y. record { kept = (delV4-keeps q) .kept st (fit st g); brief = delV4-brief st g q; numbered = delV4-number q st } })
-sounds (Call.expire events now) d e =
-    same-sounds _ d e (going (expire allowance now) (eventsFit events) (leb now clockLimit) (expire-keeps allowance now) (λ st g. expire-brief st g allowance now))
-sounds (Call.addRoute4 q events) d e =
-    same-sounds _ d e
-    (record {
-      sound = λ st g x y.
-          record { kept = (addRoute4-keeps q (sized-request 34 events q x) y) .kept st (fit st g); brief = addRoute4-brief st g q; numbered = addRoute4-number q st y };
-    })
-sounds (Call.delRoute4 q events) d e =
-    same-sounds _ d e
-    (record { sound = λ st g x y. record { kept = (delRoute4-keeps q) .kept st (fit st g); brief = delRoute4-brief st g q; numbered = delRoute4-number q st } })
-sounds (Call.dump4 listing) d e = absurd (none-some d e)
-sounds (Call.lookup4 rowRoom ip) d e = absurd (none-some d e)
-sounds (Call.lookup4Flow rowRoom ip tos oif) d e = absurd (none-some d e)
-sounds (Call.local4 ip) d e = absurd (none-some d e)
-sounds (Call.source4 row ip) d e = absurd (none-some d e)
-sounds (Call.source ip) d e = absurd (none-some d e)
-sounds (Call.select4 dstPresent dst scope) d e = absurd (none-some d e)
+    }
+lawful (Call.delV4 q events) =
+    record {
+      request = unless-202 (fitDelV4 q);
+      acts = record { sound = λ st g p. record { kept = delV4-keeps q .kept st (fit st g); brief = delV4-brief st g q; numbered = delV4-number q st; leaves = delV4-leaves q st } };
+    }
+lawful (Call.expire events now) =
+    going-lawful events (unless (leb now clockLimit) 202) (expire allowance now) (unless-202 (leb now clockLimit)) (expire-keeps allowance now) (λ st g. expire-brief st g allowance now)
+lawful (Call.addRoute4 q events) =
+    record {
+      request = unless-202 (fitAddRoute4 q);
+      acts =
+          record {
+            sound = λ st g p.
+                let fitted = unless-passed (fitAddRoute4 q) (p .fit) in
+                record {
+                  kept = addRoute4-keeps q (sized-request 34 events q (p .room)) fitted .kept st (fit st g);
+                  brief = addRoute4-brief st g q;
+                  numbered = addRoute4-number q st fitted;
+                  leaves = addRoute4-leaves q st;
+                };
+          };
+    }
+lawful (Call.delRoute4 q events) =
+    record {
+      request = unless-202 (fitDelRoute4 q);
+      acts = record { sound = λ st g p. record { kept = delRoute4-keeps q .kept st (fit st g); brief = delRoute4-brief st g q; numbered = delRoute4-number q st; leaves = delRoute4-leaves q st } };
+    }
+lawful (Call.dump4 room) = record { request = none-asked; acts = tt }
+lawful (Call.lookup4 rowRoom ip) =
+    record { request = none-asked; acts = record { proper = λ st. found-proper (lookupIn st (flowTo ip)) (lookup-number st (flowTo ip)) } }
+lawful (Call.lookup4Flow rowRoom ip tos oif) =
+    record { request = unless-202 (ltb tos 256); acts = record { proper = λ st. found-proper (lookupIn st _) (lookup-number st _) } }
+lawful (Call.local4 ip) = record { request = none-asked; acts = record { proper = λ st. valued-proper _ } }
+lawful (Call.source4 row ip) =
+    record { request = none-asked; acts = record { proper = λ st. optionally-proper (source4 (st .addresses) row ip) } }
+lawful (Call.source ip) = record { request = none-asked; acts = record { proper = λ st. valued-proper _ } }
+lawful (Call.select4 dstPresent dst scope) =
+    record {
+      request = unless-202 (optional dstPresent dst && ltb scope 256);
+      acts = record { proper = λ st. optionally-proper (select4 (st .addresses) (present dstPresent dst) scope) };
+    }

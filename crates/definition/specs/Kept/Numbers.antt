@@ -8,13 +8,14 @@ use mathlib.Core.Logic.{_≢_}
 use mathlib.Core.Option.{Option, none, some}
 use native.Mathlib.Omega.{arith}
 use lib.Dec.{eqb, leb, ltb}
-use borrow.Author.Tests.{leb-true, eqb-false, not-true}
+use borrow.Author.Tests.{leb-true, eqb-false, not-true, lt-leb}
 use Rattle.lists.specs.Lists.{Row, any, first, eqRow}
 use Rattle.lists.specs.Bools.{and-iff, cond-case}
 use Rattle.kind.specs.Kind.{isKind, errorOf, leastScope}
 use Rattle.layout.specs.Route.{alike, kind, scope, gateway, gatewayPresent, prefsrcPresent}
 use Rattle.layout.specs.Request.{fitAddRoute4, metricsError, oif, upAtAddRoute4, nlmFlags, replaceAsked}
 use Rattle.definition.specs.State.{State}
+use Rattle.definition.specs.Step.{unfit}
 use Rattle.definition.specs.Reference.Lookup.{Flow, Found, route, answer, together, lookupIn, ruling, settled, rejects, listed, addrType4, defaultTable, mainTable, localTable, unicastKind, localKind}
 use Rattle.definition.specs.Reference.Insert.{create4, insert4, Inserted, put, nothing, isRow, exclFlag, replaceFlag, createFlag, appendFlag}
 use Rattle.definition.specs.Reference.Addresses.{Outcome, goes, refused, addedOver, addV4, sameAddress, linkScope, hostScope}
@@ -117,9 +118,20 @@ reach-number q st =
     (then-most (refuse (not (eqb (oif q) 1)) 19) _ (refuse-most (not (eqb (oif q) 1)) 19 (omega arith)) (refuse-most (eqb (upAtAddRoute4 q) 0) 100 (omega arith))))))))
 
 -- ---- the calls
+-- a number of the reference: none that leaves every word whatever the call
+pub record Referred (n : ℕ) : Type 0 where
+  pub positive : 0 < n
+  pub fit : unfit n ≡ false
+
 abbrev pub Numbered : Outcome → Type 0
 Numbered (goes o) = Unit
-Numbered (refused n st) = Errno n
+Numbered (refused n st) = Referred n
+
+pub referred : (n : ℕ) → Errno n → Referred n
+referred n e = record { positive = e .positive; fit = lt-leb 200 n (omega (arith, e .most)) }
+
+abbrev refers : (n : ℕ) → 0 < n → n ≤ 133 → Referred n
+refers n h k = referred n (errno n h k)
 
 abbrev OfInserted : Inserted → Type 0
 OfInserted (put rows flags) = Unit
@@ -142,12 +154,12 @@ insert-number new flags l =
 insertedAs-number : (new : Row) (i : Inserted) (st : State) → OfInserted i → Numbered (insertedAs new i st)
 insertedAs-number new (put rows flags) st h = tt
 insertedAs-number new nothing st h = tt
-insertedAs-number new (Inserted.refused n) st h = h
+insertedAs-number new (Inserted.refused n) st h = referred n h
 
 routed-number : (q : Row) (r : Reached) (st : State) → OfReached r → Numbered (routed q r st)
-routed-number q (Reached.refused n) st h = h
+routed-number q (Reached.refused n) st h = referred n h
 routed-number q (Reached.by linked) st h =
-    cond-case Numbered (eqb (prefsrcPresent q) 1 && not (validPrefsrc4 q st)) (λ e. errno 22 (omega arith) (omega arith))
+    cond-case Numbered (eqb (prefsrcPresent q) 1 && not (validPrefsrc4 q st)) (λ e. refers 22 (omega arith) (omega arith))
     (λ e. insertedAs-number (askedRoute q linked) (insert4 (askedRoute q linked) (nlmFlags q) (st .routes)) st (insert-number (askedRoute q linked) (nlmFlags q) (st .routes)))
 
 metrics-most : (q : Row) → fitAddRoute4 q ≡ true → metricsError q ≤ 133
@@ -167,21 +179,21 @@ unfolding addRoute4
 addRoute4-number q st h =
     let made : State = create4 (tableNamed q) st in
     cond-case Numbered (eqb (formCheck q) 0) (λ e. routed-number q (reachCheck q made) made (reach-number q made))
-    (λ e. errno (formCheck q) (not-zero (formCheck q) e) (form-most q h))
+    (λ e. refers (formCheck q) (not-zero (formCheck q) e) (form-most q h))
 
 deletedRoute-number : (q : Row) (o : Option Row) (st : State) → Numbered (deletedRoute q o st)
-deletedRoute-number q none st = errno 3 (omega arith) (omega arith)
+deletedRoute-number q none st = refers 3 (omega arith) (omega arith)
 deletedRoute-number q (some r) st = tt
 
 pub delRoute4-number : (q : Row) (st : State) → Numbered (delRoute4Request q st)
 unfolding delRoute4Request
 delRoute4-number q st =
     cond-case Numbered (listed (tableNamed q) st)
-    (λ e. cond-case Numbered (badPrefix q) (λ d. errno 22 (omega arith) (omega arith)) (λ d. deletedRoute-number q (first (selects q) (st .routes)) st))
-    (λ e. errno 3 (omega arith) (omega arith))
+    (λ e. cond-case Numbered (badPrefix q) (λ d. refers 22 (omega arith) (omega arith)) (λ d. deletedRoute-number q (first (selects q) (st .routes)) st))
+    (λ e. refers 3 (omega arith) (omega arith))
 
 addedOver-number : (q : Row) (now : ℕ) (o : Option Row) (st : State) → Numbered (addedOver q now o st)
-addedOver-number q now (some old) st = cond-case Numbered (eqb (replaceAsked q) 1) (λ e. tt) (λ e. errno 17 (omega arith) (omega arith))
+addedOver-number q now (some old) st = cond-case Numbered (eqb (replaceAsked q) 1) (λ e. tt) (λ e. refers 17 (omega arith) (omega arith))
 addedOver-number q now none st = tt
 
 pub addV4-number : (q : Row) (now : ℕ) (st : State) → Numbered (addV4 q now st)
@@ -189,7 +201,7 @@ unfolding addV4
 addV4-number q now st = addedOver-number q now (first (sameAddress q) (st .addresses)) st
 
 deletedAt-number : (o : Option Row) (st : State) → Numbered (deletedAt o st)
-deletedAt-number none st = errno 99 (omega arith) (omega arith)
+deletedAt-number none st = refers 99 (omega arith) (omega arith)
 deletedAt-number (some a) st = tt
 
 pub delV4-number : (q : Row) (st : State) → Numbered (delV4 q st)

@@ -25,7 +25,8 @@ use Rattle.definition.specs.Kept.Encode.{Good}
 use Rattle.definition.specs.Kept.Keeps.{Covers}
 use Rattle.definition.specs.Kept.Removal.{option-case}
 use Rattle.definition.specs.Kept.Growing.{Grows, insert-grows, no-replacing, length-place4}
-use Rattle.definition.specs.Kept.Step.{covered, roomy}
+use Rattle.definition.specs.Kept.Step.{covered}
+use Rattle.definition.specs.Step.{roomy}
 
 covers-refl : (s : Sizes) → Covers s s
 covers-refl s = record { ofAddresses = omega arith; ofRoutes = omega arith; ofTables = omega arith }

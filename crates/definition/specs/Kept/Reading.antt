@@ -19,11 +19,7 @@ use Rattle.kind.specs.Kind.{errorOf}
 use Rattle.layout.specs.Route.{fitRoute, table, len, kind}
 use Rattle.definition.specs.State.{State}
 use Rattle.definition.specs.Words.{noneTwice, wellFormed, decode}
-use Rattle.definition.specs.Call.{Call, Reply, foundRow, optionally}
-use Rattle.definition.specs.Step.{checks, reading, dump4Call, lookup4Call, lookup4FlowCall, local4Call, source4Call, sourceCall, select4Call, step}
-use Rattle.definition.specs.Kept.Change.{Change, changeOf}
-use Rattle.definition.specs.Kept.Step.{checks-most}
-use Rattle.definition.specs.Kept.Numbers.{OfFound, lookup-number}
+use Rattle.definition.specs.Kept.Numbers.{OfFound}
 use Rattle.definition.specs.Reference.Source.{below, tableOrder, dump4, select4, source4, present}
 use Rattle.definition.specs.Kept.Fit.{Fit, fit-state, sized-routes}
 use Rattle.definition.specs.Kept.Encode.{Good}
@@ -132,40 +128,3 @@ lookup-passes p st f h =
 -- the row of a lookup is fit
 pub lookup-fit : (st : State) (f : Flow) → Fit st → FoundIn fitRoute (lookupIn st f)
 lookup-fit st f h = lookup-passes fitRoute st f (h .ofRoutes .each)
-
--- ---- a reading call's number is never 203
-never : {d : Change} → some d ≡ none → _≡_ {A = ℕ} 0 1
-never e = cc
-
-found-most : (f : Found) → OfFound f → (foundRow f) .number ≤ 202
-found-most (route r) h = omega arith
-found-most (refused n) h = omega (arith, h .most)
-
-optionally-most : (o : Option ℕ) → (optionally o) .number ≤ 202
-optionally-most none = omega arith
-optionally-most (some v) = omega arith
-
-reading-most : (buffers row request : Bool) (f : State → Reply) (w : List ℕ) → ((st : State) → (f st) .number ≤ 202)
-    → (reading buffers row request f w) .reply .number ≤ 202
-unfolding reading
-reading-most buffers row request f w h =
-    let n : ℕ = checks (eqb (length w) 9507 && buffers) (wellFormed w && row) request in
-    cond-case (λ (r : Reply). r .number ≤ 202) (eqb n 0) (λ e. h (decode w)) (λ e. checks-most (eqb (length w) 9507 && buffers) (wellFormed w && row) request)
-
-pub reads-most : (c : Call) (w : List ℕ) → changeOf c ≡ none → (step c w) .reply .number ≤ 202
-unfolding step dump4Call lookup4Call lookup4FlowCall local4Call source4Call sourceCall select4Call lookup4 lookup4Flow
-reads-most (Call.up events now) w e = absurd (omega (arith, never e))
-reads-most (Call.down events) w e = absurd (omega (arith, never e))
-reads-most (Call.addV4 q events now) w e = absurd (omega (arith, never e))
-reads-most (Call.delV4 q events) w e = absurd (omega (arith, never e))
-reads-most (Call.expire events now) w e = absurd (omega (arith, never e))
-reads-most (Call.addRoute4 q events) w e = absurd (omega (arith, never e))
-reads-most (Call.delRoute4 q events) w e = absurd (omega (arith, never e))
-reads-most (Call.dump4 listing) w e = reading-most _ _ _ _ w (λ st. omega arith)
-reads-most (Call.lookup4 rowRoom ip) w e = reading-most _ _ _ _ w (λ st. found-most (lookupIn st (flowTo ip)) (lookup-number st (flowTo ip)))
-reads-most (Call.lookup4Flow rowRoom ip tos oif) w e =
-    reading-most _ _ _ _ w (λ st. found-most (lookupIn st (record { ip = ip; tos = tos; scope = 0; oif = oif })) (lookup-number st (record { ip = ip; tos = tos; scope = 0; oif = oif })))
-reads-most (Call.local4 ip) w e = reading-most _ _ _ _ w (λ st. omega arith)
-reads-most (Call.source4 row ip) w e = reading-most _ _ _ _ w (λ st. optionally-most (source4 (st .addresses) row ip))
-reads-most (Call.source ip) w e = reading-most _ _ _ _ w (λ st. omega arith)
-reads-most (Call.select4 dstPresent dst scope) w e = reading-most _ _ _ _ w (λ st. optionally-most (select4 (st .addresses) (present dstPresent dst) scope))

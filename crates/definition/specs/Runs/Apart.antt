@@ -1,11 +1,14 @@
 -- Call by call: one that isn't struck goes the same way without the chosen tables, one that is struck changes nothing outside them.
 use Prim.Native.Nat.{ℕ}
-use mathlib.Core.Path.{_≡_, refl, ap}
-use mathlib.Core.Bool.{Bool, true, false, cond, false≢true}
-use lib.Dec.{leb}
+use mathlib.Core.Path.{_≡_, refl, sym, ap, _∙_}
+use mathlib.Core.Bool.{Bool, true, false, cond, _&&_, _||_, or-false, false≢true}
+use mathlib.Core.List.{List, [], _∷_}
+use lib.Dec.{eqb}
 use Rattle.lists.specs.Bools.{test-case}
+use Rattle.lists.specs.Lists.{Row, any, keep}
 use Rattle.lists.specs.Keep.{keep-within}
 use Rattle.life.specs.Life.{allowance}
+use Rattle.layout.specs.Route.{table}
 use Rattle.definition.specs.State.{State, Out}
 use Rattle.definition.specs.Words.{ordered}
 use Rattle.definition.specs.Call.{Call, Reply, valued, written, foundRow}
@@ -14,107 +17,103 @@ use Rattle.definition.specs.Reference.Addresses.{Outcome, goes, addV4, u
 use Rattle.definition.specs.Reference.Removal.{delV4, expire}
 use Rattle.definition.specs.Reference.Routes.{addRoute4, delRoute4Request}
 use Rattle.definition.specs.Reference.Source.{dump4, sourceFor, orValue, source}
-use Rattle.definition.specs.Step.{listingRoom}
-use Rattle.definition.specs.Runs.Statement.{Choice, struck, outside, compared}
+use Rattle.definition.specs.Step.{Checks, Action, changes, replies, lists, alters, answered, Semantics, semantics}
+use Rattle.definition.specs.Runs.Statement.{Choice, struck, outside, comparing}
 use Rattle.definition.specs.Runs.Projection.{without, result, Apart, Tandem, both-go, both-refuse}
 use Rattle.definition.specs.Runs.Tables.{lookupIn-apart, local4-apart}
 use Rattle.definition.specs.Runs.Addresses.{addV4-apart, up-apart, down-apart, delV4-apart, expire-apart}
 use Rattle.definition.specs.Runs.Routes.{addRoute4-apart, delRoute4Request-apart, dump4-apart}
 use Rattle.definition.specs.Runs.Struck.{Hidden, addRoute4-unseen, delRoute4Request-unseen}
-use Rattle.definition.specs.Runs.Calls.{Deed, changing-by, reads, deed, answered, freely}
+use Rattle.definition.specs.Runs.Calls.{passing, doing, freely}
 
 module _ (chosen : ℕ → Bool) (choice : Choice chosen) where
-  -- ---- a deed that goes the same way without the chosen tables
-  record Level (d : Deed) (st : State) : Type 0 where
-    reply : freely d (without chosen st) .reply ≡ freely d st .reply
-    state : freely d (without chosen st) .state ≡ without chosen (freely d st .state)
+  -- ---- what each call has to show, by what it does and the tables that it names
+  -- a change: where it names no chosen table it goes the same way without them; where it does, it is not seen outside them
+  record Change (names : List ℕ) (f : State → Outcome) : Type 0 where
+    apart : any chosen names ≡ false → (st : State) → Tandem chosen (f st) (f (without chosen st))
+    unseen : any chosen names ≡ true → (st : State) → ordered (st .routes) ≡ true → Hidden chosen st (f st)
 
-  changes-level : (buffers request : Bool) (f : State → Outcome) (st : State) → Tandem chosen (f st) (f (without chosen st)) → Level (changing-by buffers request f) st
-  unfolding freely
-  changes-level false request f st t = record { reply = refl; state = refl }
-  changes-level true false f st t = record { reply = refl; state = refl }
-  changes-level true true f st t =
-      record { reply = same-answer (f st) (f (without chosen st)) t; state = same-result (f st) (f (without chosen st)) t }
-    where
-      same-answer : (o p : Outcome) → Tandem chosen o p → answered p ≡ answered o
-      same-answer o p (both-go m) = ap written (m .told)
-      same-answer o p (both-refuse n s) = refl
+  abbrev Unwinds : List ℕ → Action → Type 0
+  Unwinds names (changes listed f) = Change names f
+  Unwinds names (replies f) = (st : State) → f (without chosen st) ≡ f st
+  Unwinds names (lists f) = (st : State) → f (without chosen st) ≡ keep (outside chosen) (f st)
 
-      same-result : (o p : Outcome) → Tandem chosen o p → result p ≡ without chosen (result o)
-      same-result o p (both-go m) = m .state
-      same-result o p (both-refuse n s) = refl
+  -- a change that names no table
+  unnamed : {f : State → Outcome} → ((st : State) → Tandem chosen (f st) (f (without chosen st))) → Change [] f
+  unnamed t = record { apart = λ h. t; unseen = λ h. absurd (false≢true h) }
 
-  step-level : (buffers request : Bool) (f : State → Out) (st : State) → Apart chosen f → Level (changing-by buffers request (λ s. goes (f s))) st
-  step-level buffers request f st a = changes-level buffers request (λ s. goes (f s)) st (both-go (a st))
+  going : {f : State → Out} → Apart chosen f → Change [] (λ st. goes (f st))
+  going a = unnamed (λ st. both-go (a st))
 
-  reads-level : (buffers row request : Bool) (f : State → Reply) (st : State) → f (without chosen st) ≡ f st → Level (reads buffers row request f) st
-  unfolding freely
-  reads-level buffers row request f st e = record { reply = rw e; state = refl }
+  -- one that names one
+  naming : {f : State → Outcome} (t : ℕ) → (chosen t ≡ false → (st : State) → Tandem chosen (f st) (f (without chosen st)))
+      → (chosen t ≡ true → (st : State) → ordered (st .routes) ≡ true → Hidden chosen st (f st)) → Change (t ∷ []) f
+  naming t a u = record { apart = λ h. a (sym (or-false (chosen t)) ∙ h); unseen = λ h. u (sym (or-false (chosen t)) ∙ h) }
 
-  -- ---- a call that isn't struck
+  unwinds : (c : Call) → Unwinds (semantics c .names) (semantics c .action)
+  unfolding lookup4 lookup4Flow source
+  unwinds (Call.up events now) = going (up-apart chosen choice now)
+  unwinds (Call.down events) = going (down-apart chosen choice)
+  unwinds (Call.addV4 q events now) = unnamed (addV4-apart chosen choice q now)
+  unwinds (Call.delV4 q events) = unnamed (delV4-apart chosen choice q)
+  unwinds (Call.expire events now) = going (expire-apart chosen choice allowance now)
+  unwinds (Call.addRoute4 q events) = naming (table q) (addRoute4-apart chosen choice q) (addRoute4-unseen chosen choice q)
+  unwinds (Call.delRoute4 q events) =
+      naming (table q) (delRoute4Request-apart chosen choice q) (λ h st o. delRoute4Request-unseen chosen choice q h st)
+  unwinds (Call.dump4 room) = dump4-apart chosen choice
+  unwinds (Call.lookup4 rowRoom ip) = λ st. ap foundRow (lookupIn-apart chosen choice st (flowTo ip))
+  unwinds (Call.lookup4Flow rowRoom ip tos oif) = λ st. ap foundRow (lookupIn-apart chosen choice st _)
+  unwinds (Call.local4 ip) = λ st. ap (λ b. valued (cond b 1 0)) (local4-apart chosen choice st ip)
+  unwinds (Call.source4 row ip) = λ st. refl
+  unwinds (Call.source ip) = λ st.
+      ap (λ f. valued (orValue (sourceFor (st .addresses) ip f) 0x7f000001)) (lookupIn-apart chosen choice st (flowTo ip))
+  unwinds (Call.select4 dstPresent dst scope) = λ st. refl
+
+  -- ---- so for any call
   pub record Same (c : Call) (st : State) : Type 0 where
-    pub reply : compared chosen c (freely (deed c) (without chosen st) .reply) ≡ compared chosen c (freely (deed c) st .reply)
-    pub state : freely (deed c) (without chosen st) .state ≡ without chosen (freely (deed c) st .state)
+    pub reply : comparing chosen (semantics c .action) (freely (semantics c) (without chosen st) .reply) ≡ comparing chosen (semantics c .action) (freely (semantics c) st .reply)
+    pub state : freely (semantics c) (without chosen st) .state ≡ without chosen (freely (semantics c) st .state)
 
-  level : (c : Call) (st : State) → Level (deed c) st → Same c st
-  level c st l = record { reply = ap (compared chosen c) (l .reply); state = l .state }
+  same-answer : (o p : Outcome) → Tandem chosen o p → answered p ≡ answered o
+  same-answer o p (both-go m) = ap written (m .told)
+  same-answer o p (both-refuse n s) = refl
 
-  -- a listing, but for the rows of chosen tables
-  dump4-same : (room : ℕ) (st : State) → Same (Call.dump4 room) st
-  unfolding freely
-  dump4-same room st =
+  same-result : (o p : Outcome) → Tandem chosen o p → result p ≡ without chosen (result o)
+  same-result o p (both-go m) = m .state
+  same-result o p (both-refuse n s) = refl
+
+  record SameBy (a : Action) (n : ℕ) (st : State) : Type 0 where
+    reply : comparing chosen a (doing a n (without chosen st) .reply) ≡ comparing chosen a (doing a n st .reply)
+    state : doing a n (without chosen st) .state ≡ without chosen (doing a n st .state)
+
+  same-by : (names : List ℕ) (a : Action) → Unwinds names a → alters a && any chosen names ≡ false → (n : ℕ) (st : State) → SameBy a n st
+  same-by names (changes listed f) u h n st =
+      let t = u .apart h st in
+      test-case (eqb n 0)
+      (λ z. record { reply = rw z (same-answer (f st) (f (without chosen st)) t); state = rw z (same-result (f st) (f (without chosen st)) t) })
+      (λ z. record { reply = rw z; state = rw z })
+  same-by names (replies f) u h n st = record { reply = rw (u st); state = refl }
+  same-by names (lists f) u h n st =
       record {
         reply =
-            test-case (leb listingRoom room)
-            (λ e. rw e (ap written (rw (dump4-apart chosen choice st) (keep-within (outside chosen) (outside chosen) (λ r h. h) (dump4 st)))))
-            (λ e. rw e);
+            test-case (eqb n 0) (λ z. rw z (ap written (rw (u st) (keep-within (outside chosen) (outside chosen) (λ r k. k) (f st))))) (λ z. rw z);
         state = refl;
       }
 
+  -- a call that isn't struck
   pub same : (c : Call) → struck chosen c ≡ false → (st : State) → Same c st
-  unfolding lookup4 lookup4Flow source
-  same (Call.up events now) h st = level _ st (step-level _ _ (up now) st (up-apart chosen choice now))
-  same (Call.down events) h st = level _ st (step-level _ _ down st (down-apart chosen choice))
-  same (Call.addV4 q events now) h st = level _ st (changes-level _ _ (addV4 q now) st (addV4-apart chosen choice q now st))
-  same (Call.delV4 q events) h st = level _ st (changes-level _ _ (delV4 q) st (delV4-apart chosen choice q st))
-  same (Call.expire events now) h st =
-      level _ st (step-level _ _ (expire allowance now) st (expire-apart chosen choice allowance now))
-  same (Call.addRoute4 q events) h st =
-      level _ st (changes-level _ _ (addRoute4 q) st (addRoute4-apart chosen choice q h st))
-  same (Call.delRoute4 q events) h st =
-      level _ st (changes-level _ _ (delRoute4Request q) st (delRoute4Request-apart chosen choice q h st))
-  same (Call.dump4 room) h st = dump4-same room st
-  same (Call.lookup4 rowRoom ip) h st =
-      level _ st (reads-level _ _ _ _ st (ap foundRow (lookupIn-apart chosen choice st (flowTo ip))))
-  same (Call.lookup4Flow rowRoom ip tos oif) h st =
-      level _ st (reads-level _ _ _ _ st (ap foundRow (lookupIn-apart chosen choice st _)))
-  same (Call.local4 ip) h st =
-      level _ st (reads-level _ _ _ _ st (ap (λ b. valued (cond b 1 0)) (local4-apart chosen choice st ip)))
-  same (Call.source4 row ip) h st = level _ st (reads-level _ _ _ _ st refl)
-  same (Call.source ip) h st =
-      level _ st (reads-level _ _ _ _ st (ap (λ f. valued (orValue (sourceFor (st .addresses) ip f) 0x7f000001)) (lookupIn-apart chosen choice st (flowTo ip))))
-  same (Call.select4 dstPresent dst scope) h st = level _ st (reads-level _ _ _ _ st refl)
-
-  -- ---- a call that is struck
-  changes-hidden : (buffers request : Bool) (f : State → Outcome) (st : State) → Hidden chosen st (f st) → without chosen (freely (changing-by buffers request f) st .state) ≡ without chosen st
   unfolding freely
-  changes-hidden false request f st h = refl
-  changes-hidden true false f st h = refl
-  changes-hidden true true f st h = h .same
+  same c h st =
+      let s = same-by (semantics c .names) (semantics c .action) (unwinds c) h (passing (semantics c .checks)) st in
+      record { reply = s .reply; state = s .state }
 
-  pub hidden : (c : Call) → struck chosen c ≡ true → (st : State) → ordered (st .routes) ≡ true → without chosen (freely (deed c) st .state) ≡ without chosen st
-  hidden (Call.addRoute4 q events) h st o = changes-hidden _ _ (addRoute4 q) st (addRoute4-unseen chosen choice q h st o)
-  hidden (Call.delRoute4 q events) h st o =
-      changes-hidden _ _ (delRoute4Request q) st (delRoute4Request-unseen chosen choice q h st)
-  hidden (Call.up events now) h st o = absurd (false≢true h)
-  hidden (Call.down events) h st o = absurd (false≢true h)
-  hidden (Call.addV4 q events now) h st o = absurd (false≢true h)
-  hidden (Call.delV4 q events) h st o = absurd (false≢true h)
-  hidden (Call.expire events now) h st o = absurd (false≢true h)
-  hidden (Call.dump4 room) h st o = absurd (false≢true h)
-  hidden (Call.lookup4 rowRoom ip) h st o = absurd (false≢true h)
-  hidden (Call.lookup4Flow rowRoom ip tos oif) h st o = absurd (false≢true h)
-  hidden (Call.local4 ip) h st o = absurd (false≢true h)
-  hidden (Call.source4 row ip) h st o = absurd (false≢true h)
-  hidden (Call.source ip) h st o = absurd (false≢true h)
-  hidden (Call.select4 dstPresent dst scope) h st o = absurd (false≢true h)
+  -- and one that is
+  hidden-by : (names : List ℕ) (a : Action) → Unwinds names a → alters a && any chosen names ≡ true → (n : ℕ) (st : State) → ordered (st .routes) ≡ true
+      → without chosen (doing a n st .state) ≡ without chosen st
+  hidden-by names (changes listed f) u h n st o = test-case (eqb n 0) (λ z. rw z (u .unseen h st o .same)) (λ z. rw z)
+  hidden-by names (replies f) u h n st o = refl
+  hidden-by names (lists f) u h n st o = refl
+
+  pub hidden : (c : Call) → struck chosen c ≡ true → (st : State) → ordered (st .routes) ≡ true → without chosen (freely (semantics c) st .state) ≡ without chosen st
+  unfolding freely
+  hidden c h st o = hidden-by (semantics c .names) (semantics c .action) (unwinds c) h (passing (semantics c .checks)) st o

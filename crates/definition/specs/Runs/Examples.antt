@@ -14,7 +14,7 @@ use Rattle.lists.specs.All.{all-head, all-tail, eqRow-true}
 use Rattle.lists.specs.Keep.{keep-within}
 use Rattle.layout.specs.Route.{table, dst, len, kind, prefsrc}
 use Rattle.definition.specs.State.{State, empty}
-use Rattle.definition.specs.Words.{decode}
+use Rattle.definition.specs.Words.{stateOf}
 use Rattle.definition.specs.Call.{Call, Reply}
 use Rattle.definition.specs.Reference.Lookup.{answer, flowTo}
 use Rattle.definition.specs.Reference.Source.{dump4}
@@ -95,7 +95,7 @@ check e =
 record Shown (e : Example) : Type 0 where
   alike : Alike private (e .calls) (plain e)
   found : e .look (observed private (e .calls) emptyWords) ≡ e .finds
-  parted : eqRow (e .leak (decode (after (e .calls) emptyWords))) (e .leak (decode (after (plain e) emptyWords))) ≡ false
+  parted : eqRow (e .leak (stateOf (after (e .calls) emptyWords))) (e .leak (stateOf (after (plain e) emptyWords))) ≡ false
 
 choice : Choice private
 choice = record { not-0 = refl; not-253 = refl; not-254 = refl; not-255 = refl }

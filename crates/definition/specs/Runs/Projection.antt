@@ -10,12 +10,8 @@ use Rattle.lists.specs.Bools.{and-left, and-right}
 use Rattle.lists.specs.All.{all-always}
 use Rattle.definition.specs.State.{State, Out, also, through}
 use Rattle.definition.specs.Reference.Addresses.{Outcome, goes, refused}
+unfoldable pub use Rattle.definition.specs.Step.{result}
 use Rattle.definition.specs.Runs.Statement.{outside}
-
--- the state that a changing call leaves, if that keeps to the limits
-abbrev pub result : Outcome → State
-result (goes o) = o .state
-result (refused n st) = st
 
 module _ (chosen : ℕ → Bool) where
   -- a table that isn't chosen

@@ -1,15 +1,15 @@
 -- Two runs side by side: the claim (document 01, the section of that name), over the calls on words.
 use Prim.Native.Nat.{ℕ}
 use mathlib.Core.Path.{_≡_}
-use mathlib.Core.Bool.{Bool, true, false, cond, not, _&&_}
+use mathlib.Core.Bool.{Bool, true, false, cond, not, _&&_, or-false}
 use mathlib.Core.List.{List, [], _∷_}
 use lib.Dec.{eqb}
-use Rattle.lists.specs.Lists.{Row, keep, zeros}
+use Rattle.lists.specs.Lists.{Row, any, keep, zeros}
 use Rattle.layout.specs.Route.{table}
 use Rattle.definition.specs.State.{State}
-use Rattle.definition.specs.Words.{stateSize, decode}
+use Rattle.definition.specs.Words.{stateSize, stateOf}
 use Rattle.definition.specs.Call.{Call, Reply, written}
-use Rattle.definition.specs.Step.{step}
+use Rattle.definition.specs.Step.{Action, changes, replies, lists, alters, semantics, step}
 
 -- "Chosen is any set of table numbers without 0, 253, 254 and 255."
 pub record Choice (chosen : ℕ → Bool) : Type 0 where
@@ -18,22 +18,16 @@ pub record Choice (chosen : ℕ → Bool) : Type 0 where
   pub not-254 : chosen 254 ≡ false
   pub not-255 : chosen 255 ≡ false
 
--- "Struck is each add_route4 or del_route4, refused or not, whose request names a chosen table."
+-- "Struck is each add_route4 or del_route4, refused or not, whose request names a chosen table": of the calls that change, these
+-- are the ones that name a table (Step, `semantics`)
 abbrev pub struck : (ℕ → Bool) → Call → Bool
-struck chosen (Call.addRoute4 q events) = chosen (table q)
-struck chosen (Call.delRoute4 q events) = chosen (table q)
-struck chosen (Call.up events now) = false
-struck chosen (Call.down events) = false
-struck chosen (Call.addV4 q events now) = false
-struck chosen (Call.delV4 q events) = false
-struck chosen (Call.expire events now) = false
-struck chosen (Call.dump4 listing) = false
-struck chosen (Call.lookup4 rowRoom ip) = false
-struck chosen (Call.lookup4Flow rowRoom ip tos oif) = false
-struck chosen (Call.local4 ip) = false
-struck chosen (Call.source4 row ip) = false
-struck chosen (Call.source ip) = false
-struck chosen (Call.select4 dstPresent dst scope) = false
+struck chosen c = alters (semantics c .action) && any chosen (semantics c .names)
+
+struck-addRoute4 : (chosen : ℕ → Bool) (q : Row) (events : ℕ) → struck chosen (Call.addRoute4 q events) ≡ chosen (table q)
+struck-addRoute4 chosen q events = or-false (chosen (table q))
+
+struck-delRoute4 : (chosen : ℕ → Bool) (q : Row) (events : ℕ) → struck chosen (Call.delRoute4 q events) ≡ chosen (table q)
+struck-delRoute4 chosen q events = or-false (chosen (table q))
 
 -- the calls that aren't struck, in order
 abbrev pub unstruck : (ℕ → Bool) → List Call → List Call
@@ -67,22 +61,14 @@ abbrev pub listing : (ℕ → Bool) → Reply → Reply
 listing chosen r = cond (eqb (r .number) 0) (written (keep (outside chosen) (r .rows))) r
 
 -- "Compared are, for each call not struck, the number or reply and the event rows written, in order, word for word (a row in a
--- reply stands as its words, never as its place)"
+-- reply stands as its words, never as its place)"; dump4 is the call that lists
+abbrev pub comparing : (ℕ → Bool) → Action → Reply → Reply
+comparing chosen (changes listed f) r = r
+comparing chosen (replies f) r = r
+comparing chosen (lists f) r = listing chosen r
+
 abbrev pub compared : (ℕ → Bool) → Call → Reply → Reply
-compared chosen (Call.dump4 room) r = listing chosen r
-compared chosen (Call.up events now) r = r
-compared chosen (Call.down events) r = r
-compared chosen (Call.addV4 q events now) r = r
-compared chosen (Call.delV4 q events) r = r
-compared chosen (Call.expire events now) r = r
-compared chosen (Call.addRoute4 q events) r = r
-compared chosen (Call.delRoute4 q events) r = r
-compared chosen (Call.lookup4 rowRoom ip) r = r
-compared chosen (Call.lookup4Flow rowRoom ip tos oif) r = r
-compared chosen (Call.local4 ip) r = r
-compared chosen (Call.source4 row ip) r = r
-compared chosen (Call.source ip) r = r
-compared chosen (Call.select4 dstPresent dst scope) r = r
+compared chosen c r = comparing chosen (semantics c .action) r
 
 -- that for each call of a run, from the words w
 unfoldable pub observed : (ℕ → Bool) → List Call → List ℕ → List Reply
@@ -102,7 +88,7 @@ view chosen st = record { addresses = st .addresses; routes = keep (outside chos
 -- The claim, of two whole lists.
 pub record Alike (chosen : ℕ → Bool) (cs ds : List Call) : Type 0 where
   pub answers : observed chosen cs emptyWords ≡ observed chosen ds emptyWords
-  pub afterwards : view chosen (decode (after cs emptyWords)) ≡ view chosen (decode (after ds emptyWords))
+  pub afterwards : view chosen (stateOf (after cs emptyWords)) ≡ view chosen (stateOf (after ds emptyWords))
 
 abbrev pub TwoRuns : Type 0
 TwoRuns =

@@ -5,25 +5,25 @@ use mathlib.Core.Bool.{Bool, true}
 use mathlib.Core.List.{List, [], _∷_}
 use Rattle.lists.specs.Bools.{and-left, and-right, test-case}
 use Rattle.definition.specs.State.{State}
-use Rattle.definition.specs.Words.{decode}
+use Rattle.definition.specs.Words.{stateOf}
 use Rattle.definition.specs.Call.{Call, Reply}
-use Rattle.definition.specs.Step.{step}
+use Rattle.definition.specs.Step.{semantics, step}
 use Rattle.definition.specs.Kept.Fit.{fit-state}
 use Rattle.definition.specs.Kept.Step.{Held, held-empty, good-held}
 use Rattle.definition.specs.Runs.Statement.{Choice, struck, unstruck, emptyWords, after, spacious, compared, observed, View, TwoRuns}
 use Rattle.definition.specs.Runs.Projection.{without}
-use Rattle.definition.specs.Runs.Calls.{deed, freely, spaced, step-follows, bounded-freely}
+use Rattle.definition.specs.Runs.Calls.{freely, spaced, step-follows, bounded-freely}
 use Rattle.definition.specs.Runs.Apart.{same, hidden}
 
 -- ---- a run without limits, on states
 ideal : (ℕ → Bool) → List Call → State → List Reply
 ideal chosen [] st = []
 ideal chosen (c ∷ cs) st =
-    compared chosen c (freely (deed c) st .reply) ∷ ideal chosen cs (freely (deed c) st .state)
+    compared chosen c (freely (semantics c) st .reply) ∷ ideal chosen cs (freely (semantics c) st .state)
 
 last : List Call → State → State
 last [] st = st
-last (c ∷ cs) st = last cs (freely (deed c) st .state)
+last (c ∷ cs) st = last cs (freely (semantics c) st .state)
 
 -- what is compared afterwards of the state without the chosen tables
 seen : State → View
@@ -32,8 +32,8 @@ seen st = record { addresses = st .addresses; routes = st .routes }
 module _ (chosen : ℕ → Bool) (choice : Choice chosen) where
   -- the run on words answers, and ends, as what isn't struck does without the chosen tables
   record Projects (cs : List Call) (w : List ℕ) : Type 0 where
-    answers : observed chosen cs w ≡ ideal chosen (unstruck chosen cs) (without chosen (decode w))
-    ends : without chosen (decode (after cs w)) ≡ last (unstruck chosen cs) (without chosen (decode w))
+    answers : observed chosen cs w ≡ ideal chosen (unstruck chosen cs) (without chosen (stateOf w))
+    ends : without chosen (stateOf (after cs w)) ≡ last (unstruck chosen cs) (without chosen (stateOf w))
 
   projects : (cs : List Call) (w : List ℕ) → Held w → spacious cs w ≡ true → Projects cs w
   unfolding observed after spacious ideal last
@@ -42,20 +42,20 @@ module _ (chosen : ℕ → Bool) (choice : Choice chosen) where
       let w′ = step c w .words in
       let spare = and-left (spaced (step c w .reply)) (spacious cs w′) h in
       let f = step-follows c w s in
-      let free = bounded-freely (deed c) (decode w) (rw (f .reply) at spare) in
-      let reply : step c w .reply ≡ freely (deed c) (decode w) .reply = f .reply ∙ ap (λ d. d .reply) free in
-      let state : decode w′ ≡ freely (deed c) (decode w) .state = f .state ∙ ap (λ d. d .state) free in
+      let free = bounded-freely (semantics c) (stateOf w) (rw (f .reply) at spare) in
+      let reply : step c w .reply ≡ freely (semantics c) (stateOf w) .reply = f .reply ∙ ap (λ d. d .reply) free in
+      let state : stateOf w′ ≡ freely (semantics c) (stateOf w) .state = f .state ∙ ap (λ d. d .state) free in
       let later = projects cs w′ (f .held) (and-right (spaced (step c w .reply)) (spacious cs w′) h) in
-      let inOrder = fit-state (decode w) (good-held w s .fits) .ofRoutes .inOrder in
+      let inOrder = fit-state (stateOf w) (good-held w s .fits) .ofRoutes .inOrder in
       test-case (struck chosen c)
       (λ e.
-      let unseen : without chosen (decode w′) ≡ without chosen (decode w) =
-      ap (without chosen) state ∙ hidden chosen choice c e (decode w) inOrder
+      let unseen : without chosen (stateOf w′) ≡ without chosen (stateOf w) =
+      ap (without chosen) state ∙ hidden chosen choice c e (stateOf w) inOrder
       in
       record { answers = rw e (later .answers ∙ ap (ideal chosen (unstruck chosen cs)) unseen); ends = rw e (later .ends ∙ ap (last (unstruck chosen cs)) unseen) })
       (λ e.
-      let m = same chosen choice c e (decode w) in
-      let moved : without chosen (decode w′) ≡ freely (deed c) (without chosen (decode w)) .state =
+      let m = same chosen choice c e (stateOf w) in
+      let moved : without chosen (stateOf w′) ≡ freely (semantics c) (without chosen (stateOf w)) .state =
       ap (without chosen) state ∙ sym (m .state)
       in
       record {
@@ -70,6 +70,6 @@ two-runs chosen choice cs ds agree h k =
     let p = projects chosen choice cs emptyWords held-empty h in
     let q = projects chosen choice ds emptyWords held-empty k in
     record {
-      answers = p .answers ∙ ap (λ l. ideal chosen l (without chosen (decode emptyWords))) agree ∙ sym (q .answers);
-      afterwards = ap seen (p .ends ∙ ap (λ l. last l (without chosen (decode emptyWords))) agree ∙ sym (q .ends));
+      answers = p .answers ∙ ap (λ l. ideal chosen l (without chosen (stateOf emptyWords))) agree ∙ sym (q .answers);
+      afterwards = ap seen (p .ends ∙ ap (λ l. last l (without chosen (stateOf emptyWords))) agree ∙ sym (q .ends));
     }
