@@ -49,3 +49,17 @@ optionally (some v) = record { number = 0; present = 1; value = v; second = 0; r
 abbrev pub foundRow : Found → Reply
 foundRow (Found.route r) = record { number = 0; present = 0; value = 0; second = 0; rows = r ∷ [] }
 foundRow (Found.refused n) = refusal n
+
+-- the numbers of a reply; the rows that a call wrote stand in the buffer that it was lent
+pub record Numbers : Type 0 where
+  pub number : ℕ
+  pub present : ℕ
+  pub value : ℕ
+  pub second : ℕ
+
+abbrev pub numbers : Reply → Numbers
+numbers r = record { number = r .number; present = r .present; value = r .value; second = r .second }
+
+-- the reply of these numbers and rows
+abbrev pub replied : Numbers → List Row → Reply
+replied n rows = record { number = n .number; present = n .present; value = n .value; second = n .second; rows = rows }

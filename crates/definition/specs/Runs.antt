@@ -11,3 +11,5 @@ pub mod Theorem
 pub mod Computed
 pub mod Examples
 pub mod Public
+pub mod ReadBack
+pub mod Code

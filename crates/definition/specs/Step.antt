@@ -14,7 +14,7 @@ use Rattle.layout.specs.Request.{addV4Size, fitAddV4, delV4Size, fitDelV4, addR
 use Rattle.definition.specs.State.{State, Sizes, Out, sizes}
 use Rattle.definition.specs.Words.{within, stateSize, leaves, stateOf, formed}
 use Rattle.definition.specs.Call.{Call, Reply, refusal, valued, written, optionally, foundRow}
-use Rattle.definition.specs.Reference.Lookup.{lookup4, lookup4Flow, local4}
+use Rattle.definition.specs.Reference.Lookup.{Found, lookup4, lookup4Flow, local4}
 use Rattle.definition.specs.Reference.Insert.{create4}
 use Rattle.definition.specs.Reference.Addresses.{Outcome, goes, refused, addV4, up, down}
 use Rattle.definition.specs.Reference.Removal.{delV4, expire}
@@ -49,9 +49,17 @@ alters (changes listed f) = true
 alters (replies f) = false
 alters (lists f) = false
 
+-- the buffer that it is lent, by the words that this has room for: none, or one for events, a listing, a lookup's one row
+pub data Buffer : Type 0 where
+  unlent : Buffer
+  forEvents : (room : ℕ) → Buffer
+  forListing : (room : ℕ) → Buffer
+  forRow : (room : ℕ) → Buffer
+
 -- and the tables that its arguments name
 pub record Semantics : Type 0 where
   pub checks : Checks
+  pub lent : Buffer
   pub names : List ℕ
   pub action : Action
 
@@ -132,41 +140,54 @@ abbrev pub requestIs : ℕ → Row → Bool
 requestIs n q = eqb (length q) n
 
 -- a change; one that always goes on; one by a request of so many words; one by a request for a route, which names a table
-abbrev pub change : Bool → ℕ → (State → Outcome) → Semantics
-change buffers request f =
+abbrev pub change : ℕ → Bool → ℕ → (State → Outcome) → Semantics
+change events buffers request f =
     record {
       checks = record { buffers = buffers; row = true; request = request };
+      lent = forEvents events;
       names = [];
       action = changes (λ st. st) f;
     }
 
 abbrev pub going : ℕ → ℕ → (State → Out) → Semantics
-going events request f = change (eventsFit events) request (λ st. goes (f st))
+going events request f = change events (eventsFit events) request (λ st. goes (f st))
 
 abbrev pub asked : ℕ → Row → ℕ → ℕ → (State → Outcome) → Semantics
-asked size q events request f = change (requestIs size q && eventsFit events) request f
+asked size q events request f = change events (requestIs size q && eventsFit events) request f
 
 abbrev pub routed : ℕ → Row → ℕ → ℕ → (State → State) → (State → Outcome) → Semantics
 routed size q events request listed f =
     record {
       checks = record { buffers = requestIs size q && eventsFit events; row = true; request = request };
+      lent = forEvents events;
       names = table q ∷ [];
       action = changes listed f;
     }
 
--- a reply, a row counting with the state
-abbrev pub query : Bool → Bool → ℕ → (State → Reply) → Semantics
-query buffers row request f =
+-- a reply, a row counting with the state; a row that is found
+abbrev pub query : Bool → ℕ → (State → Reply) → Semantics
+query row request f =
     record {
-      checks = record { buffers = buffers; row = row; request = request };
+      checks = record { buffers = true; row = row; request = request };
+      lent = unlent;
       names = [];
       action = replies f;
+    }
+
+abbrev pub finding : ℕ → ℕ → (State → Found) → Semantics
+finding room request f =
+    record {
+      checks = record { buffers = leb Route.size room; row = true; request = request };
+      lent = forRow room;
+      names = [];
+      action = replies (λ st. foundRow (f st));
     }
 
 abbrev pub listing : ℕ → (State → List Row) → Semantics
 listing room f =
     record {
       checks = record { buffers = leb listingRoom room; row = true; request = 0 };
+      lent = forListing room;
       names = [];
       action = lists f;
     }
@@ -182,14 +203,14 @@ semantics (Call.addRoute4 q events) =
 semantics (Call.delRoute4 q events) =
     routed delRoute4Size q events (unless (fitDelRoute4 q) 202) (λ st. st) (delRoute4Request q)
 semantics (Call.dump4 room) = listing room dump4
-semantics (Call.lookup4 rowRoom ip) = query (leb Route.size rowRoom) true 0 (λ st. foundRow (lookup4 st ip))
+semantics (Call.lookup4 rowRoom ip) = finding rowRoom 0 (λ st. lookup4 st ip)
 semantics (Call.lookup4Flow rowRoom ip tos oif) =
-    query (leb Route.size rowRoom) true (unless (ltb tos 256) 202) (λ st. foundRow (lookup4Flow st ip tos oif))
-semantics (Call.local4 ip) = query true true 0 (λ st. valued (cond (local4 st ip) 1 0))
-semantics (Call.source4 row ip) = query true (fitRoute row) 0 (λ st. optionally (source4 (st .addresses) row ip))
-semantics (Call.source ip) = query true true 0 (λ st. valued (source st ip))
+    finding rowRoom (unless (ltb tos 256) 202) (λ st. lookup4Flow st ip tos oif)
+semantics (Call.local4 ip) = query true 0 (λ st. valued (cond (local4 st ip) 1 0))
+semantics (Call.source4 row ip) = query (fitRoute row) 0 (λ st. optionally (source4 (st .addresses) row ip))
+semantics (Call.source ip) = query true 0 (λ st. valued (source st ip))
 semantics (Call.select4 dstPresent dst scope) =
-    query true true (unless (optional dstPresent dst && ltb scope 256) 202)
+    query true (unless (optional dstPresent dst && ltb scope 256) 202)
     (λ st. optionally (select4 (st .addresses) (present dstPresent dst) scope))
 
 abbrev pub step : Call → List ℕ → Result

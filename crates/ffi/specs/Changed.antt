@@ -13,17 +13,19 @@ use borrow.Author.Tests.{eqb-true, leb-true}
 use Rattle.lists.specs.Lists.{Row, flat, put}
 use Rattle.lists.specs.Put.{put-whole}
 use Rattle.lists.specs.Rows.{length-flat}
-use Rattle.lists.specs.Bools.{cond-true, cond-false, and-left, and-right}
+use Rattle.lists.specs.Bools.{cond-true, cond-false, and-left, and-right, true-false}
 use Rattle.definition.specs.Call as Call
 use Rattle.definition.specs.Step.{Result}
 use Rattle.endian.specs.Endian.{bytesOf}
-use Rattle.endian.specs.Laws.{length-bytesOf, bytes-none}
+use Rattle.endian.specs.Laws.{Below, length-bytesOf, bytes-none}
+use Rattle.runs.specs.Bytes.{Narrow}
 use Rattle.reply.specs.declared.Reply.{Reply}
 use Rattle.reply.specs.Answer.{replyOf}
 use Rattle.changes.specs.Told.{Told}
 use Rattle.dump.specs.Listing.{Lists}
 use Rattle.ffi.specs.Answer.{onBytes, stateFits, roomFits, changeFits, requestFits, stateOn}
 use Rattle.ffi.specs.Rows.{OneRow}
+use Rattle.ffi.specs.Narrow.{rows-below, narrow-yes}
 
 -- all of the state's bytes are written
 pub state-back : (w b b′ : List ℕ) → length w ≡ 9507 → length b ≡ 38028 → b′ ≡ put 0 (bytesOf w) b → b′ ≡ bytesOf w
@@ -44,6 +46,7 @@ rows-front rows e l n long f = ap (take n) f ∙ take-at (flat rows) (drop (0 + 
 pub record Wrote (fit : Bool) (out : List ℕ) (r : Call.Reply) (x : Reply) (out′ : List ℕ) : Type 0 where
   pub answer : x ≡ replyOf (onBytes fit r)
   pub rows : out′ ≡ put 0 (bytesOf (flat (onBytes fit r .rows))) out
+  pub narrow : fit ≡ true → Below 4294967296 (flat (r .rows))
 
 no-rows : (out : List ℕ) → out ≡ put 0 (bytesOf (flat [])) out
 unfolding flat
@@ -56,16 +59,18 @@ module _ (fit : Bool) (out : List ℕ) (r : Call.Reply) (x : Reply) where
       record {
         answer = e ∙ ap replyOf (sym o);
         rows = no-rows out ∙ ap (λ (y : Call.Reply). put 0 (bytesOf (flat (y .rows))) out) (sym o);
+        narrow = λ t. absurd (true-false fit t h);
       }
 
-  pub wrote-yes : (e′ l out′ : List ℕ) (n : ℕ) → fit ≡ true → length (flat (r .rows)) ≡ n → x ≡ replyOf r → e′ ≡ put 0 (flat (r .rows)) l → out′ ≡ put 0 (bytesOf (take n e′)) out → Wrote fit out r x out′
-  wrote-yes e′ l out′ n h long a e q =
+  pub wrote-yes : (e′ l out′ : List ℕ) (n : ℕ) → fit ≡ true → length (flat (r .rows)) ≡ n → x ≡ replyOf r → e′ ≡ put 0 (flat (r .rows)) l → out′ ≡ put 0 (bytesOf (take n e′)) out → Below 4294967296 e′ → Wrote fit out r x out′
+  wrote-yes e′ l out′ n h long a e q u =
       let o : onBytes fit r ≡ r = cond-true fit r (Call.refusal 200) h in
       record {
         answer = a ∙ ap replyOf (sym o);
         rows =
             q ∙ ap (λ (y : List ℕ). put 0 (bytesOf y) out) (rows-front (r .rows) e′ l n long e)
             ∙ ap (λ (y : Call.Reply). put 0 (bytesOf (flat (y .rows))) out) (sym o);
+        narrow = λ f. rows-below (flat (r .rows)) e′ l u e;
       }
 
 -- the same of other words, if they are equal
@@ -90,25 +95,28 @@ pub record Changed (fit : Bool) (b ev : List ℕ) (res : Result) (x : Reply) (b�
   pub answer : x ≡ replyOf (onBytes fit (res .reply))
   pub state : b′ ≡ stateOn fit b (res .words)
   pub events : ev′ ≡ put 0 (bytesOf (flat (onBytes fit (res .reply) .rows))) ev
+  pub narrow : fit ≡ true → Narrow res
 
 module _ (b ev : List ℕ) (fit : Bool) where
   pub changed-no : (res : Result) (x : Reply) → fit ≡ false → x ≡ replyOf (Call.refusal 200) → Changed fit b ev res x b ev
   changed-no res x h e =
       let w = wrote-no fit ev (res .reply) x h e in
-      record { answer = w .answer; state = sym (cond-false fit (bytesOf (res .words)) b h); events = w .rows }
+      record { answer = w .answer; state = sym (cond-false fit (bytesOf (res .words)) b h); events = w .rows; narrow = λ t. absurd (true-false fit t h) }
 
   pub changed-yes : (res : Result) (x : Reply) (w′ e′ l b′ ev′ : List ℕ) → fit ≡ true → Told (res .reply) → x ≡ replyOf (res .reply) → w′ ≡ res .words
-      → e′ ≡ put 0 (flat (res .reply .rows)) l → b′ ≡ bytesOf w′ → ev′ ≡ put 0 (bytesOf (take (34 * x .value) e′)) ev → Changed fit b ev res x b′ ev′
-  changed-yes res x w′ e′ l b′ ev′ h t a s e p q =
+      → e′ ≡ put 0 (flat (res .reply .rows)) l → b′ ≡ bytesOf w′ → ev′ ≡ put 0 (bytesOf (take (34 * x .value) e′)) ev
+      → Below 4294967296 w′ × Below 4294967296 e′ → Changed fit b ev res x b′ ev′
+  changed-yes res x w′ e′ l b′ ev′ h t a s e p q u =
       let n : x .value ≡ res .reply .value = ap (λ (y : Reply). y .value) a in
       let long : length (flat (res .reply .rows)) ≡ 34 * x .value =
       length-flat 34 (res .reply .rows) (t .size) ∙ ap (λ (k : ℕ). 34 * k) (sym (n ∙ t .counts))
       in
-      let w = wrote-yes fit ev (res .reply) x e′ l ev′ (34 * x .value) h long a e q in
+      let w = wrote-yes fit ev (res .reply) x e′ l ev′ (34 * x .value) h long a e q (u .1) in
       record {
         answer = w .answer;
         state = p ∙ ap bytesOf s ∙ sym (cond-true fit (bytesOf (res .words)) b h);
         events = w .rows;
+        narrow = λ f. narrow-yes res w′ e′ l (u .0) (u .1) s e;
       }
 
   pub as-words : (call : List ℕ → Result) (x : Reply) (b′ ev′ w v : List ℕ) → w ≡ v → Changed fit b ev (call w) x b′ ev′ → Changed fit b ev (call v) x b′ ev′

@@ -8,7 +8,7 @@ use Rattle.lists.specs.Bools.{cond-case}
 use Rattle.life.specs.Life.{allowance}
 use Rattle.definition.specs.State.{State, Out}
 use Rattle.definition.specs.Words.{within, decode, encode}
-use Rattle.definition.specs.Step.{Result, Checks, changes, changing, outcome, expireCall}
+use Rattle.definition.specs.Step.{Result, Checks, unlent, changes, changing, outcome, expireCall}
 use Rattle.definition.specs.Reference.Addresses.{goes}
 use Rattle.definition.specs.Reference.Removal.{expire}
 use Rattle.definition.specs.Laws.Expire.{expire-quiet}
@@ -23,7 +23,7 @@ limited-stays o w q =
 module _ (k : Checks) (f : State → Out) (w : List ℕ) (quiet : (st : State) → length (f st .told) ≡ 0 → f st .state ≡ st) where
   change-stays : changing k (λ st. goes (f st)) w .reply .value ≡ 0 → Stays (changing k (λ st. goes (f st)) w) w
   change-stays =
-      perform-case (λ (r : Result). r .reply .value ≡ 0 → Stays r w) w (record { checks = k; names = []; action = changes (λ st. st) (λ st. goes (f st)) })
+      perform-case (λ (r : Result). r .reply .value ≡ 0 → Stays r w) w (record { checks = k; lent = unlent; names = []; action = changes (λ st. st) (λ st. goes (f st)) })
       (λ z. limited-stays (f (decode w)) w (λ h. ap encode (quiet (decode w) h) ∙ leaves-decode w (checked-held k w z)))
       (λ n e z h. record { words = refl; value = refl })
 

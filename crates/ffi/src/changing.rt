@@ -8,6 +8,8 @@ ghost use lib.ListN.{length, take};
 ghost use Rattle.lists.specs.Lists.{flat, put};
 ghost use Rattle.definition.specs.Step.{upCall, downCall, addV4Call, delV4Call, expireCall, addRoute4Call, delRoute4Call};
 ghost use Rattle.endian.specs.Endian.{wordsOf, bytesOf};
+ghost use Rattle.endian.specs.Laws.{Below};
+ghost use Rattle.runs.specs.Bytes.{Narrow};
 ghost use Rattle.reply.specs.Answer.{replyOf};
 ghost use Rattle.ffi.specs.Answer.{onBytes, changeFits, requestFits, stateOn};
 
@@ -17,6 +19,7 @@ fn give_back(kept: bool, s: &[u32], e: &[u32], n: u32, state: &mut [u8], events:
     requires { ⌜ (kept ≡ true → (now state ≡ bytesOf (now s)) × (n ≡ 0)) ⌝ }
     ensures { λ _. ⌜ now (state .exit) ≡ bytesOf (now (s .entry)) ⌝ }
     ensures { λ _. ⌜ now (events .exit) ≡ put 0 (bytesOf (take (34 * n) (now (e .entry)))) (now (events .entry)) ⌝ }
+    ensures { λ _. ⌜ Below 4294967296 (now (s .entry)) × Below 4294967296 (now (e .entry)) ⌝ }
 {
     if kept {
         return;
@@ -31,6 +34,7 @@ pub extern "C" fn interface4_down(state: &mut [u8], events: &mut [u8]) -> Reply
     ensures { λ r. ⌜ r ≡ replyOf (onBytes (changeFits (now (state .entry)) (now (events .entry))) (downCall 13056 (wordsOf (now (state .entry))) .reply)) ⌝ }
     ensures { λ _. ⌜ now (state .exit) ≡ stateOn (changeFits (now (state .entry)) (now (events .entry))) (now (state .entry)) (downCall 13056 (wordsOf (now (state .entry))) .words) ⌝ }
     ensures { λ _. ⌜ now (events .exit) ≡ put 0 (bytesOf (flat (onBytes (changeFits (now (state .entry)) (now (events .entry))) (downCall 13056 (wordsOf (now (state .entry))) .reply) .rows))) (now (events .entry)) ⌝ }
+    ensures { λ _. ⌜ (changeFits (now (state .entry)) (now (events .entry)) ≡ true → Narrow (downCall 13056 (wordsOf (now (state .entry))))) ⌝ }
 {
     if !((state.len() == 38028) & (52224 <= events.len())) {
         return reply::refused(200);
@@ -52,6 +56,7 @@ pub extern "C" fn interface4_add_route4(
     ensures { λ r. ⌜ r ≡ replyOf (onBytes (requestFits 136 (now (request .entry)) (now (state .entry)) (now (events .entry))) (addRoute4Call (wordsOf (now (request .entry))) 13056 (wordsOf (now (state .entry))) .reply)) ⌝ }
     ensures { λ _. ⌜ now (state .exit) ≡ stateOn (requestFits 136 (now (request .entry)) (now (state .entry)) (now (events .entry))) (now (state .entry)) (addRoute4Call (wordsOf (now (request .entry))) 13056 (wordsOf (now (state .entry))) .words) ⌝ }
     ensures { λ _. ⌜ now (events .exit) ≡ put 0 (bytesOf (flat (onBytes (requestFits 136 (now (request .entry)) (now (state .entry)) (now (events .entry))) (addRoute4Call (wordsOf (now (request .entry))) 13056 (wordsOf (now (state .entry))) .reply) .rows))) (now (events .entry)) ⌝ }
+    ensures { λ _. ⌜ (requestFits 136 (now (request .entry)) (now (state .entry)) (now (events .entry)) ≡ true → Narrow (addRoute4Call (wordsOf (now (request .entry))) 13056 (wordsOf (now (state .entry))))) ⌝ }
 {
     if !((request.len() == 136) & ((state.len() == 38028) & (52224 <= events.len()))) {
         return reply::refused(200);
@@ -76,6 +81,7 @@ pub extern "C" fn interface4_del_route4(
     ensures { λ r. ⌜ r ≡ replyOf (onBytes (requestFits 196 (now (request .entry)) (now (state .entry)) (now (events .entry))) (delRoute4Call (wordsOf (now (request .entry))) 13056 (wordsOf (now (state .entry))) .reply)) ⌝ }
     ensures { λ _. ⌜ now (state .exit) ≡ stateOn (requestFits 196 (now (request .entry)) (now (state .entry)) (now (events .entry))) (now (state .entry)) (delRoute4Call (wordsOf (now (request .entry))) 13056 (wordsOf (now (state .entry))) .words) ⌝ }
     ensures { λ _. ⌜ now (events .exit) ≡ put 0 (bytesOf (flat (onBytes (requestFits 196 (now (request .entry)) (now (state .entry)) (now (events .entry))) (delRoute4Call (wordsOf (now (request .entry))) 13056 (wordsOf (now (state .entry))) .reply) .rows))) (now (events .entry)) ⌝ }
+    ensures { λ _. ⌜ (requestFits 196 (now (request .entry)) (now (state .entry)) (now (events .entry)) ≡ true → Narrow (delRoute4Call (wordsOf (now (request .entry))) 13056 (wordsOf (now (state .entry))))) ⌝ }
 {
     if !((request.len() == 196) & ((state.len() == 38028) & (52224 <= events.len()))) {
         return reply::refused(200);
@@ -95,6 +101,7 @@ pub extern "C" fn interface4_up(state: &mut [u8], events: &mut [u8], clock: u64)
     ensures { λ r. ⌜ r ≡ replyOf (onBytes (changeFits (now (state .entry)) (now (events .entry))) (upCall 13056 clock (wordsOf (now (state .entry))) .reply)) ⌝ }
     ensures { λ _. ⌜ now (state .exit) ≡ stateOn (changeFits (now (state .entry)) (now (events .entry))) (now (state .entry)) (upCall 13056 clock (wordsOf (now (state .entry))) .words) ⌝ }
     ensures { λ _. ⌜ now (events .exit) ≡ put 0 (bytesOf (flat (onBytes (changeFits (now (state .entry)) (now (events .entry))) (upCall 13056 clock (wordsOf (now (state .entry))) .reply) .rows))) (now (events .entry)) ⌝ }
+    ensures { λ _. ⌜ (changeFits (now (state .entry)) (now (events .entry)) ≡ true → Narrow (upCall 13056 clock (wordsOf (now (state .entry))))) ⌝ }
 {
     if !((state.len() == 38028) & (52224 <= events.len())) {
         return reply::refused(200);
@@ -117,6 +124,7 @@ pub extern "C" fn interface4_add_v4(
     ensures { λ r. ⌜ r ≡ replyOf (onBytes (requestFits 72 (now (request .entry)) (now (state .entry)) (now (events .entry))) (addV4Call (wordsOf (now (request .entry))) 13056 clock (wordsOf (now (state .entry))) .reply)) ⌝ }
     ensures { λ _. ⌜ now (state .exit) ≡ stateOn (requestFits 72 (now (request .entry)) (now (state .entry)) (now (events .entry))) (now (state .entry)) (addV4Call (wordsOf (now (request .entry))) 13056 clock (wordsOf (now (state .entry))) .words) ⌝ }
     ensures { λ _. ⌜ now (events .exit) ≡ put 0 (bytesOf (flat (onBytes (requestFits 72 (now (request .entry)) (now (state .entry)) (now (events .entry))) (addV4Call (wordsOf (now (request .entry))) 13056 clock (wordsOf (now (state .entry))) .reply) .rows))) (now (events .entry)) ⌝ }
+    ensures { λ _. ⌜ (requestFits 72 (now (request .entry)) (now (state .entry)) (now (events .entry)) ≡ true → Narrow (addV4Call (wordsOf (now (request .entry))) 13056 clock (wordsOf (now (state .entry))))) ⌝ }
 {
     if !((request.len() == 72) & ((state.len() == 38028) & (52224 <= events.len()))) {
         return reply::refused(200);
@@ -136,6 +144,7 @@ pub extern "C" fn interface4_del_v4(state: &mut [u8], request: &[u8], events: &m
     ensures { λ r. ⌜ r ≡ replyOf (onBytes (requestFits 44 (now (request .entry)) (now (state .entry)) (now (events .entry))) (delV4Call (wordsOf (now (request .entry))) 13056 (wordsOf (now (state .entry))) .reply)) ⌝ }
     ensures { λ _. ⌜ now (state .exit) ≡ stateOn (requestFits 44 (now (request .entry)) (now (state .entry)) (now (events .entry))) (now (state .entry)) (delV4Call (wordsOf (now (request .entry))) 13056 (wordsOf (now (state .entry))) .words) ⌝ }
     ensures { λ _. ⌜ now (events .exit) ≡ put 0 (bytesOf (flat (onBytes (requestFits 44 (now (request .entry)) (now (state .entry)) (now (events .entry))) (delV4Call (wordsOf (now (request .entry))) 13056 (wordsOf (now (state .entry))) .reply) .rows))) (now (events .entry)) ⌝ }
+    ensures { λ _. ⌜ (requestFits 44 (now (request .entry)) (now (state .entry)) (now (events .entry)) ≡ true → Narrow (delV4Call (wordsOf (now (request .entry))) 13056 (wordsOf (now (state .entry))))) ⌝ }
 {
     if !((request.len() == 44) & ((state.len() == 38028) & (52224 <= events.len()))) {
         return reply::refused(200);
@@ -155,6 +164,7 @@ pub extern "C" fn interface4_expire(state: &mut [u8], events: &mut [u8], clock: 
     ensures { λ r. ⌜ r ≡ replyOf (onBytes (changeFits (now (state .entry)) (now (events .entry))) (expireCall 13056 clock (wordsOf (now (state .entry))) .reply)) ⌝ }
     ensures { λ _. ⌜ now (state .exit) ≡ stateOn (changeFits (now (state .entry)) (now (events .entry))) (now (state .entry)) (expireCall 13056 clock (wordsOf (now (state .entry))) .words) ⌝ }
     ensures { λ _. ⌜ now (events .exit) ≡ put 0 (bytesOf (flat (onBytes (changeFits (now (state .entry)) (now (events .entry))) (expireCall 13056 clock (wordsOf (now (state .entry))) .reply) .rows))) (now (events .entry)) ⌝ }
+    ensures { λ _. ⌜ (changeFits (now (state .entry)) (now (events .entry)) ≡ true → Narrow (expireCall 13056 clock (wordsOf (now (state .entry))))) ⌝ }
 {
     if !((state.len() == 38028) & (52224 <= events.len())) {
         return reply::refused(200);

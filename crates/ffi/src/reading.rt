@@ -2,11 +2,13 @@
 use crate::on_words;
 use reply::Reply;
 ghost use mathlib.Core.Path.{_≡_};
+ghost use mathlib.Core.Bool.{true};
 ghost use Prim.Native.Nat.{_≤_, _*_};
 ghost use lib.ListN.{length, take};
 ghost use Rattle.lists.specs.Lists.{flat, put};
 ghost use Rattle.definition.specs.Step.{dump4Call, lookup4Call, lookup4FlowCall, local4Call, source4Call, sourceCall, select4Call, leftCall};
 ghost use Rattle.endian.specs.Endian.{wordsOf, bytesOf};
+ghost use Rattle.endian.specs.Laws.{Below};
 ghost use Rattle.reply.specs.Answer.{replyOf};
 ghost use Rattle.ffi.specs.Answer.{checkCall, onBytes, stateFits, roomFits, rowWords};
 
@@ -92,6 +94,7 @@ pub extern "C" fn interface4_source4(state: &[u8], row: &[u8], ip: u32) -> Reply
 fn give_rows(l: &[u32], n: u32, out: &mut [u8])
     requires { ⌜ (n ≤ 256) × (32 * n ≤ length (now l)) × (128 * n ≤ length (now out)) ⌝ }
     ensures { λ _. ⌜ now (out .exit) ≡ put 0 (bytesOf (take (32 * n) (now (l .entry)))) (now (out .entry)) ⌝ }
+    ensures { λ _. ⌜ Below 4294967296 (now (l .entry)) ⌝ }
 {
     let end = 32 * (n as usize);
     endian::bytes_of(&l[0..end], out);
@@ -101,6 +104,7 @@ fn give_rows(l: &[u32], n: u32, out: &mut [u8])
 pub extern "C" fn interface4_dump4(state: &[u8], listing: &mut [u8]) -> Reply
     ensures { λ r. ⌜ r ≡ replyOf (onBytes (roomFits 32768 (now (state .entry)) (now (listing .entry))) (dump4Call 8192 (wordsOf (now (state .entry))) .reply)) ⌝ }
     ensures { λ _. ⌜ now (listing .exit) ≡ put 0 (bytesOf (flat (onBytes (roomFits 32768 (now (state .entry)) (now (listing .entry))) (dump4Call 8192 (wordsOf (now (state .entry))) .reply) .rows))) (now (listing .entry)) ⌝ }
+    ensures { λ _. ⌜ (roomFits 32768 (now (state .entry)) (now (listing .entry)) ≡ true → Below 4294967296 (flat (dump4Call 8192 (wordsOf (now (state .entry))) .reply .rows))) ⌝ }
 {
     if !((state.len() == 38028) & (32768 <= listing.len())) {
         return reply::refused(200);
@@ -117,6 +121,7 @@ pub extern "C" fn interface4_dump4(state: &[u8], listing: &mut [u8]) -> Reply
 pub extern "C" fn interface4_lookup4(state: &[u8], row: &mut [u8], ip: u32) -> Reply
     ensures { λ r. ⌜ r ≡ replyOf (onBytes (roomFits 128 (now (state .entry)) (now (row .entry))) (lookup4Call 32 ip (wordsOf (now (state .entry))) .reply)) ⌝ }
     ensures { λ _. ⌜ now (row .exit) ≡ put 0 (bytesOf (flat (onBytes (roomFits 128 (now (state .entry)) (now (row .entry))) (lookup4Call 32 ip (wordsOf (now (state .entry))) .reply) .rows))) (now (row .entry)) ⌝ }
+    ensures { λ _. ⌜ (roomFits 128 (now (state .entry)) (now (row .entry)) ≡ true → Below 4294967296 (flat (lookup4Call 32 ip (wordsOf (now (state .entry))) .reply .rows))) ⌝ }
 {
     if !((state.len() == 38028) & (128 <= row.len())) {
         return reply::refused(200);
@@ -139,6 +144,7 @@ pub extern "C" fn interface4_lookup4_flow(
 ) -> Reply
     ensures { λ r. ⌜ r ≡ replyOf (onBytes (roomFits 128 (now (state .entry)) (now (row .entry))) (lookup4FlowCall 32 ip tos oif (wordsOf (now (state .entry))) .reply)) ⌝ }
     ensures { λ _. ⌜ now (row .exit) ≡ put 0 (bytesOf (flat (onBytes (roomFits 128 (now (state .entry)) (now (row .entry))) (lookup4FlowCall 32 ip tos oif (wordsOf (now (state .entry))) .reply) .rows))) (now (row .entry)) ⌝ }
+    ensures { λ _. ⌜ (roomFits 128 (now (state .entry)) (now (row .entry)) ≡ true → Below 4294967296 (flat (lookup4FlowCall 32 ip tos oif (wordsOf (now (state .entry))) .reply .rows))) ⌝ }
 {
     if !((state.len() == 38028) & (128 <= row.len())) {
         return reply::refused(200);

@@ -5,6 +5,7 @@ use mathlib.Core.List.{List, [], _∷_}
 use lib.Dec.{eqb}
 use Rattle.lists.specs.Lists.{Row}
 use Rattle.definition.specs.Call.{Reply}
+pub use Rattle.definition.specs.Call.{Numbers, numbers}
 use Rattle.definition.specs.Reference.Lookup as Lookup
 use Rattle.source.specs.declared.Selected as Selected
 use Rattle.source.specs.declared.Selected.{Selected}
@@ -12,16 +13,6 @@ use Rattle.interface.specs.declared.Found as Found
 use Rattle.interface.specs.declared.Local as Local
 use Rattle.interface.specs.declared.Chosen as Chosen
 use Rattle.interface.specs.declared.Sourced as Sourced
-
--- the numbers of a reply; the rows that a call wrote stand in the buffer that it was lent
-pub record Numbers : Type 0 where
-  pub number : ℕ
-  pub present : ℕ
-  pub value : ℕ
-  pub second : ℕ
-
-abbrev pub numbers : Reply → Numbers
-numbers r = record { number = r .number; present = r .present; value = r .value; second = r .second }
 
 abbrev pub refusedBy : ℕ → Numbers
 refusedBy n = record { number = n; present = 0; value = 0; second = 0 }

@@ -66,7 +66,7 @@ step-follows c w h = go (semantics c .action) (lawful c .acts)
     k : Checks
     k = semantics c .checks
 
-    go : (a : Action) → Acts k a → Follows (record { checks = k; names = semantics c .names; action = a }) w (act a k w)
+    go : (a : Action) → Acts k a → Follows (record { checks = k; lent = semantics c .lent; names = semantics c .names; action = a }) w (act a k w)
     go (changes listed f) l =
         let o = f (stateOf w) in
         test-case (eqb (passing k) 0)

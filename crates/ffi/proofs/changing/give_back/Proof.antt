@@ -35,7 +35,8 @@ returns : tie.Need-returns
 returns c =
     let t = c .before .before .before .before .before in
     let k = t .pre .1 (c .if1 .taken) in
-    (k .0, none-back (t .args .e .now) (t .args .events .now) (t .args .n) (k .1))
+    let u = c .before .before .before in
+    (k .0, (none-back (t .args .e .now) (t .args .events .now) (t .args .n) (k .1), ((λ i. u .before .shared-slice-known .given i .fits), (λ i. u .shared-slice-known2 .given i .fits))))
 
 returns-2 : tie.Need-returns-2
 returns-2 c =
@@ -43,7 +44,8 @@ returns-2 c =
     let p = q .before .before .before .before .before in
     let t = p .before .before .before .before .before .before .before in
     let a = t .args in
-    (state-back (a .s .now) (a .state .now) _ (t .pre .0 .0) (t .pre .0 .3) (p .bytes-of .ensures), part-back (a .e .now) (a .events .now) _ (34 * a .n) (q .bytes-of2 .ensures))
+    let u = p .before .before .before .before .before in
+    (state-back (a .s .now) (a .state .now) _ (t .pre .0 .0) (t .pre .0 .3) (p .bytes-of .ensures), (part-back (a .e .now) (a .events .now) _ (34 * a .n) (q .bytes-of2 .ensures), ((λ i. u .before .shared-slice-known .given i .fits), (λ i. u .shared-slice-known2 .given i .fits))))
 
 pub give-back-spec : {M : Type 1} → statement M
 give-back-spec =

@@ -21,7 +21,7 @@ returns : tie.Need-returns
 returns c =
     let a = c .before .before .before .before .args in
     let x = changed-no (a .state .now) (a .events .now) (changeFits (a .state .now) (a .events .now)) (downCall 13056 (wordsOf (a .state .now))) (c .refused .result) (not-true _ (c .before .if1 .taken)) (c .refused .ensures) in
-    (x .answer, (x .state, x .events))
+    (x .answer, (x .state, (x .events, x .narrow)))
 
 slice-aggregate-words-of : tie.Need-slice-aggregate-words-of
 slice-aggregate-words-of c = search needs
@@ -74,9 +74,9 @@ returns-2 c =
     let f = changeFits (a .state .now) (a .events .now) in
     let r = room 52224 (a .state .now) (a .events .now) (not-false _ (e .if1 .left)) in
     let s = words-whole 9507 (a .state .now) _ _ (r .0) refl (k .words-of .ensures) in
-    let y = changed-yes (a .state .now) (a .events .now) f (downCall 13056 _) (d .interface4w-down .result) _ _ _ _ _ (not-false _ (e .if1 .left)) (down-told _ 13056) (d .interface4w-down .ensures .0) (d .interface4w-down .ensures .1 .0) (d .interface4w-down .ensures .1 .1) (g .give-back .ensures .0) (g .give-back .ensures .1) in
+    let y = changed-yes (a .state .now) (a .events .now) f (downCall 13056 _) (d .interface4w-down .result) _ _ _ _ _ (not-false _ (e .if1 .left)) (down-told _ 13056) (d .interface4w-down .ensures .0) (d .interface4w-down .ensures .1 .0) (d .interface4w-down .ensures .1 .1) (g .give-back .ensures .0) (g .give-back .ensures .1 .0) (g .give-back .ensures .1 .1) in
     let x = as-words (a .state .now) (a .events .now) f (downCall 13056) (d .interface4w-down .result) _ _ _ _ s y in
-    (x .answer, (x .state, x .events))
+    (x .answer, (x .state, (x .events, x .narrow)))
 
 pub interface4-down-spec : {M : Type 1} → statement M
 interface4-down-spec =

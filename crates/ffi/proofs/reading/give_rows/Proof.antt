@@ -28,7 +28,7 @@ returns : tie.Need-returns
 returns c =
     let q = c .before .before in
     let a = q .before .before .before .before .before .args in
-    part-back (a .l .now) (a .out .now) _ (32 * a .n) (q .bytes-of .ensures)
+    (part-back (a .l .now) (a .out .now) _ (32 * a .n) (q .bytes-of .ensures), (λ i. q .before .before .before .before .shared-slice-known .given i .fits))
 
 pub give-rows-spec : {M : Type 1} → statement M
 give-rows-spec =

@@ -22,7 +22,7 @@ returns : tie.Need-returns
 returns c =
     let a = c .before .before .before .before .args in
     let x = wrote-no (roomFits 32768 (a .state .now) (a .listing .now)) (a .listing .now) (dump4Call 8192 (wordsOf (a .state .now)) .reply) (c .refused .result) (not-true _ (c .before .if1 .taken)) (c .refused .ensures) in
-    (x .answer, x .rows)
+    (x .answer, (x .rows, x .narrow))
 
 slice-aggregate-words-of : tie.Need-slice-aggregate-words-of
 slice-aggregate-words-of c = search needs
@@ -70,9 +70,9 @@ returns-2 c =
     let r = room 32768 (a .state .now) (a .listing .now) (not-false _ (e .if1 .left)) in
     let s = words-whole 9507 (a .state .now) _ _ (r .0) refl (k .words-of .ensures) in
     let m = listing-words (d .interface4w-dump4 .result) _ (d .interface4w-dump4 .ensures .0) (dump4-lists _ 8192) in
-    let y = wrote-yes f (a .listing .now) (dump4Call 8192 _ .reply) (d .interface4w-dump4 .result) _ _ _ (32 * d .interface4w-dump4 .result .value) (not-false _ (e .if1 .left)) (m .1) (d .interface4w-dump4 .ensures .0) (d .interface4w-dump4 .ensures .1) (g .give-rows .ensures) in
+    let y = wrote-yes f (a .listing .now) (dump4Call 8192 _ .reply) (d .interface4w-dump4 .result) _ _ _ (32 * d .interface4w-dump4 .result .value) (not-false _ (e .if1 .left)) (m .1) (d .interface4w-dump4 .ensures .0) (d .interface4w-dump4 .ensures .1) (g .give-rows .ensures .0) (g .give-rows .ensures .1) in
     let x = wrote-on f (a .listing .now) (λ (u : List ℕ). dump4Call 8192 u .reply) (d .interface4w-dump4 .result) _ _ _ s y in
-    (x .answer, x .rows)
+    (x .answer, (x .rows, x .narrow))
 
 pub interface4-dump4-spec : {M : Type 1} → statement M
 interface4-dump4-spec =

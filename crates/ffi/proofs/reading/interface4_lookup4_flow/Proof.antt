@@ -24,7 +24,7 @@ returns : tie.Need-returns
 returns c =
     let a = c .before .before .before .before .args in
     let x = wrote-no (roomFits 128 (a .state .now) (a .row .now)) (a .row .now) (lookup4FlowCall 32 (a .ip) (a .tos) (a .oif) (wordsOf (a .state .now)) .reply) (c .refused .result) (not-true _ (c .before .if1 .taken)) (c .refused .ensures) in
-    (x .answer, x .rows)
+    (x .answer, (x .rows, x .narrow))
 
 slice-aggregate-words-of : tie.Need-slice-aggregate-words-of
 slice-aggregate-words-of c = search needs
@@ -75,9 +75,9 @@ returns-2 c =
     let r = room 128 (a .state .now) (a .row .now) (not-false _ (e .if1 .left)) in
     let s = words-whole 9507 (a .state .now) _ _ (r .0) refl (k .words-of .ensures) in
     let m = row-words (d .interface4w-lookup4-flow .result) _ (d .interface4w-lookup4-flow .ensures .0) (lookup4-flow-row _ 32 (a .ip) (a .tos) (a .oif)) in
-    let y = wrote-yes f (a .row .now) (lookup4FlowCall 32 (a .ip) (a .tos) (a .oif) _ .reply) (d .interface4w-lookup4-flow .result) _ _ _ (32 * boolByte (eqb (d .interface4w-lookup4-flow .result .number) 0)) (not-false _ (e .if1 .left)) m (d .interface4w-lookup4-flow .ensures .0) (d .interface4w-lookup4-flow .ensures .1) (g .give-rows .ensures) in
+    let y = wrote-yes f (a .row .now) (lookup4FlowCall 32 (a .ip) (a .tos) (a .oif) _ .reply) (d .interface4w-lookup4-flow .result) _ _ _ (32 * boolByte (eqb (d .interface4w-lookup4-flow .result .number) 0)) (not-false _ (e .if1 .left)) m (d .interface4w-lookup4-flow .ensures .0) (d .interface4w-lookup4-flow .ensures .1) (g .give-rows .ensures .0) (g .give-rows .ensures .1) in
     let x = wrote-on f (a .row .now) (λ (u : List ℕ). lookup4FlowCall 32 (a .ip) (a .tos) (a .oif) u .reply) (d .interface4w-lookup4-flow .result) _ _ _ s y in
-    (x .answer, x .rows)
+    (x .answer, (x .rows, x .narrow))
 
 pub interface4-lookup4-flow-spec : {M : Type 1} → statement M
 interface4-lookup4-flow-spec =

@@ -1,0 +1,4 @@
+pub mod Bytes
+pub mod AsWords
+pub mod Theorem
+pub mod Laws
