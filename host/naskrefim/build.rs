@@ -1,12 +1,12 @@
 //! Finds the port's static library, sees that it exports every function,
 //! and has it linked. NASKREFIM_LIB names the file; without it, it is looked
-//! for where `rt staticlib ffi` writes it.
+//! for where `rt staticlib interface4` writes it.
 
 use std::path::{Path, PathBuf};
 use std::{env, fs, process};
 
 /// From the repository's root.
-const DEFAULT: &str = "target/staticlib/libffi.a";
+const DEFAULT: &str = "target/staticlib/libinterface4.a";
 /// What it exports, behind each prefix: on bytes and on words.
 const PREFIXES: [&str; 2] = ["interface4_", "interface4w_"];
 const CALLS: &str = "up down add_v4 del_v4 expire add_route4 del_route4 dump4 lookup4 \
@@ -33,7 +33,7 @@ fn build() -> Result<(), String> {
     println!("cargo::rerun-if-changed={}", library.display());
     let library = library.canonicalize().map_err(|e| {
         format!(
-            "the port's library cannot be found ({named} {}): {e}. `rt staticlib ffi` writes it; \
+            "the port's library cannot be found ({named} {}): {e}. `rt staticlib interface4` writes it; \
              set NASKREFIM_LIB to the file, as a whole path",
             library.display()
         )

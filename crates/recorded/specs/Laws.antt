@@ -14,9 +14,9 @@ use Rattle.lists.specs.Lists.{Row, flat, put, zeros, eqRow}
 use Rattle.lists.specs.Bools.{and-left, and-right, cond-case, cond-true, cond-false}
 use Rattle.lists.specs.Rows.{length-put, length-zeros}
 use Rattle.definition.specs.Step.{Result}
-use Rattle.reply.specs.declared.Reply.{Reply}
-use Rattle.reply.specs.Answer.{replyOf}
-use Rattle.calls.specs.Numbered.{callBy, Did}
+use Rattle.call_reply.specs.declared.Reply.{Reply}
+use Rattle.call_reply.specs.Answer.{replyOf}
+use Rattle.call_dispatch.specs.Numbered.{callBy, Did}
 use Rattle.recorded.specs.declared.Verdict.the-variants.{Damaged, Other, Same}
 use Rattle.recorded.specs.Record.{checkFrom, fit, Fit, setAll, setsOf, restarted, beforeOf, lentOf, changesOf, rowsOf, resultOf, heldBy, bufferBy, part, checkOf, afterOf, sameReply, agrees, verdictOf, heldAfter}
 

@@ -6,9 +6,9 @@ use lib.Dec.{eqb, leb}
 use lib.ListN.{length, getD, set, take, drop}
 use Rattle.lists.specs.Lists.{Row, flat, put, zeros, eqRow}
 use Rattle.definition.specs.Step.{Result}
-use Rattle.reply.specs.declared.Reply.{Reply}
-use Rattle.reply.specs.Answer.{replyOf}
-use Rattle.calls.specs.Numbered.{callBy}
+use Rattle.call_reply.specs.declared.Reply.{Reply}
+use Rattle.call_reply.specs.Answer.{replyOf}
+use Rattle.call_dispatch.specs.Numbered.{callBy}
 use Rattle.recorded.specs.declared.Verdict.{Verdict}
 use Rattle.recorded.specs.declared.Verdict.the-variants.{Damaged, Other, Same}
 

@@ -1,10 +1,10 @@
 // A record of the list of answers (host/README.md): a call with what the unchanged Rust answered. Here the call is made, and its
 // answer and every word that it was lent are compared with the record.
-use reply::Reply;
+use call_reply::Reply;
 ghost use mathlib.Core.Path.{_≡_};
 ghost use Prim.Native.Nat.{_≤_};
 ghost use lib.ListN.{length, getD, set};
-ghost use Rattle.reply.specs.Answer.{replyOf};
+ghost use Rattle.call_reply.specs.Answer.{replyOf};
 ghost use Rattle.recorded.specs.Record.{checkOf, fit, Fit, setAll, setsOf, lentOf, changesOf, rowsOf, restarted, beforeOf, afterOf, resultOf, heldBy, bufferBy, sameReply, agrees as Record·agrees, verdictOf, heldAfter};
 
 // What stands before a run of words, so that damage to it is seen.
@@ -146,7 +146,7 @@ fn answer(r: &[u32], held: &mut [u32], buffer: &mut [u32]) -> Reply
 {
     let n = state::wide(r[4]);
     let m = state::wide(r[5]);
-    calls::call(
+    call_dispatch::call(
         r[2],
         &mut held[..n],
         lent(r),

@@ -30,7 +30,7 @@
 //! # }
 //! ```
 //!
-//! A build needs the library: `rt staticlib ffi` writes it where it is
+//! A build needs the library: `rt staticlib interface4` writes it where it is
 //! looked for, and NASKREFIM_LIB names another file.
 
 #[cfg(not(target_endian = "little"))]

@@ -1,0 +1,48 @@
+// What the printing program prints: a state's listing, or why the bytes are refused.
+ghost use mathlib.Core.Path.{_≡_};
+ghost use mathlib.Core.Bool.{true};
+ghost use Prim.Native.Nat.{_≤_};
+ghost use lib.ListN.{length, take};
+ghost use Rattle.lists.specs.Lists.{put};
+ghost use Rattle.definition.specs.Words.{wellFormed};
+ghost use Rattle.app_show.specs.Show.{shown, shownWords};
+
+// What is printed of a well-formed state.
+fn show_listing(s: &[u32], out: &mut [u8]) -> usize
+    requires { ⌜ (length (now s) ≡ 9507) × (wellFormed (now s) ≡ true) × (19220 ≤ length (now out)) ⌝ }
+    ensures { λ r. ⌜ r ≤ 19220 ⌝ }
+    ensures { λ r. ⌜ r ≡ length (shownWords (now (s .entry))) ⌝ }
+    ensures { λ _. ⌜ now (out .exit) ≡ put 0 (shownWords (now (s .entry))) (now (out .entry)) ⌝ }
+{
+    let mut listing = [0u32; 8192];
+    let n = state_listed::list(s, &mut listing);
+    let e = 32 * n;
+    text::render(out, &listing[..e], n)
+}
+
+// What is printed of words as many as a state's.
+fn show_words(s: &[u32], out: &mut [u8]) -> usize
+    requires { ⌜ (length (now s) ≡ 9507) × (19220 ≤ length (now out)) ⌝ }
+    ensures { λ r. ⌜ r ≤ 19220 ⌝ }
+    ensures { λ r. ⌜ r ≡ length (shownWords (now (s .entry))) ⌝ }
+    ensures { λ _. ⌜ now (out .exit) ≡ put 0 (shownWords (now (s .entry))) (now (out .entry)) ⌝ }
+{
+    if state_well_formed::well_formed(s) {
+        return show_listing(s, out);
+    }
+    text::refused_line(out, 0, 201)
+}
+
+// What is printed of any bytes, at the start of out; how many bytes it is, is returned.
+pub fn show(bytes: &[u8], out: &mut [u8; 19220]) -> usize
+    ensures { λ r. ⌜ (r ≤ length (now (out .exit))) × (r ≡ length (take r (now (out .exit)))) ⌝ }
+    ensures { λ r. ⌜ r ≡ length (shown (now (bytes .entry))) ⌝ }
+    ensures { λ _. ⌜ now (out .exit) ≡ put 0 (shown (now (bytes .entry))) (now (out .entry)) ⌝ }
+{
+    if bytes.len() != 38028 {
+        return text::refused_line(out, 0, 200);
+    }
+    let mut s = [0u32; 9507];
+    endian::words_of(bytes, &mut s);
+    show_words(&s, out)
+}

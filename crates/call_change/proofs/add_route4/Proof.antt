@@ -1,0 +1,78 @@
+use lib.ListN.{length}
+use native.Mathlib.Omega.{arith}
+use mathlib.Core.Path.{_∙_}
+use Rattle.layout.specs.Request.{addRoute4Size, fitAddRoute4}
+use Rattle.definition.specs.Words.{decode}
+use Rattle.definition.specs.Step.{addRoute4Call}
+use Rattle.definition.specs.Reference.Routes.{addRoute4}
+use Rattle.definition.specs.Kept.Numbers.{addRoute4-number}
+use Rattle.call_change.specs.Requests.{asked-sound, request-no, request-asked, request-yes}
+use Rattle.call_change.specs.Told.{add-route4-told, told-says}
+use borrow.Author.Needs.{needs}
+use Rattle.call_change.proofs.add_route4.Statement.{statement}
+use Rattle.call_change.proofs.add_route4.Tie as tie
+
+fit-add-route4-requires : tie.Need-fit-add-route4-requires
+fit-add-route4-requires c κs = search needs
+
+checked-requires : tie.Need-checked-requires
+checked-requires c κs = search needs
+
+same-length : tie.Need-same-length
+same-length c = search needs
+
+returns : tie.Need-returns
+unfolding addRoute4Call
+returns c =
+    let k = c .before in
+    let i = k .before .before in
+    let a = i .before .before .before .before .args in
+    let x = request-no (a .q .now) (a .state .now) (a .events .now) (k .checked .result) addRoute4Size (fitAddRoute4 (a .q .now)) (i .fit-add-route4 .result) (addRoute4 (a .q .now)) (i .fit-add-route4 .ensures) (k .checked .ensures) (c .if1 .taken) in
+    let e = x .answer in
+    (told-says (add-route4-told (a .state .now) (length (a .events .now)) (a .q .now)) e, (e, (x .words, x .events)))
+
+add-route4-requires : tie.Need-add-route4-requires
+add-route4-requires c κs =
+    let e = c .before .before in
+    let k = e .before in
+    let i = k .before .before in
+    let a = i .before .before .before .before .args in
+    let p = request-asked (a .q .now) (a .state .now) (a .events .now) (k .checked .result) addRoute4Size (fitAddRoute4 (a .q .now)) (i .fit-add-route4 .result) (addRoute4 (a .q .now)) (i .fit-add-route4 .ensures) (k .checked .ensures) (e .if1 .left) in
+    (asked-sound p, ((p .long, p .fit), omega (arith, p .room)))
+
+public-of-requires : tie.Need-public-of-requires
+public-of-requires c κs = search needs
+
+same-length-2 : tie.Need-same-length-2
+same-length-2 c = search needs
+
+same-length-3 : tie.Need-same-length-3
+same-length-3 c = search needs
+
+returns-2 : tie.Need-returns-2
+unfolding addRoute4Call
+returns-2 c =
+    let y = c .before .before .before .before .before in
+    let e = y .before .before .before in
+    let k = e .before in
+    let i = k .before .before in
+    let a = i .before .before .before .before .args in
+    let p = request-asked (a .q .now) (a .state .now) (a .events .now) (k .checked .result) addRoute4Size (fitAddRoute4 (a .q .now)) (i .fit-add-route4 .result) (addRoute4 (a .q .now)) (i .fit-add-route4 .ensures) (k .checked .ensures) (e .if1 .left) in
+    let d = y .add-route4 .ensures (decode (a .state .now)) (p .holds) (p .good .fits) in
+    let x = request-yes p _ _ (y .add-route4 .result) (addRoute4-number (a .q .now) (decode (a .state .now)) (p .fit)) d in
+    let e = c .public-of .ensures ∙ x .answer in
+    (told-says (add-route4-told (a .state .now) (length (a .events .now)) (a .q .now)) e, (e, (x .words, x .events)))
+
+pub add-route4-spec : {M : Type 1} → statement M
+add-route4-spec =
+    tie.close
+    (tie.spec
+    fit-add-route4-requires
+    checked-requires
+    same-length
+    returns
+    add-route4-requires
+    public-of-requires
+    same-length-2
+    same-length-3
+    returns-2)

@@ -1,0 +1,98 @@
+-- What a changing call tells: its case and its numbers say the same, and its rows are few, of 34 words, as many as its value says.
+-- Assumes nothing.
+use Prim.Native.Nat.{ℕ, _≤_, _<_}
+use native.Mathlib.Omega.{arith}
+use mathlib.Core.Path.{_≡_, refl, ap, _∙_}
+use mathlib.Core.Bool.{Bool, true, false≢true}
+use mathlib.Core.List.{List}
+use lib.Dec.{eqb}
+use lib.ListN.{length}
+use borrow.Author.Tests.{eqb-true}
+use Rattle.lists.specs.Lists.{Row}
+use Rattle.lists.specs.Bools.{cond-case, test-case}
+use Rattle.lists.specs.Rows.{sized}
+use Rattle.definition.specs.State.{State, sizes}
+use Rattle.definition.specs.Words.{decode, within}
+use Rattle.definition.specs.Call as Call
+use Rattle.definition.specs.Call.{Reply, refusal, written}
+use Rattle.definition.specs.Step.{Result, Action, changes, replies, lists, alters, semantics, outcome, step, upCall, downCall, addV4Call, delV4Call, expireCall, addRoute4Call, delRoute4Call}
+use Rattle.definition.specs.Reference.Addresses.{Outcome}
+use Rattle.definition.specs.Kept.Step.{acted, perform-case, told-bound}
+use Rattle.call_read.specs.Answer.{Numbers, numbers}
+use Rattle.call_change.specs.Answer.{doneBy, doneOf}
+use Rattle.call_change.specs.declared.Done.{Done}
+use Rattle.call_change.specs.declared.Done.the-variants.{Rows}
+
+-- what holds of a refusal and of rows told holds of a call's reply
+comes : (P : Reply → Type 0) (o : Outcome) (w : List ℕ) → ((n : ℕ) → P (refusal n)) → ((l : List Row) → P (written l)) → P (outcome o w .reply)
+comes P (Outcome.goes o) w refuses answers = cond-case (λ (r : Result). P (r .reply)) (within (o .peak)) (λ e. answers (o .told)) (λ e. refuses 203)
+comes P (Outcome.refused n st) w refuses answers = cond-case (λ (r : Result). P (r .reply)) (within (sizes st)) (λ e. refuses n) (λ e. refuses 203)
+
+record Tells (r : Reply) : Type 0 where
+  pub says : doneBy (doneOf r) ≡ numbers r
+  pub counts : r .value ≡ length (r .rows)
+
+tells-none : (n : ℕ) → Tells (refusal n)
+tells-none n = record { says = test-case (eqb n 0) (λ e. rw (e, eqb-true n 0 e)) (λ e. rw e); counts = refl }
+
+tells : (c : Call.Call) (w : List ℕ) → alters (semantics c .action) ≡ true → Tells (step c w .reply)
+tells c w t = perform-case (λ (r : Result). Tells (r .reply)) w (semantics c) (λ z. go (semantics c .action) t) (λ n e z. tells-none n)
+  where
+    go : (a : Action) → alters a ≡ true → Tells (acted a w .reply)
+    go (changes listed f) t = comes Tells (f (decode w)) w tells-none (λ l. record { says = refl; counts = refl })
+    go (replies f) t = absurd (false≢true t)
+    go (lists f) t = absurd (false≢true t)
+
+pub record Told (r : Reply) : Type 0 where
+  pub says : doneBy (doneOf r) ≡ numbers r
+  pub counts : r .value ≡ length (r .rows)
+  pub few : length (r .rows) ≤ 384
+  pub size : sized 34 (r .rows) ≡ true
+
+told : (c : Call.Call) (w : List ℕ) → alters (semantics c .action) ≡ true → Told (step c w .reply)
+told c w e =
+    let t = tells c w e in
+    let b = told-bound c w e in
+    record { says = t .says; counts = t .counts; few = b .few; size = b .size }
+
+module _ (w : List ℕ) (events : ℕ) where
+  pub up-told : (now : ℕ) → Told (upCall events now w .reply)
+  unfolding upCall
+  up-told now = told (Call.up events now) w refl
+
+  pub down-told : Told (downCall events w .reply)
+  unfolding downCall
+  down-told = told (Call.down events) w refl
+
+  pub add-v4-told : (q : Row) (now : ℕ) → Told (addV4Call q events now w .reply)
+  unfolding addV4Call
+  add-v4-told q now = told (Call.addV4 q events now) w refl
+
+  pub del-v4-told : (q : Row) → Told (delV4Call q events w .reply)
+  unfolding delV4Call
+  del-v4-told q = told (Call.delV4 q events) w refl
+
+  pub expire-told : (now : ℕ) → Told (expireCall events now w .reply)
+  unfolding expireCall
+  expire-told now = told (Call.expire events now) w refl
+
+  pub add-route4-told : (q : Row) → Told (addRoute4Call q events w .reply)
+  unfolding addRoute4Call
+  add-route4-told q = told (Call.addRoute4 q events) w refl
+
+  pub del-route4-told : (q : Row) → Told (delRoute4Call q events w .reply)
+  unfolding delRoute4Call
+  del-route4-told q = told (Call.delRoute4 q events) w refl
+
+-- so a call whose answer is the reply's case promises the reply's numbers
+pub told-says : {x : Reply} {r : Done} → Told x → r ≡ doneOf x → doneBy r ≡ numbers x
+told-says t e = ap doneBy e ∙ t .says
+
+-- the count fits a word
+pub small : (d : Done) (r : Reply) → d ≡ doneOf r → Told r → doneBy d .value < 4294967296
+small d r e t =
+    let s : doneBy d .value ≡ r .value = ap (λ (x : Done). doneBy x .value) e ∙ ap (λ (x : Numbers). x .value) (t .says) in
+    omega (arith, t .counts, t .few)
+
+pub rows-small : (d : Done) (n : ℕ) → d ≡ Rows n → doneBy d .value < 4294967296 → n < 4294967296
+rows-small d n e h = rw e at h

@@ -1,0 +1,65 @@
+-- `interface4::reading::interface4_left` meets its contract.
+-- Assumes nothing.
+use mathlib.Core.Path.{refl, ap, _∙_}
+use mathlib.Core.List.{List}
+use Prim.Native.Nat.{ℕ}
+use Rattle.endian.specs.Laws.{words-whole}
+use Rattle.interface4.specs.Bytes.{row-no, row-yes}
+use Rattle.call_reply.specs.Answer.{replyOf}
+use Rattle.definition.specs.Step.{leftCall}
+use borrow.Author.Needs.{needs}
+use Rattle.interface4.proofs.reading.interface4_left.Statement.{statement}
+use Rattle.interface4.proofs.reading.interface4_left.Tie as tie
+
+sub-interface4w-left : tie.Need-sub-interface4w-left
+sub-interface4w-left c = search needs
+
+part-interface4w-left-start : tie.Need-part-interface4w-left-start
+part-interface4w-left-start c = search needs
+
+part-interface4w-left-end : tie.Need-part-interface4w-left-end
+part-interface4w-left-end c = search needs
+
+interface4w-left-requires : tie.Need-interface4w-left-requires
+interface4w-left-requires c κs = search needs
+
+returns : tie.Need-returns
+returns c =
+    let t = c .before .before .before in
+    let a = t .before .before .args in
+    c .interface4w-left .ensures ∙ ap (λ (x : List ℕ). replyOf (leftCall x (a .clock))) (row-no 80 (a .row .now) (t .if1 .taken))
+
+slice-aggregate-words-of : tie.Need-slice-aggregate-words-of
+slice-aggregate-words-of c = search needs
+
+words-of-requires : tie.Need-words-of-requires
+words-of-requires c κs = search needs
+
+slice-aggregate-interface4w-left : tie.Need-slice-aggregate-interface4w-left
+slice-aggregate-interface4w-left c = search needs
+
+interface4w-left-requires-2 : tie.Need-interface4w-left-requires-2
+interface4w-left-requires-2 c κs = search needs
+
+returns-2 : tie.Need-returns-2
+returns-2 c =
+    let k = c .before .before .before in
+    let e = k .before .before in
+    let a = e .before .before .args in
+    let s = words-whole 20 (a .row .now) _ _ (e .if1 .left) refl (k .words-of .ensures) in
+    c .interface4w-left2 .ensures ∙ ap (λ (x : List ℕ). replyOf (leftCall x (a .clock))) (s ∙ row-yes 80 (a .row .now) (e .if1 .left))
+
+pub interface4-left-spec : {M : Type 1} → statement M
+interface4-left-spec =
+    tie.close
+    (tie.spec
+    sub-interface4w-left
+    part-interface4w-left-start
+    part-interface4w-left-end
+    interface4w-left-requires
+    returns
+    slice-aggregate-words-of
+    words-of-requires
+    slice-aggregate-interface4w-left
+    interface4w-left-requires-2
+    returns-2)

@@ -1,0 +1,161 @@
+use Prim.Native.Nat.{_-_, _≤_}
+use mathlib.Core.Path.{_≡_, refl, sym, _∙_}
+use native.Mathlib.Omega.{arith}
+use lib.ListN.{length}
+use Rattle.state.specs.Holds.{sound-long}
+use Rattle.step_new_address.specs.Sound.{rest-room, rows-are}
+use Rattle.step_add_v4.specs.Every.{Sofar, sofar-start, sofar-sound, sofar-few, sofar-length, sofar-count, sofar-next, sofar-full, sofar-end}
+use borrow.Author.Needs.{needs}
+use Rattle.step_add_v4.proofs.bring_all.Statement.{statement}
+use Rattle.step_add_v4.proofs.bring_all.Tie as tie
+
+abbrev Inv-loop : tie.InvT-loop
+Inv-loop s₀ ev₀ n told₀ i₀ s ev told i =
+    (i ≤ n) × ((told ≤ 320) × ((length s ≡ length s₀) × ((length ev ≡ length ev₀) × Sofar s₀ ev₀ i s ev told)))
+
+abbrev μ-loop : tie.MeasureT-loop
+μ-loop s₀ ev₀ n told₀ i₀ s ev told i =
+    n - i
+
+address-count-requires : tie.Need-address-count-requires Inv-loop μ-loop
+address-count-requires c κs =
+    sound-long (c .before .before .before .pre .0)
+
+loop-holds : tie.Need-loop-holds Inv-loop μ-loop
+loop-holds c =
+    let s = c .before .before .before .before in
+    (omega arith, (omega arith, (refl, (refl, sofar-start (s .args .s .now) (s .args .ev .now)))))
+
+mul-from : tie.Need-mul-from Inv-loop μ-loop
+mul-from c =
+    let k = c .before in
+    let n = k .before in
+    let s = n .before .before .before .before in
+    let v = s .pre .0 in
+    let inv = k .loop .inv in
+    omega (arith, inv .1 .0)
+
+mul-bring-at : tie.Need-mul-bring-at Inv-loop μ-loop
+mul-bring-at c = search needs
+
+sub-bring-at : tie.Need-sub-bring-at Inv-loop μ-loop
+sub-bring-at c = search needs
+
+part-bring-at-start : tie.Need-part-bring-at-start Inv-loop μ-loop
+part-bring-at-start c =
+    let k = c .before .before in
+    let n = k .before in
+    let s = n .before .before .before .before in
+    let v = s .pre .0 in
+    let inv = k .loop .inv in
+    omega (arith, inv .1 .0, inv .1 .1 .1 .0, s .pre .1)
+
+part-bring-at-end : tie.Need-part-bring-at-end Inv-loop μ-loop
+part-bring-at-end c = search needs
+
+bring-at-requires : tie.Need-bring-at-requires Inv-loop μ-loop
+bring-at-requires c κs =
+    let k = c .before .before .before in
+    let n = k .before in
+    let s = n .before .before .before .before in
+    let v = s .pre .0 in
+    let inv = k .loop .inv in (
+      sofar-sound (inv .1 .1 .1 .1) v,
+      (
+        omega (arith, sofar-count (inv .1 .1 .1 .1) v, n .address-count .ensures, c .before .before .loop-test .taken),
+        rest-room (k .loop .told) 136 (k .loop .ev) (omega (arith, inv .1 .0, inv .1 .1 .1 .0, s .pre .1)),
+      ),
+    )
+
+enum-known-came : tie.Need-enum-known-came Inv-loop μ-loop
+enum-known-came c = search needs
+
+add-told : tie.Need-add-told Inv-loop μ-loop
+add-told c =
+    let t = c .before in
+    let w = t .before .before .before .before .before .before in
+    let k = w .before .before .before .before in
+    let n = k .before in
+    let s = n .before .before .before .before in
+    let v = s .pre .0 in
+    let inv = k .loop .inv in
+    omega (arith, inv .1 .0, rows-are 4 (w .bring-at .result) (t .came .given .0 .0) (t .came .given .1) (w .bring-at .ensures .0))
+
+enum-told : tie.Need-enum-told Inv-loop μ-loop
+enum-told c = search needs
+
+same-length : tie.Need-same-length Inv-loop μ-loop
+same-length c = search needs
+
+same-length-2 : tie.Need-same-length-2 Inv-loop μ-loop
+same-length-2 c = search needs
+
+returns : tie.Need-returns Inv-loop μ-loop
+returns c =
+    let w = c .before .before .before .before .before .before in
+    let k = w .before .before .before .before in
+    let n = k .before in
+    let s = n .before .before .before .before in
+    let v = s .pre .0 in
+    let inv = k .loop .inv in
+    (omega arith, sofar-full (inv .1 .1 .1 .1) (omega (arith, n .address-count .ensures, w .before .before .before .loop-test .taken)) (w .bring-at .ensures .1) (c .enum-told .given .1))
+
+add-i : tie.Need-add-i Inv-loop μ-loop
+add-i c = search needs
+
+loop-less : tie.Need-loop-less Inv-loop μ-loop
+loop-less c = search needs
+
+loop-again : tie.Need-loop-again Inv-loop μ-loop
+loop-again c =
+    let t = c .before in
+    let w = t .before .before .before .before .before .before in
+    let k = w .before .before .before .before in
+    let n = k .before in
+    let s = n .before .before .before .before in
+    let v = s .pre .0 in
+    let inv = k .loop .inv in
+    let next = sofar-next (inv .1 .1 .1 .1) (omega (arith, n .address-count .ensures, w .before .before .before .loop-test .taken)) (w .bring-at .ensures .1) (t .came .given .0 .0) (t .came .given .1) in
+    (omega arith, (sofar-few next v, (sound-long (sofar-sound next v) ∙ sym (sound-long v), (sofar-length next v, next))))
+
+same-length-3 : tie.Need-same-length-3 Inv-loop μ-loop
+same-length-3 c = search needs
+
+same-length-4 : tie.Need-same-length-4 Inv-loop μ-loop
+same-length-4 c = search needs
+
+returns-2 : tie.Need-returns-2 Inv-loop μ-loop
+returns-2 c =
+    let k = c .before in
+    let n = k .before in
+    let s = n .before .before .before .before in
+    let v = s .pre .0 in
+    let inv = k .loop .inv in
+    (inv .1 .0, sofar-end (inv .1 .1 .1 .1) (omega (arith, n .address-count .ensures, c .loop-test .left)))
+
+pub bring-all-spec : {M : Type 1} → statement M
+bring-all-spec =
+    tie.close
+    (tie.spec
+    Inv-loop
+    μ-loop
+    address-count-requires
+    loop-holds
+    mul-from
+    mul-bring-at
+    sub-bring-at
+    part-bring-at-start
+    part-bring-at-end
+    bring-at-requires
+    enum-known-came
+    add-told
+    enum-told
+    same-length
+    same-length-2
+    returns
+    add-i
+    loop-less
+    loop-again
+    same-length-3
+    same-length-4
+    returns-2)

@@ -1,0 +1,172 @@
+-- The routes that every address has, brought in the addresses' order.
+-- Assumes nothing.
+use Prim.Native.Nat.{ℕ, _+_, _-_, _*_, _≤_, _<_}
+use native.Mathlib.Omega.{arith}
+use mathlib.Core.Path.{_≡_, sym, ap, subst, _∙_}
+use mathlib.Core.Bool.{true}
+use mathlib.Core.List.{List, [], _++_}
+use lib.ListN.{length, getD, take, drop}
+use Rattle.lists.specs.Lists.{Row, all, flat, put}
+use Rattle.lists.specs.At.{all-take, all-at}
+use Rattle.lists.specs.Laid.{Laid, Lays, laid-part}
+use Rattle.state_read.specs.Parts.{addressPart, of-addresses}
+use Rattle.lists.specs.Pass.{part}
+use Rattle.layout.specs.Address.{fitAddress}
+use Rattle.layout.specs.Route.{fitRoute}
+use Rattle.definition.specs.State.{State, Out, through}
+use Rattle.definition.specs.Words.{fitState, addressCount}
+use Rattle.definition.specs.Reference.Insert.{kernelAdd4}
+use Rattle.definition.specs.Reference.Addresses.{candidates, bring, addV4, step, loopback, up}
+use Rattle.definition.specs.Kept.Fit.{fields-address}
+use Rattle.definition.specs.Kept.Keeps.{Keeps, through-keeps, keeps-fit}
+use Rattle.definition.specs.Kept.Rows.{candidates-fit}
+use Rattle.definition.specs.Kept.Addresses.{bring-keeps}
+use Rattle.definition.specs.Kept.Growing as Growing
+use Rattle.state.specs.Holds.{Holds, count-addresses, Sound}
+use Rattle.step_events.specs.Does.{does-length, rest}
+use Rattle.step_laws.specs.Adds.{Adds, joined, holds-within, adds-rows, adds-also, adds-stop}
+use Rattle.step_laws.specs.Through.{Covered, covered-through, adds-start, adds-next, adds-full-end, adds-end}
+use Rattle.step_laws.specs.declared.Told.{Told}
+use Rattle.step_laws.specs.declared.Told.the-variants.{Rows, Full}
+use Rattle.step_kernel_add.specs.Add.{kernelAdd4-covered}
+use Rattle.step_new_address.specs.Sound.{AddsFrom, Leaves, adds-sound, through-leaves, kernelAdd4-leaves}
+use Rattle.step_new_address.specs.Bring.{block-rows, block-ready}
+use Rattle.step_add_v4.specs.Added.{loopback-keeps}
+
+-- what one address brings, with the addresses that are there
+abbrev pub turn : List Row → Row → State → Out
+turn l a = bring (candidates l true a)
+
+abbrev pub every : State → Out
+every st = through (turn (st .addresses)) (st .addresses) st
+
+abbrev pub turnAt : ℕ → State → Out
+turnAt i st = turn (st .addresses) (getD (st .addresses) i []) st
+
+turn-covered : (l : List Row) → Covered (turn l)
+unfolding bring
+turn-covered l = record { covers = λ a st h. covered-through kernelAdd4 kernelAdd4-covered (candidates l true a) st h }
+
+turn-leaves : (l : List Row) (a : Row) → Leaves (turn l a)
+unfolding bring
+turn-leaves l a = through-leaves kernelAdd4 (candidates l true a) kernelAdd4-leaves
+
+turn-fit : (l : List Row) (a : Row) → fitAddress a ≡ true → all fitRoute (candidates l true a) ≡ true
+turn-fit l a h = candidates-fit l true a ((fields-address a h) .short)
+
+turns-keep : (l m : List Row) → all fitAddress m ≡ true → Keeps (through (turn l) m)
+turns-keep l m h = through-keeps (turn l) fitAddress m (λ a f. bring-keeps (candidates l true a) (turn-fit l a f)) h
+
+-- ---- address i's routes, as candidates writes them and bring takes them
+module _ {w : List ℕ} (i : ℕ) (b : i < addressCount w) (st : State) (h : Holds w st) (p : List ℕ) (l : p ≡ addressPart w)
+    (k : ℕ) (o x : List ℕ) (c : (k ≡ length (candidates (st .addresses) true (part 20 p i))) × (x ≡ put 0 (flat (candidates (st .addresses) true (part 20 p i))) o)) where
+  e : part 20 p i ≡ getD (st .addresses) i []
+  e = laid-part (of-addresses p h l) i (omega (arith, count-addresses h))
+
+  mine : fitAddress (part 20 p i) ≡ true
+  mine = ap fitAddress e ∙ all-at fitAddress i (st .addresses) [] (omega (arith, count-addresses h)) (h .addressesFit)
+
+  pub turn-ready : (length (take (32 * k - 0) (drop 0 x)) ≡ 32 * k) × Lays 32 fitRoute (take (32 * k - 0) (drop 0 x))
+  turn-ready = block-ready (candidates (st .addresses) true (part 20 p i)) (turn-fit (st .addresses) (part 20 p i) mine) k (c .0) o (c .1)
+
+  pub turn-done : fitState st ≡ true → {w′ ev₀ ev : List ℕ} {r : Told}
+      → ((rows : List Row) → Laid 32 fitRoute (take (32 * k - 0) (drop 0 x)) rows → AddsFrom (bring rows) w w′ ev₀ ev r)
+      → Adds (turnAt i st) w′ ev₀ ev r
+  turn-done f {w′} {ev₀} {ev} {r} d =
+      subst (λ (y : Row). Adds (turn (st .addresses) y st) w′ ev₀ ev r) e
+      (d (candidates (st .addresses) true (part 20 p i)) (block-rows (candidates (st .addresses) true (part 20 p i)) (turn-fit (st .addresses) (part 20 p i) mine) k (c .0) o (c .1)) st h f)
+
+-- ---- the first i addresses' routes are brought
+pub record Sofar (s₀ ev₀ : List ℕ) (i : ℕ) (s ev : List ℕ) (t : ℕ) : Type 0 where
+  pub adds : AddsFrom (λ st. through (turn (st .addresses)) (take i (st .addresses)) st) s₀ s ev₀ ev (Rows t)
+
+pub sofar-start : (s ev : List ℕ) → Sofar s ev 0 s ev 0
+sofar-start s ev = record { adds = λ st h f. adds-start (turn (st .addresses)) (st .addresses) st h }
+
+module _ {s₀ ev₀ s ev : List ℕ} {i t : ℕ} (a : Sofar s₀ ev₀ i s ev t) where
+  module _ (st : State) (h : Holds s₀ st) (f : fitState st ≡ true) where
+    abbrev later : State
+    later = (through (turn (st .addresses)) (take i (st .addresses)) st) .state
+
+    later-holds : Holds s later
+    later-holds = (adds-rows (a .adds st h f)) .1 .holds
+
+    later-fit : fitState later ≡ true
+    later-fit = keeps-fit (through (turn (st .addresses)) (take i (st .addresses))) (turns-keep (st .addresses) (take i (st .addresses)) (all-take fitAddress i (st .addresses) (h .addressesFit))) st f
+
+    later-same : later .addresses ≡ st .addresses
+    later-same = (through-leaves (turn (st .addresses)) (take i (st .addresses)) (turn-leaves (st .addresses))) .same st
+
+    few : t ≤ 320
+    few =
+        let d = (adds-rows (a .adds st h f)) .1 in
+        let g = (Growing.through-adds (turn (st .addresses)) (take i (st .addresses)) (λ x y. Growing.bring-adds (candidates (st .addresses) true x) y) st) .grown in
+        omega (arith, d .count, g, later-holds .addressesWithin, later-holds .routesWithin)
+
+  module _ (v : Sound s₀) where
+    pub sofar-sound : Sound s
+    sofar-sound =
+        record {
+          state = later (v .state) (v .holds) (v .fits);
+          holds = later-holds (v .state) (v .holds) (v .fits);
+          fits = later-fit (v .state) (v .holds) (v .fits);
+        }
+
+    pub sofar-few : t ≤ 320
+    sofar-few = few (v .state) (v .holds) (v .fits)
+
+    pub sofar-length : length ev ≡ length ev₀
+    sofar-length = does-length ((adds-rows (a .adds (v .state) (v .holds) (v .fits))) .1)
+
+    pub sofar-count : addressCount s ≡ addressCount s₀
+    sofar-count =
+        count-addresses (later-holds (v .state) (v .holds) (v .fits)) ∙ ap length (later-same (v .state) (v .holds) (v .fits)) ∙ sym (count-addresses (v .holds))
+
+  module _ (b : i < addressCount s₀) {w x : List ℕ} {r : Told} (u : AddsFrom (turnAt i) s w (rest t ev) x r) where
+    one-more : AddsFrom (λ st. through (turn (st .addresses)) (take (i + 1) (st .addresses)) st) s₀ w ev₀ (take (34 * t) ev ++ (x ++ drop (length ev - 34 * t) (drop (34 * t) ev))) (joined t r)
+    one-more st h f =
+        let b′ : i < length (st .addresses) = omega (arith, count-addresses h) in
+        let here : Adds (turn (st .addresses) (getD (st .addresses) i []) (later st h f)) w (rest t ev) x r =
+        subst (λ (l : List Row). Adds (turn l (getD l i []) (later st h f)) w (rest t ev) x r) (later-same st h f) (u (later st h f) (later-holds st h f) (later-fit st h f))
+        in
+        adds-next (turn (st .addresses)) (st .addresses) st (turn-covered (st .addresses)) (holds-within h) i [] b′ (a .adds st h f) here
+
+    pub sofar-next : (m : ℕ) → r ≡ Rows m → Sofar s₀ ev₀ (i + 1) w (take (34 * t) ev ++ (x ++ drop (length ev - 34 * t) (drop (34 * t) ev))) (t + m)
+    sofar-next m e =
+        record {
+          adds = λ st h f.
+              subst (λ (q : Told). Adds (through (turn (st .addresses)) (take (i + 1) (st .addresses)) st) w ev₀ (take (34 * t) ev ++ (x ++ drop (length ev - 34 * t) (drop (34 * t) ev))) (joined t q)) e (one-more st h f);
+        }
+
+    pub sofar-full : r ≡ Full → {w′ ev′ : List ℕ} → AddsFrom every s₀ w′ ev₀ ev′ Full
+    sofar-full e st h f =
+        adds-full-end (turn (st .addresses)) (st .addresses) st (turn-covered (st .addresses)) (holds-within h) (i + 1)
+        (subst (λ (q : Told). Adds (through (turn (st .addresses)) (take (i + 1) (st .addresses)) st) w ev₀ (take (34 * t) ev ++ (x ++ drop (length ev - 34 * t) (drop (34 * t) ev))) (joined t q)) e (one-more st h f))
+
+  pub sofar-end : addressCount s₀ ≤ i → AddsFrom every s₀ s ev₀ ev (Rows t)
+  sofar-end b st h f = adds-end (turn (st .addresses)) (st .addresses) st i (omega (arith, count-addresses h)) (a .adds st h f)
+
+-- ---- up: the loopback's address, then every address's routes
+module _ (clock : ℕ) {s₀ s ev₀ ev : List ℕ} {r : Told} (a : AddsFrom (λ st. step (addV4 loopback clock st)) s₀ s ev₀ ev r) where
+  pub up-full : r ≡ Full → {w ev′ : List ℕ} → AddsFrom (up clock) s₀ w ev₀ ev′ Full
+  unfolding up
+  up-full e st h f =
+      let full : Adds (step (addV4 loopback clock st)) s ev₀ ev Full = subst (λ (q : Told). Adds (step (addV4 loopback clock st)) s ev₀ ev q) e (a st h f) in
+      adds-stop full every
+
+  module _ (k : ℕ) (e : r ≡ Rows k) where
+    came : AddsFrom (λ st. step (addV4 loopback clock st)) s₀ s ev₀ ev (Rows k)
+    came st h f = subst (λ (q : Told). Adds (step (addV4 loopback clock st)) s ev₀ ev q) e (a st h f)
+
+    pub up-sound : Sound s₀ → Sound s
+    up-sound v = adds-sound (λ st. step (addV4 loopback clock st)) (loopback-keeps clock) came v
+
+    pub up-length : Sound s₀ → length ev ≡ length ev₀
+    up-length v = does-length ((adds-rows (came (v .state) (v .holds) (v .fits))) .1)
+
+    pub up-done : {w x : List ℕ} {r′ : Told} → AddsFrom every s w (rest k ev) x r′ → (z : Told) → z ≡ joined k r′
+        → AddsFrom (up clock) s₀ w ev₀ (take (34 * k) ev ++ (x ++ drop (length ev - 34 * k) (drop (34 * k) ev))) z
+    unfolding up
+    up-done {w} {x} {r′} u z q st h f =
+        let later = (step (addV4 loopback clock st)) .state in
+        rw q (adds-also (came st h f) every (u later ((adds-rows (came st h f)) .1 .holds) (keeps-fit (λ y. step (addV4 loopback clock y)) (loopback-keeps clock) st f)))

@@ -1,0 +1,150 @@
+// add_v4 and up over words that hold a state, with their events. Where a list lacks room the words are left anyhow.
+use life::Lifetimes;
+use life::Nanoseconds;
+use step_laws::Told;
+ghost use mathlib.Core.Path.{_≡_};
+ghost use mathlib.Core.Bool.{true};
+ghost use Prim.Native.Nat.{_+_, _*_, _≤_, _<_};
+ghost use lib.ListN.{length};
+ghost use Rattle.layout.specs.Request.{fitAddV4};
+ghost use Rattle.definition.specs.State.{State};
+ghost use Rattle.definition.specs.Words.{fitState, addressCount};
+ghost use Rattle.definition.specs.Reference.Addresses.{addV4, up};
+ghost use Rattle.state.specs.Holds.{Holds, Sound};
+ghost use Rattle.step_laws.specs.Adds.{rowsOf};
+ghost use Rattle.step_new_address.specs.Sound.{AddsFrom};
+ghost use Rattle.step_add_v4.specs.Comes.{Comes, doneRows, doneOf, toldOf};
+ghost use Rattle.step_add_v4.specs.Every.{every, turnAt};
+
+// What a call came to: the event rows told, a refusal's number, or that a list had no room.
+pub enum Done {
+    Rows(usize),
+    Refused(u32),
+    Full,
+}
+
+fn call_of(told: Told) -> Done
+    ensures { λ r. ⌜ r ≡ doneOf told ⌝ }
+{
+    match told {
+        Told::Rows(k) => Done::Rows(k),
+        Told::Full => Done::Full,
+    }
+}
+
+// A refusal is a step that does nothing.
+fn step_of(came: Done) -> Told
+    ensures { λ r. ⌜ r ≡ toldOf came ⌝ }
+{
+    match came {
+        Done::Rows(k) => Told::Rows(k),
+        Done::Refused(_) => Told::Rows(0),
+        Done::Full => Told::Full,
+    }
+}
+
+// A requested address put in, or the one that is there changed, where the request says so.
+pub fn add_v4(s: &mut [u32], ev: &mut [u32], q: &[u32], clock: Nanoseconds) -> Done
+    requires { ⌜ Sound (now s) ⌝ }
+    requires { ⌜ (length (now q) ≡ 18) × (fitAddV4 (now q) ≡ true) ⌝ }
+    requires { ⌜ 170 ≤ length (now ev) ⌝ }
+    ensures { λ r. ⌜ doneRows r ≤ 5 ⌝ }
+    ensures { λ r. ⌜ ((st : State) → Holds (now (s .entry)) st → fitState st ≡ true → Comes (addV4 (now (q .entry)) (clock .0) st) (now (s .entry)) (now (s .exit)) (now (ev .entry)) (now (ev .exit)) r) ⌝ }
+{
+    let n = state::address_count(s);
+    let place = rows_place::same_at(state_read::addresses(s), n, q);
+    if place < n {
+        if q[16] != 1 {
+            return Done::Refused(layout::EXISTS);
+        }
+        let changed = step_new_address::change_v4(s, ev, place, q, clock);
+        return call_of(changed);
+    }
+    let mut new = [0u32; 20];
+    rows_place::fresh(state_read::addresses(s), n, q, clock, &mut new);
+    let up = q[17] == 1;
+    let brought = step_new_address::new_address(s, ev, &new, up);
+    call_of(brought)
+}
+
+// The routes of address i.
+fn bring_at(s: &mut [u32], ev: &mut [u32], i: usize) -> Told
+    requires { ⌜ Sound (now s) ⌝ }
+    requires { ⌜ i < addressCount (now s) ⌝ }
+    requires { ⌜ 136 ≤ length (now ev) ⌝ }
+    ensures { λ r. ⌜ rowsOf r ≤ 4 ⌝ }
+    ensures { λ r. ⌜ AddsFrom (turnAt i) (now (s .entry)) (now (s .exit)) (now (ev .entry)) (now (ev .exit)) r ⌝ }
+{
+    let n = state::address_count(s);
+    let rows = state_read::addresses(s);
+    let at = 20 * i;
+    let mut block = [0u32; 128];
+    let k = row_candidates::candidates(rows, n, &rows[at..at + 20], true, &mut block);
+    let end = 32 * k;
+    step_new_address::bring(s, ev, &block[0..end], k)
+}
+
+// The routes of every address, in order.
+fn bring_all(s: &mut [u32], ev: &mut [u32]) -> Told
+    requires { ⌜ Sound (now s) ⌝ }
+    requires { ⌜ 11016 ≤ length (now ev) ⌝ }
+    ensures { λ r. ⌜ rowsOf r ≤ 320 ⌝ }
+    ensures { λ r. ⌜ AddsFrom every (now (s .entry)) (now (s .exit)) (now (ev .entry)) (now (ev .exit)) r ⌝ }
+{
+    let n = state::address_count(s);
+    let mut told = 0usize;
+    let mut i = 0usize;
+    while i < n {
+        let from = 34 * told;
+        let came = bring_at(s, &mut ev[from..], i);
+        match came {
+            Told::Rows(m) => {
+                told += m;
+            }
+            Told::Full => {
+                return Told::Full;
+            }
+        }
+        i += 1;
+    }
+    Told::Rows(told)
+}
+
+// 127.0.0.1 if it isn't there, with its routes; then the routes that every address has.
+pub fn up(s: &mut [u32], ev: &mut [u32], clock: Nanoseconds) -> Told
+    requires { ⌜ Sound (now s) ⌝ }
+    requires { ⌜ 13056 ≤ length (now ev) ⌝ }
+    ensures { λ r. ⌜ rowsOf r ≤ 325 ⌝ }
+    ensures { λ r. ⌜ AddsFrom (up (clock .0)) (now (s .entry)) (now (s .exit)) (now (ev .entry)) (now (ev .exit)) r ⌝ }
+{
+    let forever = Lifetimes::FOREVER;
+    let loopback = [
+        0x7f000001u32,
+        0x7f000001,
+        8,
+        0,
+        0,
+        254,
+        0,
+        0,
+        2,
+        0x6f6c,
+        0,
+        0,
+        0,
+        0,
+        forever.valid.0,
+        forever.preferred.0,
+        0,
+        1,
+    ];
+    let first = step_of(add_v4(s, ev, &loopback, clock));
+    match first {
+        Told::Rows(k) => {
+            let from = 34 * k;
+            let rest = bring_all(s, &mut ev[from..]);
+            step_new_address::joined(k, rest)
+        }
+        Told::Full => Told::Full,
+    }
+}

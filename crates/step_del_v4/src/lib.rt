@@ -1,0 +1,77 @@
+// An address deleted by request: the first that meets each condition that is made.
+ghost use mathlib.Core.Path.{_≡_};
+ghost use mathlib.Core.List.{List};
+ghost use Prim.Native.Nat.{_+_, _*_, _^_, _≤_, _<_};
+ghost use lib.Dec.{eqb};
+ghost use lib.ListN.{length};
+ghost use Rattle.lists.specs.Lists.{Row};
+ghost use Rattle.lists.specs.Laid.{Laid, Lays};
+ghost use Rattle.lists.specs.Place.{placeOf};
+ghost use Rattle.layout.specs.Address.{prefix, fitAddress};
+ghost use Rattle.definition.specs.State.{State};
+ghost use Rattle.definition.specs.Reference.Removal.{deletes};
+ghost use Rattle.definition.specs.Kept.Shrinking.{weight};
+ghost use Rattle.step_events.specs.Step.{Fits, Ready};
+ghost use Rattle.step_del_v4.specs.Asked.{Deletes};
+
+// What came of a deletion: the number of rows told, or that no address meets the conditions.
+pub enum Deleted {
+    Rows(usize),
+    Nothing,
+}
+
+// Whether four words are the same, each as part of one number.
+fn same_four(a: u32, b: u32, c: u32, d: u32, p: u32, q: u32, r: u32, s: u32) -> bool
+    ensures { λ x. ⌜ x ≡ eqb (a + b * 2 ^ 32 + c * 2 ^ 64 + d * 2 ^ 96) (p + q * 2 ^ 32 + r * 2 ^ 64 + s * 2 ^ 96) ⌝ }
+{
+    (a == p) & (b == q) & (c == r) & (d == s)
+}
+
+// Whether the address a meets each condition of the request q.
+fn deletes(q: &[u32], a: &[u32]) -> bool
+    requires { ⌜ length (now q) ≡ 11 ⌝ }
+    requires { ⌜ (length (now a) ≡ 20) × (prefix (now a) ≤ 32) ⌝ }
+    ensures { λ r. ⌜ r ≡ deletes (now (q .entry)) (now (a .entry)) ⌝ }
+{
+    let label = same_four(a[9], a[10], a[11], a[12], q[7], q[8], q[9], q[10]);
+    let within = row_subnet::covers(a, q[3]);
+    ((q[0] == 0) | (a[0] == q[1]))
+        & ((q[5] == 0) | ((a[8] == q[6]) & label))
+        & ((q[2] == 0) | ((a[2] == q[4]) & within))
+}
+
+// The place of the first that does, the number of rows where none does.
+fn find(rows: &[u32], n: usize, q: &[u32]) -> usize
+    requires { ⌜ (length (now rows) ≡ 20 * n) × Lays 20 fitAddress (now rows) ⌝ }
+    requires { ⌜ length (now q) ≡ 11 ⌝ }
+    ensures { λ r. ⌜ ((l : List Row) → Laid 20 fitAddress (now (rows .entry)) l → r ≡ placeOf (deletes (now (q .entry))) l) ⌝ }
+{
+    let mut i = 0usize;
+    while i < n {
+        let at = 20 * i;
+        let a = &rows[at..at + 20];
+        if deletes(q, a) {
+            return i;
+        }
+        i += 1;
+    }
+    n
+}
+
+pub fn del_v4(s: &mut [u32], ev: &mut [u32], q: &[u32]) -> Deleted
+    requires { ⌜ Ready weight (now s) (now ev) ⌝ }
+    requires { ⌜ length (now q) ≡ 11 ⌝ }
+    ensures { λ r. ⌜ ((st : State) → Fits weight st (now (s .entry)) (now (ev .entry)) → Deletes (now (q .entry)) st (now (s .exit)) (now (ev .entry)) (now (ev .exit)) r) ⌝ }
+{
+    let n = state::address_count(s);
+    let i = find(state_read::addresses(s), n, q);
+    if n <= i {
+        return Deleted::Nothing;
+    }
+    let at = 3 + 20 * i;
+    let end = at + 20;
+    let mut row = [0u32; 20];
+    words::store(&mut row, 0, &s[at..end]);
+    let k = step_remove_v4::remove_v4(s, ev, &row);
+    Deleted::Rows(k)
+}

@@ -1,0 +1,109 @@
+// Addresses at the end of their lives: one that is due goes, and all begins again; one that fades is marked and told.
+use life::Nanoseconds;
+ghost use mathlib.Core.Path.{_≡_};
+ghost use mathlib.Core.Bool.{true};
+ghost use Prim.Native.Nat.{_+_, _*_, _≤_, _<_};
+ghost use lib.ListN.{length, set};
+ghost use Rattle.lists.specs.Lists.{put};
+ghost use Rattle.layout.specs.Address.{fitAddress};
+ghost use Rattle.layout.specs.Event.{newAddr4};
+ghost use Rattle.definition.specs.State.{State, withAddresses};
+ghost use Rattle.definition.specs.Words.{addressCount};
+ghost use Rattle.definition.specs.Reference.Removal.{due, fades, faded, expire};
+ghost use Rattle.definition.specs.Kept.Shrinking.{weight};
+ghost use Rattle.state.specs.Holds.{Holds, Valid};
+ghost use Rattle.step_events.specs.Step.{Fits, Ready, Step};
+ghost use Rattle.step_expire.specs.Turn.{expireTurn, nextPlace};
+
+// Its valid lifetime is reached; a permanent address never runs out.
+fn due(a: &[u32], allowance: Nanoseconds, clock: Nanoseconds) -> bool
+    requires { ⌜ length (now a) ≡ 20 ⌝ }
+    ensures { λ r. ⌜ r ≡ due (allowance .0) (clock .0) (now (a .entry)) ⌝ }
+{
+    let lasting = a[6] & row_address::PERMANENT != 0;
+    let life = row_address::life_of(a);
+    let valid = life.valid;
+    let over = life.reached(valid, clock, allowance);
+    !lasting & over
+}
+
+// Its preferred lifetime is reached, and that isn't marked yet.
+fn fades(a: &[u32], allowance: Nanoseconds, clock: Nanoseconds) -> bool
+    requires { ⌜ length (now a) ≡ 20 ⌝ }
+    ensures { λ r. ⌜ r ≡ fades (allowance .0) (clock .0) (now (a .entry)) ⌝ }
+{
+    let lasting = a[6] & row_address::PERMANENT != 0;
+    let marked = a[6] & row_address::DEPRECATED != 0;
+    let life = row_address::life_of(a);
+    let preferred = life.preferred;
+    let over = life.reached(preferred, clock, allowance);
+    !lasting & !marked & over
+}
+
+// The address at i becomes the row a, marked, and is told.
+fn mark(s: &mut [u32], ev: &mut [u32], i: usize, a: &[u32])
+    requires { ⌜ Valid (now s) ⌝ }
+    requires { ⌜ (i < addressCount (now s)) × (34 ≤ length (now ev)) × (fitAddress (now a) ≡ true) ⌝ }
+    ensures { λ _. ⌜ now (ev .exit) ≡ put 0 (newAddr4 (faded (now (a .entry)))) (now (ev .entry)) ⌝ }
+    ensures { λ _. ⌜ ((st : State) → Holds (now (s .entry)) st → Holds (now (s .exit)) (withAddresses (set (st .addresses) i (faded (now (a .entry)))) st)) ⌝ }
+{
+    let mut row = [0u32; 20];
+    row_update::faded(a, &mut row);
+    step_events::new_addr4(ev, &row);
+    state::replace_address(s, i, &row);
+}
+
+// What comes of the address at i; the number of rows told.
+fn turn(
+    s: &mut [u32],
+    ev: &mut [u32],
+    i: usize,
+    allowance: Nanoseconds,
+    clock: Nanoseconds,
+) -> usize
+    requires { ⌜ Ready weight (now s) (now ev) ⌝ }
+    requires { ⌜ i < addressCount (now s) ⌝ }
+    ensures { λ r. ⌜ ((st : State) → Fits weight st (now (s .entry)) (now (ev .entry)) → Step weight st (expireTurn (allowance .0) (clock .0) i st) (now (s .exit)) (now (ev .entry)) (now (ev .exit)) r) ⌝ }
+{
+    let at = 3 + 20 * i;
+    let end = at + 20;
+    let mut row = [0u32; 20];
+    words::store(&mut row, 0, &s[at..end]);
+    if due(&row, allowance, clock) {
+        return step_remove_v4::remove_v4(s, ev, &row);
+    }
+    if fades(&row, allowance, clock) {
+        mark(s, ev, i, &row);
+        return 1;
+    }
+    0
+}
+
+// The place that is next: the first one again where addresses went.
+fn next(i: usize, was: usize, left: usize) -> usize
+    requires { ⌜ i < 64 ⌝ }
+    ensures { λ r. ⌜ r ≡ nextPlace i was left ⌝ }
+{
+    if left < was {
+        return 0;
+    }
+    i + 1
+}
+
+// Every address that is due goes, each that fades is marked; the number of rows told.
+pub fn expire(s: &mut [u32], ev: &mut [u32], allowance: Nanoseconds, clock: Nanoseconds) -> usize
+    requires { ⌜ Ready weight (now s) (now ev) ⌝ }
+    ensures { λ r. ⌜ ((st : State) → Fits weight st (now (s .entry)) (now (ev .entry)) → Step weight st (expire (allowance .0) (clock .0) st) (now (s .exit)) (now (ev .entry)) (now (ev .exit)) r) ⌝ }
+{
+    let mut i = 0usize;
+    let mut k = 0usize;
+    let mut n = state::address_count(s);
+    while i < n {
+        let r = turn(s, &mut ev[34 * k..], i, allowance, clock);
+        k += r;
+        let left = state::address_count(s);
+        i = next(i, n, left);
+        n = left;
+    }
+    k
+}

@@ -1,0 +1,211 @@
+// A route put into its place among the rows.
+ghost use mathlib.Core.Path.{_≡_};
+ghost use mathlib.Core.Bool.{true, false, not};
+ghost use Prim.Native.Nat.{_+_, _*_, _≤_, _<_};
+ghost use mathlib.Core.List.{List};
+ghost use lib.Dec.{eqb};
+ghost use lib.Bits.{bitAnd};
+ghost use lib.ListN.{length};
+ghost use Rattle.lists.specs.Lists.{Row, eqRow};
+ghost use Rattle.lists.specs.Count.{tick};
+ghost use Rattle.lists.specs.Laid.{Laid, Lays};
+ghost use Rattle.layout.specs.Route.{fitRoute};
+ghost use Rattle.definition.specs.State.{State};
+ghost use Rattle.definition.specs.Words.{ordered, fitState};
+ghost use Rattle.definition.specs.Reference.Insert.{insert4};
+ghost use Rattle.state.specs.Holds.{Holds, Valid};
+ghost use Rattle.step_insert.specs.Run.{Sofar, Run};
+ghost use Rattle.step_insert.specs.Plan.{planned, placed, created, replacing, among, InsertedInto};
+
+// Whether the rows are the same.
+fn same(new: &[u32], r: &[u32]) -> bool
+    requires { ⌜ (length (now new) ≡ 32) × (length (now r) ≡ 32) ⌝ }
+    ensures { λ b. ⌜ b ≡ eqRow (now (new .entry)) (now (r .entry)) ⌝ }
+{
+    if new[1] != r[1] {
+        return false;
+    }
+    words::same_words(new, r)
+}
+
+fn one_if(b: bool) -> usize
+    ensures { λ r. ⌜ r ≡ tick b ⌝ }
+{
+    if b {
+        return 1;
+    }
+    0
+}
+
+// The rows alike the new one in table, dst, len, tos and priority stand from start up to end; whether it is there itself.
+pub struct Alike {
+    pub start: usize,
+    pub end: usize,
+    pub there: bool,
+}
+
+// The rows in front that are to lower destinations: so many. Nearly all of a pass is this, a word a row.
+fn lower(rows: &[u32], n: usize, new: &[u32]) -> usize
+    requires { ⌜ (length (now rows) ≡ 32 * n) × Lays 32 fitRoute (now rows) ⌝ }
+    requires { ⌜ length (now new) ≡ 32 ⌝ }
+    ensures { λ r. ⌜ ((l : List Row) → Laid 32 fitRoute (now (rows .entry)) l → Sofar (now (new .entry)) l r r false) ⌝ }
+    ensures { λ r. ⌜ r ≤ n ⌝ }
+{
+    let dst = new[1];
+    let mut i = 0usize;
+    while i < n {
+        let at = 32 * i;
+        let r = &rows[at..at + 32];
+        if dst <= r[1] {
+            return i;
+        }
+        i += 1;
+    }
+    n
+}
+
+// One pass from the first row, up to the first one after the run.
+pub fn alike4(rows: &[u32], n: usize, new: &[u32]) -> Alike
+    requires { ⌜ (length (now rows) ≡ 32 * n) × Lays 32 fitRoute (now rows) ⌝ }
+    requires { ⌜ length (now new) ≡ 32 ⌝ }
+    ensures { λ r. ⌜ ((l : List Row) → Laid 32 fitRoute (now (rows .entry)) l → ordered l ≡ true → Run (now (new .entry)) l (r .start) (r .end) (r .there)) ⌝ }
+    ensures { λ r. ⌜ (r .start ≤ r .end) × (r .end ≤ n) ⌝ }
+{
+    let front = lower(rows, n, new);
+    let mut start = front;
+    let mut there = false;
+    let mut i = front;
+    while i < n {
+        let at = 32 * i;
+        let r = &rows[at..at + 32];
+        if row_route::before(new, r) {
+            return Alike {
+                start: start,
+                end: i,
+                there: there,
+            };
+        }
+        start += one_if(row_route::before(r, new));
+        there = there | same(new, r);
+        i += 1;
+    }
+    Alike {
+        start: start,
+        end: n,
+        there: there,
+    }
+}
+
+// What an insertion is to do: a row more at a place with the flags told, another row in place of one, nothing, or a refusal.
+pub enum Plan {
+    Add(usize, u32),
+    Replace(usize),
+    Keep,
+    Refuse(u32),
+}
+
+// What came of it. Full: there is no room for a row more, and nothing was changed.
+pub enum Inserted {
+    Put(u32),
+    Nothing,
+    Refused(u32),
+    Full,
+}
+
+// The flags of a request (netlink's NLM_F_*).
+const REPLACE: u32 = 0x100;
+
+const EXCL: u32 = 0x200;
+
+const CREATE: u32 = 0x400;
+
+const APPEND: u32 = 0x800;
+
+fn has(flags: u32, bit: u32) -> bool
+    ensures { λ r. ⌜ r ≡ not (eqb (bitAnd flags bit) 0) ⌝ }
+{
+    flags & bit != 0
+}
+
+fn created(flags: u32, place: usize, told: u32) -> Plan
+    ensures { λ r. ⌜ r ≡ created flags place told ⌝ }
+{
+    if has(flags, CREATE) {
+        return Plan::Add(place, told);
+    }
+    Plan::Refuse(layout::NO_ENTRY)
+}
+
+fn replacing(start: usize, there: bool, first: bool) -> Plan
+    ensures { λ r. ⌜ r ≡ replacing start there first ⌝ }
+{
+    if first {
+        return Plan::Keep;
+    }
+    if there {
+        return Plan::Refuse(layout::EXISTS);
+    }
+    Plan::Replace(start)
+}
+
+// Where some row is alike, the first of them the new one or not.
+fn among(flags: u32, start: usize, end: usize, there: bool, first: bool) -> Plan
+    ensures { λ r. ⌜ r ≡ among flags start end there first ⌝ }
+{
+    if has(flags, EXCL) {
+        return Plan::Refuse(layout::EXISTS);
+    }
+    if has(flags, REPLACE) {
+        return replacing(start, there, first);
+    }
+    if there {
+        return Plan::Refuse(layout::EXISTS);
+    }
+    if has(flags, APPEND) {
+        return created(flags, end, CREATE | APPEND);
+    }
+    created(flags, start, CREATE)
+}
+
+fn plan4(rows: &[u32], n: usize, new: &[u32], flags: u32) -> Plan
+    requires { ⌜ (length (now rows) ≡ 32 * n) × Lays 32 fitRoute (now rows) ⌝ }
+    requires { ⌜ length (now new) ≡ 32 ⌝ }
+    ensures { λ r. ⌜ placed n r ⌝ }
+    ensures { λ r. ⌜ ((l : List Row) → Laid 32 fitRoute (now (rows .entry)) l → ordered l ≡ true → planned (now (new .entry)) l r ≡ insert4 (now (new .entry)) flags l) ⌝ }
+{
+    let run = alike4(rows, n, new);
+    let start = run.start;
+    let end = run.end;
+    if end <= start {
+        return created(flags, start, CREATE | EXCL);
+    }
+    let at = 32 * start;
+    let first = same(new, &rows[at..at + 32]);
+    among(flags, start, end, run.there, first)
+}
+
+// A route put into its place: what came of it, the rows as the definition has them. A full list stays as it is.
+pub fn insert4(s: &mut [u32], new: &[u32], flags: u32) -> Inserted
+    requires { ⌜ Valid (now s) ⌝ }
+    requires { ⌜ fitRoute (now new) ≡ true ⌝ }
+    ensures { λ r. ⌜ Valid (now (s .exit)) ⌝ }
+    ensures { λ r. ⌜ ((st : State) → Holds (now (s .entry)) st → fitState st ≡ true → InsertedInto (now (new .entry)) flags st (now (s .exit)) r) ⌝ }
+{
+    let n = state::route_count(s);
+    let plan = plan4(state_read::routes(s), n, new, flags);
+    match plan {
+        Plan::Add(place, told) => {
+            if n == 256 {
+                return Inserted::Full;
+            }
+            state::insert_route(s, place, new);
+            Inserted::Put(told)
+        }
+        Plan::Replace(place) => {
+            state::replace_route(s, place, new);
+            Inserted::Put(REPLACE)
+        }
+        Plan::Keep => Inserted::Nothing,
+        Plan::Refuse(error) => Inserted::Refused(error),
+    }
+}

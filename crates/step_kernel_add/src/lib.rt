@@ -1,0 +1,41 @@
+// The kernel's own routes: added with their table listed, and told.
+use step_insert::Inserted;
+use step_laws::Told;
+ghost use mathlib.Core.Path.{_≡_};
+ghost use mathlib.Core.Bool.{true};
+ghost use Prim.Native.Nat.{_≤_, _<_};
+ghost use lib.ListN.{length};
+ghost use Rattle.layout.specs.Route.{fitRoute};
+ghost use Rattle.definition.specs.State.{State};
+ghost use Rattle.definition.specs.Words.{fitState};
+ghost use Rattle.definition.specs.Reference.Insert.{kernelAdd4};
+ghost use Rattle.state.specs.Holds.{Holds, Valid};
+ghost use Rattle.step_laws.specs.Adds.{Adds, rowsOf};
+
+const CREATE_APPEND: u32 = 0xc00;
+
+// Its table is listed, and it is put behind the rows alike it and told, unless it is there.
+pub fn kernel_add4(s: &mut [u32], ev: &mut [u32], new: &[u32]) -> Told
+    requires { ⌜ Valid (now s) ⌝ }
+    requires { ⌜ fitRoute (now new) ≡ true ⌝ }
+    requires { ⌜ 34 ≤ length (now ev) ⌝ }
+    ensures { λ r. ⌜ Valid (now (s .exit)) ⌝ }
+    ensures { λ r. ⌜ rowsOf r ≤ 1 ⌝ }
+    ensures { λ r. ⌜ ((st : State) → Holds (now (s .entry)) st → fitState st ≡ true → Adds (kernelAdd4 (now (new .entry)) st) (now (s .exit)) (now (ev .entry)) (now (ev .exit)) r) ⌝ }
+{
+    let table = new[0];
+    if 32 < state_tables::tables_after(s, table) {
+        return Told::Full;
+    }
+    state_tables::list_table(s, table);
+    let came = step_insert::insert4(s, new, CREATE_APPEND);
+    match came {
+        Inserted::Put(flags) => {
+            step_events::new_route4(ev, new, flags);
+            Told::Rows(1)
+        }
+        Inserted::Nothing => Told::Rows(0),
+        Inserted::Refused(_) => Told::Rows(0),
+        Inserted::Full => Told::Full,
+    }
+}

@@ -1,0 +1,74 @@
+// The route that a deletion names, taken out and told at the start of what is lent of the events.
+ghost use mathlib.Core.Path.{_≡_};
+ghost use mathlib.Core.List.{List};
+ghost use Prim.Native.Nat.{_*_, _≤_, _<_};
+ghost use lib.ListN.{length};
+ghost use Rattle.lists.specs.Lists.{Row};
+ghost use Rattle.lists.specs.Laid.{Laid, Lays};
+ghost use Rattle.lists.specs.Place.{placeOf};
+ghost use Rattle.layout.specs.Route.{fitRoute};
+ghost use Rattle.definition.specs.State.{State};
+ghost use Rattle.definition.specs.Words.{routeCount};
+ghost use Rattle.definition.specs.Reference.Insert.{named, kernelDel4};
+ghost use Rattle.state.specs.Holds.{Holds, Valid};
+ghost use Rattle.step_events.specs.Does.{Does};
+
+// Whether the deletion of p names r. Most rows are to other destinations, so that is asked first.
+fn named(p: &[u32], r: &[u32]) -> bool
+    requires { ⌜ (length (now p) ≡ 32) × (length (now r) ≡ 32) ⌝ }
+    ensures { λ b. ⌜ b ≡ named (now (p .entry)) (now (r .entry)) ⌝ }
+{
+    if p[1] != r[1] {
+        return false;
+    }
+    (r[0] == p[0])
+        & (r[1] == p[1])
+        & (r[2] == p[2])
+        & (r[3] == p[3])
+        & (r[5] == p[5])
+        & (r[7] == p[7])
+        & (r[8] == p[8])
+        & (r[9] == p[9])
+        & (r[6] == p[6])
+        & (r[12] == p[12])
+        & ((p[4] == 0) | (r[4] == p[4]))
+}
+
+// The place of the first row that is named, the number of rows where none is.
+fn find_named(rows: &[u32], n: usize, p: &[u32]) -> usize
+    requires { ⌜ (length (now rows) ≡ 32 * n) × Lays 32 fitRoute (now rows) ⌝ }
+    requires { ⌜ length (now p) ≡ 32 ⌝ }
+    ensures { λ r. ⌜ ((l : List Row) → Laid 32 fitRoute (now (rows .entry)) l → r ≡ placeOf (named (now (p .entry))) l) ⌝ }
+{
+    let mut i = 0usize;
+    while i < n {
+        let at = 32 * i;
+        let r = &rows[at..at + 32];
+        if named(p, r) {
+            return i;
+        }
+        i += 1;
+    }
+    n
+}
+
+// The first row that p names goes, if there is one. Where there is no route there need be no room for its event.
+pub fn kernel_del4(s: &mut [u32], ev: &mut [u32], p: &[u32]) -> usize
+    requires { ⌜ Valid (now s) ⌝ }
+    requires { ⌜ length (now p) ≡ 32 ⌝ }
+    requires { ⌜ (0 < routeCount (now s) → 34 ≤ length (now ev)) ⌝ }
+    ensures { λ r. ⌜ Valid (now (s .exit)) ⌝ }
+    ensures { λ r. ⌜ r ≤ 1 ⌝ }
+    ensures { λ r. ⌜ ((st : State) → Holds (now (s .entry)) st → Does (kernelDel4 (now (p .entry)) st) (now (s .exit)) (now (ev .entry)) (now (ev .exit)) r) ⌝ }
+{
+    let n = state::route_count(s);
+    let i = find_named(state_read::routes(s), n, p);
+    if n <= i {
+        return 0;
+    }
+    let at = 1283 + 32 * i;
+    let end = at + 32;
+    step_events::del_route4(ev, &s[at..end]);
+    state::remove_route(s, i);
+    1
+}
