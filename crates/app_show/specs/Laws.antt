@@ -14,8 +14,8 @@ use Rattle.lists.specs.Bools.{cond-true, cond-false}
 use Rattle.lists.specs.Rows.{sized, length-flat, length-put, chop-flat}
 use Rattle.definition.specs.Words.{decode, wellFormed}
 use Rattle.definition.specs.Reference.Source.{dump4}
-use Rattle.definition.specs.Kept.Encode.{good-decode}
-use Rattle.definition.specs.Kept.Reading.{dump4-listing}
+use Rattle.definition.specs.Preservation.Encode.{good-decode}
+use Rattle.definition.specs.Preservation.Reading.{dump4-listing}
 use Rattle.endian.specs.Endian.{wordsOf}
 use Rattle.text.specs.Print.{render, refusedLine}
 use Rattle.app_show.specs.Show.{shownWords, shown}

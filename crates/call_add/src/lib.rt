@@ -40,8 +40,8 @@ pub fn up(state: &mut [u32], events: &mut [u32], clock: u64) -> Done
     if n != 0 {
         return Done::Refused(n);
     }
-    let told = step_add_v4_atomic::up(state, events, Nanoseconds(clock));
-    match told {
+    let emitted = step_add_v4_atomic::up(state, events, Nanoseconds(clock));
+    match emitted {
         step_laws::Told::Rows(k) => Done::Rows(k),
         step_laws::Told::Full => Done::Refused(203),
     }

@@ -13,9 +13,9 @@ use Rattle.definition.specs.Words.{within, stateSize, encode, decode, wellForme
 use Rattle.definition.specs.Call.{refusal, written}
 use Rattle.definition.specs.Step.{Result, changing, outcome, downCall, eventsFit}
 use Rattle.definition.specs.Reference.Addresses.{Outcome, goes, down}
-use Rattle.definition.specs.Kept.Peaks.{down-roomy}
-use Rattle.definition.specs.Kept.Encode.{good-decode}
-use Rattle.state.specs.Holds.{Holds}
+use Rattle.definition.specs.Preservation.Peaks.{down-roomy}
+use Rattle.definition.specs.Preservation.Encode.{good-decode}
+use Rattle.state.specs.Represents.{Represents}
 use Rattle.call_read.specs.Laws.{tests, checked, passed}
 use Rattle.call_change.specs.declared.Done.the-variants.{Refused, Rows}
 use Rattle.call_change.specs.Answer.{doneOf}
@@ -44,7 +44,7 @@ answers-refused x w ev n h e =
     }
 
 -- a step within the limits that tells these rows
-made : (o : Out) (w : List ℕ) → within (o .peak) ≡ true → o .told ≡ [] → outcome (goes o) w ≡ record { reply = written []; words = encode (o .state) }
+made : (o : Out) (w : List ℕ) → within (o .peak) ≡ true → o .emitted ≡ [] → outcome (goes o) w ≡ record { reply = written []; words = encode (o .state) }
 made o w h e = rw (h, e)
 
 module _ (w ev : List ℕ) (n : ℕ) (c : n ≡ checked (eventsFit (length ev)) true true w) where
@@ -52,7 +52,7 @@ module _ (w ev : List ℕ) (n : ℕ) (c : n ≡ checked (eventsFit (length ev)) 
   unfolding downCall
   down-no h = answers-refused (downCall (length ev) w) w ev n h (change-refused (eventsFit (length ev)) true (λ st. goes (down st)) w n c h)
 
-  pub down-yes : (w′ : List ℕ) → n ≡ 0 → Holds w′ (down (decode w) .state) → Answers (downCall (length ev) w) w′ ev ev (Rows 0)
+  pub down-yes : (w′ : List ℕ) → n ≡ 0 → Represents w′ (down (decode w) .state) → Answers (downCall (length ev) w) w′ ev ev (Rows 0)
   unfolding downCall down
   down-yes w′ z h =
       let p = passed (eventsFit (length ev)) true true w n c z in

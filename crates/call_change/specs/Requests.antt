@@ -13,10 +13,10 @@ use Rattle.definition.specs.State.{State, Out, sizes}
 use Rattle.definition.specs.Words.{within, stateSize, encode, decode, wellFormed}
 use Rattle.definition.specs.Call.{refusal, written}
 use Rattle.definition.specs.Step.{Result, checks, unless, changing, outcome, requestIs, eventsFit}
-use Rattle.definition.specs.Kept.Encode.{good-decode, encode-decode, Good}
+use Rattle.definition.specs.Preservation.Encode.{good-decode, encode-decode, Good}
 use Rattle.definition.specs.Reference.Addresses.{Outcome, goes, refused}
-use Rattle.definition.specs.Kept.Numbers.{Numbered}
-use Rattle.state.specs.Holds.{Sound, Holds}
+use Rattle.definition.specs.Preservation.Numbers.{Numbered}
+use Rattle.state.specs.Represents.{Sound, Represents}
 use Rattle.step_route_request.specs.declared.Done as step-route-request
 use Rattle.step_route_request.specs.Done.{Requested}
 use Rattle.call_read.specs.Laws.{tests, checked, passed, held}
@@ -36,9 +36,9 @@ answers-by x y w′ ev ev′ r e a b d =
 
 module _ (w w′ ev ev′ : List ℕ) (same : encode (decode w) ≡ w) (r : step-route-request.Done) where
   -- by whether the lists keep to their limits
-  goes-answers : (x : Result) (o : Out) (b : Bool) → within (o .peak) ≡ b → x ≡ cond b (record { reply = written (o .told); words = encode (o .state) }) (record { reply = refusal 203; words = w })
-      → r ≡ cond b (step-route-request.the-variants.Rows (length (o .told))) step-route-request.the-variants.Full → w′ ≡ encode (cond b (o .state) (decode w)) → ev′ ≡ put 0 (flat (cond b (o .told) [])) ev → Answers x w′ ev ev′ (publicOf r)
-  goes-answers x o true e p q h k = answers-by x (record { reply = written (o .told); words = encode (o .state) }) w′ ev ev′ (publicOf r) p (ap publicOf q) h k
+  goes-answers : (x : Result) (o : Out) (b : Bool) → within (o .peak) ≡ b → x ≡ cond b (record { reply = written (o .emitted); words = encode (o .state) }) (record { reply = refusal 203; words = w })
+      → r ≡ cond b (step-route-request.the-variants.Rows (length (o .emitted))) step-route-request.the-variants.Full → w′ ≡ encode (cond b (o .state) (decode w)) → ev′ ≡ put 0 (flat (cond b (o .emitted) [])) ev → Answers x w′ ev ev′ (publicOf r)
+  goes-answers x o true e p q h k = answers-by x (record { reply = written (o .emitted); words = encode (o .state) }) w′ ev ev′ (publicOf r) p (ap publicOf q) h k
   goes-answers x o false e p q h k = answers-by x (record { reply = refusal 203; words = w }) w′ ev ev′ (publicOf r) p (ap publicOf q) (h ∙ same) k
 
   refused-answers : (x : Result) (n : ℕ) (st : State) (b : Bool) → 0 < n → x ≡ cond b (record { reply = refusal n; words = encode st }) (record { reply = refusal 203; words = w })
@@ -73,7 +73,7 @@ pub record Asked (size : ℕ) (fitted : Bool) (f : State → Outcome) (q w ev : 
   pub fit : fitted ≡ true
   pub room : 13056 ≤ length ev
   pub good : Good (decode w)
-  pub holds : Holds w (decode w)
+  pub holds : Represents w (decode w)
   pub same : encode (decode w) ≡ w
   pub made : changing (tests (requestIs size q && eventsFit (length ev)) true fitted) f w ≡ outcome (f (decode w)) w
 

@@ -18,11 +18,11 @@ use Rattle.definition.specs.Call.{written, refusal}
 use Rattle.definition.specs.Step.{Result, outcome, changing, expireCall, eventsFit, requestIs, clockLimit}
 use Rattle.definition.specs.Reference.Addresses.{Outcome, goes}
 use Rattle.definition.specs.Reference.Removal.{expire, delV4}
-use Rattle.definition.specs.Kept.Shrinking.{weight, live}
-use Rattle.definition.specs.Kept.Peaks.{expire-roomy, delV4-roomy}
-use Rattle.definition.specs.Kept.Encode.{Good, good-decode}
-use Rattle.state.specs.Holds.{Holds}
-use Rattle.step_events.specs.Step.{Fits, Step}
+use Rattle.definition.specs.Preservation.Shrinking.{potential, live}
+use Rattle.definition.specs.Preservation.Peaks.{expire-roomy, delV4-roomy}
+use Rattle.definition.specs.Preservation.Encode.{Good, good-decode}
+use Rattle.state.specs.Represents.{Represents}
+use Rattle.step_events.specs.EmitsWithin.{Fits, EmitsWithin}
 use Rattle.call_read.specs.Laws.{tests, checked, passed, held}
 use Rattle.call_change.specs.declared.Done.the-variants.{Refused, Rows}
 use Rattle.step_del_v4.specs.declared.Deleted as Deleted
@@ -33,28 +33,28 @@ use Rattle.call_change.specs.Laws.{Answers, answers-refused, change-refu
 use Rattle.call_change.specs.Requests.{answers-by, Asked}
 
 -- 384 rows suffice
-weight-few : (st : State) → Good st → weight st ≤ 384
-weight-few st g =
+potential-few : (st : State) → Good st → potential st ≤ 384
+potential-few st g =
     let k = simp and-iff at (g .limits) in
     omega (arith, leb-true (length (st .addresses)) 64 (k .0 .0), leb-true (length (st .routes)) 256 (k .0 .1), count-most live (st .addresses))
 
 -- a good state's words, with a buffer of 384 rows
-pub roomy-held : (w ev : List ℕ) → Good (decode w) → Holds w (decode w) → 13056 ≤ length ev → Fits weight (decode w) w ev
-roomy-held w ev g h room = record { holds = h; room = omega (arith, weight-few (decode w) g) }
+pub roomy-held : (w ev : List ℕ) → Good (decode w) → Represents w (decode w) → 13056 ≤ length ev → Fits potential (decode w) w ev
+roomy-held w ev g h room = record { holds = h; room = omega (arith, potential-few (decode w) g) }
 
 -- words that passed the checks are such
-pub roomy-buffer : (buffers request : Bool) (w ev : List ℕ) (n : ℕ) → n ≡ checked buffers true request w → n ≡ 0 → 13056 ≤ length ev → Fits weight (decode w) w ev
+pub roomy-buffer : (buffers request : Bool) (w ev : List ℕ) (n : ℕ) → n ≡ checked buffers true request w → n ≡ 0 → 13056 ≤ length ev → Fits potential (decode w) w ev
 roomy-buffer buffers request w ev n c z room =
     let p = passed buffers true request w n c z in
     roomy-held w ev (good-decode w (p .long) (p .formed)) (held buffers true request w n c z) room
 
-made : (o : Out) (w : List ℕ) → within (o .peak) ≡ true → outcome (goes o) w ≡ record { reply = written (o .told); words = encode (o .state) }
+made : (o : Out) (w : List ℕ) → within (o .peak) ≡ true → outcome (goes o) w ≡ record { reply = written (o .emitted); words = encode (o .state) }
 made o w h = rw h
 
 -- a step made is what a call answers
-pub step-answers : (x : Result) (st : State) (o : Out) (w w′ ev ev′ : List ℕ) (r : ℕ) → x ≡ outcome (goes o) w → within (o .peak) ≡ true → Step weight st o w′ ev ev′ r → Answers x w′ ev ev′ (Rows r)
+pub step-answers : (x : Result) (st : State) (o : Out) (w w′ ev ev′ : List ℕ) (r : ℕ) → x ≡ outcome (goes o) w → within (o .peak) ≡ true → EmitsWithin potential st o w′ ev ev′ r → Answers x w′ ev ev′ (Rows r)
 step-answers x st o w w′ ev ev′ r e h t =
-    answers-by x (record { reply = written (o .told); words = encode (o .state) }) w′ ev ev′ (Rows r) (e ∙ made o w h) (ap Rows (t .count)) (t .holds .words) (t .words)
+    answers-by x (record { reply = written (o .emitted); words = encode (o .state) }) w′ ev ev′ (Rows r) (e ∙ made o w h) (ap Rows (t .count)) (t .holds .words) (t .words)
 
 module _ (w ev : List ℕ) (n clock : ℕ) (c : n ≡ checked (eventsFit (length ev)) true (leb clock clockLimit) w) where
   pub expire-no : (n ≡ 0 → ⊥) → Answers (expireCall (length ev) clock w) w ev ev (Refused n)
@@ -66,7 +66,7 @@ module _ (w ev : List ℕ) (n clock : ℕ) (c : n ≡ checked (eventsFit (length
   pub expire-room : n ≡ 0 → 13056 ≤ length ev
   expire-room z = leb-true 13056 (length ev) (passed (eventsFit (length ev)) true (leb clock clockLimit) w n c z .room)
 
-  pub expire-yes : (w′ ev′ : List ℕ) (r : ℕ) → n ≡ 0 → Step weight (decode w) (expire allowance clock (decode w)) w′ ev ev′ r → Answers (expireCall (length ev) clock w) w′ ev ev′ (Rows r)
+  pub expire-yes : (w′ ev′ : List ℕ) (r : ℕ) → n ≡ 0 → EmitsWithin potential (decode w) (expire allowance clock (decode w)) w′ ev ev′ r → Answers (expireCall (length ev) clock w) w′ ev ev′ (Rows r)
   unfolding expireCall
   expire-yes w′ ev′ r z t =
       let p = passed (eventsFit (length ev)) true (leb clock clockLimit) w n c z in

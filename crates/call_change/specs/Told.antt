@@ -17,7 +17,7 @@ use Rattle.definition.specs.Call as Call
 use Rattle.definition.specs.Call.{Reply, refusal, written}
 use Rattle.definition.specs.Step.{Result, Action, changes, replies, lists, alters, semantics, outcome, step, upCall, downCall, addV4Call, delV4Call, expireCall, addRoute4Call, delRoute4Call}
 use Rattle.definition.specs.Reference.Addresses.{Outcome}
-use Rattle.definition.specs.Kept.Step.{acted, perform-case, told-bound}
+use Rattle.definition.specs.Preservation.Step.{acted, perform-case, emitted-bound}
 use Rattle.call_read.specs.Answer.{Numbers, numbers}
 use Rattle.call_change.specs.Answer.{doneBy, doneOf}
 use Rattle.call_change.specs.declared.Done.{Done}
@@ -25,7 +25,7 @@ use Rattle.call_change.specs.declared.Done.the-variants.{Rows}
 
 -- what holds of a refusal and of rows told holds of a call's reply
 comes : (P : Reply → Type 0) (o : Outcome) (w : List ℕ) → ((n : ℕ) → P (refusal n)) → ((l : List Row) → P (written l)) → P (outcome o w .reply)
-comes P (Outcome.goes o) w refuses answers = cond-case (λ (r : Result). P (r .reply)) (within (o .peak)) (λ e. answers (o .told)) (λ e. refuses 203)
+comes P (Outcome.goes o) w refuses answers = cond-case (λ (r : Result). P (r .reply)) (within (o .peak)) (λ e. answers (o .emitted)) (λ e. refuses 203)
 comes P (Outcome.refused n st) w refuses answers = cond-case (λ (r : Result). P (r .reply)) (within (sizes st)) (λ e. refuses n) (λ e. refuses 203)
 
 record Tells (r : Reply) : Type 0 where
@@ -49,44 +49,44 @@ pub record Told (r : Reply) : Type 0 where
   pub few : length (r .rows) ≤ 384
   pub size : sized 34 (r .rows) ≡ true
 
-told : (c : Call.Call) (w : List ℕ) → alters (semantics c .action) ≡ true → Told (step c w .reply)
-told c w e =
+emitted : (c : Call.Call) (w : List ℕ) → alters (semantics c .action) ≡ true → Told (step c w .reply)
+emitted c w e =
     let t = tells c w e in
-    let b = told-bound c w e in
+    let b = emitted-bound c w e in
     record { says = t .says; counts = t .counts; few = b .few; size = b .size }
 
 module _ (w : List ℕ) (events : ℕ) where
-  pub up-told : (now : ℕ) → Told (upCall events now w .reply)
+  pub up-emitted : (now : ℕ) → Told (upCall events now w .reply)
   unfolding upCall
-  up-told now = told (Call.up events now) w refl
+  up-emitted now = emitted (Call.up events now) w refl
 
-  pub down-told : Told (downCall events w .reply)
+  pub down-emitted : Told (downCall events w .reply)
   unfolding downCall
-  down-told = told (Call.down events) w refl
+  down-emitted = emitted (Call.down events) w refl
 
-  pub add-v4-told : (q : Row) (now : ℕ) → Told (addV4Call q events now w .reply)
+  pub add-v4-emitted : (q : Row) (now : ℕ) → Told (addV4Call q events now w .reply)
   unfolding addV4Call
-  add-v4-told q now = told (Call.addV4 q events now) w refl
+  add-v4-emitted q now = emitted (Call.addV4 q events now) w refl
 
-  pub del-v4-told : (q : Row) → Told (delV4Call q events w .reply)
+  pub del-v4-emitted : (q : Row) → Told (delV4Call q events w .reply)
   unfolding delV4Call
-  del-v4-told q = told (Call.delV4 q events) w refl
+  del-v4-emitted q = emitted (Call.delV4 q events) w refl
 
-  pub expire-told : (now : ℕ) → Told (expireCall events now w .reply)
+  pub expire-emitted : (now : ℕ) → Told (expireCall events now w .reply)
   unfolding expireCall
-  expire-told now = told (Call.expire events now) w refl
+  expire-emitted now = emitted (Call.expire events now) w refl
 
-  pub add-route4-told : (q : Row) → Told (addRoute4Call q events w .reply)
+  pub add-route4-emitted : (q : Row) → Told (addRoute4Call q events w .reply)
   unfolding addRoute4Call
-  add-route4-told q = told (Call.addRoute4 q events) w refl
+  add-route4-emitted q = emitted (Call.addRoute4 q events) w refl
 
-  pub del-route4-told : (q : Row) → Told (delRoute4Call q events w .reply)
+  pub del-route4-emitted : (q : Row) → Told (delRoute4Call q events w .reply)
   unfolding delRoute4Call
-  del-route4-told q = told (Call.delRoute4 q events) w refl
+  del-route4-emitted q = emitted (Call.delRoute4 q events) w refl
 
 -- so a call whose answer is the reply's case promises the reply's numbers
-pub told-says : {x : Reply} {r : Done} → Told x → r ≡ doneOf x → doneBy r ≡ numbers x
-told-says t e = ap doneBy e ∙ t .says
+pub emitted-says : {x : Reply} {r : Done} → Told x → r ≡ doneOf x → doneBy r ≡ numbers x
+emitted-says t e = ap doneBy e ∙ t .says
 
 -- the count fits a word
 pub small : (d : Done) (r : Reply) → d ≡ doneOf r → Told r → doneBy d .value < 4294967296

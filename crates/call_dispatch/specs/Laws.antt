@@ -24,22 +24,22 @@ use Rattle.call_change.specs.declared.Done.{Done}
 use Rattle.call_reply.specs.declared.Reply as Rep
 use Rattle.call_reply.specs.Answer.{replyFrom, replyOf}
 use Rattle.call_read.specs.Numbers.{reads}
-use Rattle.call_change.specs.Told.{Told, up-told, down-told, add-v4-told, del-v4-told, expire-told, add-route4-told, del-route4-told}
+use Rattle.call_change.specs.Told.{Told, up-emitted, down-emitted, add-v4-emitted, del-v4-emitted, expire-emitted, add-route4-emitted, del-route4-emitted}
 use Rattle.call_dispatch.specs.Numbered.{clockOf, changeBy, readBy, callBy, Did}
 
 -- ---- a call that changes
 abbrev Tells : Result → Type 0
 Tells x = Told (x .reply)
 
-pub change-told : (code : ℕ) (q : Row) (clock room : ℕ) (w : List ℕ) → Told (changeBy code q clock room w .reply)
+pub change-emitted : (code : ℕ) (q : Row) (clock room : ℕ) (w : List ℕ) → Told (changeBy code q clock room w .reply)
 unfolding changeBy
-change-told code q clock room w =
-    cond-case Tells (eqb code 1) (λ e. up-told w room clock) (λ e.
-    cond-case Tells (eqb code 2) (λ e. down-told w room) (λ e.
-    cond-case Tells (eqb code 3) (λ e. add-v4-told w room q clock) (λ e.
-    cond-case Tells (eqb code 4) (λ e. del-v4-told w room q) (λ e.
-    cond-case Tells (eqb code 5) (λ e. expire-told w room clock) (λ e.
-    cond-case Tells (eqb code 6) (λ e. add-route4-told w room q) (λ e. del-route4-told w room q))))))
+change-emitted code q clock room w =
+    cond-case Tells (eqb code 1) (λ e. up-emitted w room clock) (λ e.
+    cond-case Tells (eqb code 2) (λ e. down-emitted w room) (λ e.
+    cond-case Tells (eqb code 3) (λ e. add-v4-emitted w room q clock) (λ e.
+    cond-case Tells (eqb code 4) (λ e. del-v4-emitted w room q) (λ e.
+    cond-case Tells (eqb code 5) (λ e. expire-emitted w room clock) (λ e.
+    cond-case Tells (eqb code 6) (λ e. add-route4-emitted w room q) (λ e. del-route4-emitted w room q))))))
 
 -- ---- the calls that write no row
 quiet-some : (o : Option ℕ) → optionally o .rows ≡ []
@@ -119,7 +119,7 @@ unfolding callBy
 called-change code lent a b c room w t {w′} {ev} {ev′} d {r} h e x f =
     let y = ap (λ (k : ℕ). changeBy code lent k room w) e ∙ sym (cond-true (leb code 7) (changeBy code lent (clockOf a b) room w) (readBy code lent a b c room w) h) in
     subst (λ (z : Result). Did z ev r w′ ev′) y
-    (record { answer = f ∙ ap replyFrom (ap doneBy (x .answer) ∙ change-told code lent t room w .says); words = x .words; buffer = x .events })
+    (record { answer = f ∙ ap replyFrom (ap doneBy (x .answer) ∙ change-emitted code lent t room w .says); words = x .words; buffer = x .events })
 
 pub called-read : (code : ℕ) (lent : Row) (a b c room : ℕ) (w bu bu′ : List ℕ) (r : Rep.Reply) → leb code 7 ≡ false
     → Did (readBy code lent a b c room w) bu r w bu′ → Did (callBy code lent a b c room w) bu r w bu′

@@ -8,7 +8,7 @@ use lib.ListN.{length}
 use Rattle.lists.specs.Lists.{Row, flat, put}
 use Rattle.definition.specs.Call.{Call, Numbers, numbers}
 use Rattle.definition.specs.Step.{Result, semantics, step, upCall, downCall, addV4Call, delV4Call, expireCall, addRoute4Call, delRoute4Call, dump4Call, lookup4Call, lookup4FlowCall, local4Call, source4Call, sourceCall, select4Call}
-use Rattle.definition.specs.Runs.Public.{Lent, Made}
+use Rattle.definition.specs.Noninterference.Public.{Lent, Made}
 use Rattle.call_reply.specs.declared.Reply.{Reply}
 use Rattle.call_dispatch.specs.Numbered.{clockOf, changeBy, readBy, callBy, Did}
 

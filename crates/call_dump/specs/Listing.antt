@@ -14,7 +14,7 @@ use Rattle.definition.specs.Words.{decode}
 use Rattle.definition.specs.Call.{Reply, refusal, written}
 use Rattle.definition.specs.Step.{dump4Call}
 use Rattle.definition.specs.Reference.Source.{dump4}
-use Rattle.definition.specs.Kept.Reading.{dump4-listing}
+use Rattle.definition.specs.Preservation.Reading.{dump4-listing}
 use Rattle.call_read.specs.Answer.{Numbers, numbers}
 use Rattle.call_dump.specs.Answer.{listedBy, listedOf}
 use Rattle.call_dump.specs.declared.Listed.{Listed}

@@ -20,15 +20,15 @@ use Rattle.definition.specs.Step.{Result, Checks, checked as definition·checke
 use Rattle.definition.specs.Reference.Lookup as Lookup
 use Rattle.definition.specs.Reference.Lookup.{lookupIn, local4}
 use Rattle.definition.specs.Reference.Source.{source, source4, select4, present}
-use Rattle.definition.specs.Kept.Numbers.{OfFound, lookup-number}
-use Rattle.definition.specs.Kept.Change.{unless-passed}
-use Rattle.definition.specs.Kept.Step.{checks-zero}
+use Rattle.definition.specs.Preservation.Numbers.{OfFound, lookup-number}
+use Rattle.definition.specs.Preservation.Change.{unless-passed}
+use Rattle.definition.specs.Preservation.Step.{checks-zero}
 use Rattle.rows_lookup.specs.declared.Looked as Looked
 use Rattle.rows_lookup.specs.Answer.{foundBy as rows-lookup·foundBy}
 use Rattle.rows_source.specs.declared.Selected as Selected
 use Rattle.rows_source.specs.declared.Selected.{Selected}
 use Rattle.rows_source.specs.Selected.{localIn, wanted}
-use Rattle.state.specs.Holds.{Holds, Valid, holds-decode, count-routes, sizes-valid}
+use Rattle.state.specs.Represents.{Represents, Valid, holds-decode, count-routes, sizes-valid}
 use Rattle.state.specs.Change.{route-at}
 use Rattle.call_read.specs.declared.Found as Found
 use Rattle.call_read.specs.declared.Local as Local
@@ -165,7 +165,7 @@ module _ (w : List ℕ) (n dstPresent dst scope : ℕ) (fit : Bool) (f : fit ≡
       ∙ ap chosenOf (sym (read-answered true true (optional dstPresent dst && ltb scope 256) (λ st. optionally (select4 (st .addresses) (present dstPresent dst) scope)) w n (c ∙ ap (λ (b : Bool). checked true true (b && ltb scope 256) w) f) z))
 
 -- the row at a place, as the code lends it
-pub found-at : (w : List ℕ) (st : State) → Holds w st → (i : ℕ) → i < routeCount w → take (1283 + 32 * i + 32 - (1283 + 32 * i)) (drop (1283 + 32 * i) w) ≡ getD (st .routes) i []
+pub found-at : (w : List ℕ) (st : State) → Represents w st → (i : ℕ) → i < routeCount w → take (1283 + 32 * i + 32 - (1283 + 32 * i)) (drop (1283 + 32 * i) w) ≡ getD (st .routes) i []
 unfolding span
 found-at w st h i b =
     let whole : 1283 + 32 * i + 32 - (1283 + 32 * i) ≡ 32 = omega arith in
@@ -192,7 +192,7 @@ module _ (w row : List ℕ) (n : ℕ) (b : Bool) (f : Lookup.Flow) where
       )
 
 -- a row found at a place, and a refusal
-module _ (w : List ℕ) (st : State) (h : Holds w st) (f : Lookup.Flow) where
+module _ (w : List ℕ) (st : State) (h : Represents w st) (f : Lookup.Flow) where
   pub look-row : (i : ℕ) (row row′ p : List ℕ) → i < routeCount w → rows-lookup·foundBy (st .routes) (Looked.the-variants.At i) ≡ lookupIn st f → p ≡ getD (st .routes) i [] → row′ ≡ put 0 p row → (Found.the-variants.Row ≡ foundIn (lookupIn st f)) × (row′ ≡ put 0 (flat (rowsIn (lookupIn st f))) row)
   unfolding flat
   look-row i row row′ p b e q k =
@@ -202,7 +202,7 @@ module _ (w : List ℕ) (st : State) (h : Holds w st) (f : Lookup.Flow) where
   look-refused n row e = (ap foundIn e, put-no-rows row ∙ ap (λ (x : Lookup.Found). put 0 (flat (rowsIn x)) row) e)
 
 -- words that passed the checks hold what they decode to
-pub held : (buffers row request : Bool) (w : List ℕ) (n : ℕ) → n ≡ checked buffers row request w → n ≡ 0 → Holds w (decode w)
+pub held : (buffers row request : Bool) (w : List ℕ) (n : ℕ) → n ≡ checked buffers row request w → n ≡ 0 → Represents w (decode w)
 held buffers row request w n c z =
     let p = passed buffers row request w n c z in
     holds-decode w (p .long) (p .formed)

@@ -19,8 +19,8 @@ use Rattle.definition.specs.Step.{checked, reading, lookup4Call, lookup4FlowCal
 use Rattle.definition.specs.Reference.Lookup as Lookup
 use Rattle.definition.specs.Reference.Lookup.{lookup4, lookup4Flow, local4}
 use Rattle.definition.specs.Reference.Source.{source, source4, select4, present}
-use Rattle.definition.specs.Kept.Encode.{Good, good-decode}
-use Rattle.definition.specs.Kept.Step.{good-held, checked-held}
+use Rattle.definition.specs.Preservation.Encode.{Good, good-decode}
+use Rattle.definition.specs.Preservation.Step.{good-held, checked-held}
 use Rattle.call_read.specs.Laws.{tests}
 use Rattle.call_read.specs.Answer.{numbers, foundBy, foundOf, localBy, localOf, chosenBy, chosenOf, sourcedBy, sourcedOf}
 use Rattle.call_read.specs.declared.Found.{Found}

@@ -12,7 +12,7 @@ ghost use Rattle.definition.specs.State.{State};
 ghost use Rattle.definition.specs.Words.{routeCount};
 ghost use Rattle.definition.specs.Reference.Lookup.{lookupIn};
 ghost use Rattle.definition.specs.Step.{lookup4Call, lookup4FlowCall, local4Call, source4Call, sourceCall, select4Call};
-ghost use Rattle.state.specs.Holds.{Holds, Valid};
+ghost use Rattle.state.specs.Represents.{Represents, Valid};
 ghost use Rattle.call_read.specs.Answer.{numbers, foundBy, localBy, chosenBy, sourcedBy, foundOf, localOf, chosenOf, sourcedOf, foundIn, rowsIn};
 ghost use Rattle.call_read.specs.Laws.{checked};
 
@@ -60,7 +60,7 @@ pub fn checked(s: &[u32], buffers: bool, handed: bool, request: bool) -> u32
 // Route i, copied into the buffer.
 fn copy_route(s: &[u32], i: usize, row: &mut [u32])
     requires { ⌜ Valid (now s) × (i < routeCount (now s)) × (32 ≤ length (now row)) ⌝ }
-    ensures { λ _. ⌜ ((st : State) → Holds (now (s .entry)) st → now (row .exit) ≡ put 0 (getD (st .routes) i []) (now (row .entry))) ⌝ }
+    ensures { λ _. ⌜ ((st : State) → Represents (now (s .entry)) st → now (row .exit) ≡ put 0 (getD (st .routes) i []) (now (row .entry))) ⌝ }
 {
     let at = 1283 + 32 * i;
     let end = at + 32;
@@ -70,8 +70,8 @@ fn copy_route(s: &[u32], i: usize, row: &mut [u32])
 // The route of a flow, copied into the buffer.
 fn look(s: &[u32], row: &mut [u32], f: Flow) -> Found
     requires { ⌜ Valid (now s) × (32 ≤ length (now row)) ⌝ }
-    ensures { λ r. ⌜ ((st : State) → Holds (now (s .entry)) st → r ≡ foundIn (lookupIn st (flowOf f))) ⌝ }
-    ensures { λ _. ⌜ ((st : State) → Holds (now (s .entry)) st → now (row .exit) ≡ put 0 (flat (rowsIn (lookupIn st (flowOf f)))) (now (row .entry))) ⌝ }
+    ensures { λ r. ⌜ ((st : State) → Represents (now (s .entry)) st → r ≡ foundIn (lookupIn st (flowOf f))) ⌝ }
+    ensures { λ _. ⌜ ((st : State) → Represents (now (s .entry)) st → now (row .exit) ≡ put 0 (flat (rowsIn (lookupIn st (flowOf f)))) (now (row .entry))) ⌝ }
 {
     let looked = state_read::lookup4_in(s, f);
     match looked {

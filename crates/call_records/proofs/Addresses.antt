@@ -101,7 +101,7 @@ abbrev pub none : V4
 none = v4Of []
 
 -- at the place `at` the best of those before it is in a local, as `mach`
-pub record Sofar (rank : Row → ℕ) (ys : List V4) : Type 0 where
+pub record LoopInvariant (rank : Row → ℕ) (ys : List V4) : Type 0 where
   pub at : ℕ
   pub best : Best
   pub mach : Val
@@ -110,7 +110,7 @@ pub record Sofar (rank : Row → ℕ) (ys : List V4) : Type 0 where
   pub same : bestFrom rank best (drop at ys) ≡ bestFrom rank start ys
 
 module _ (rank : Row → ℕ) (ys : List V4) where
-  abbrev pub begin : Sofar rank ys
+  abbrev pub begin : LoopInvariant rank ys
   begin =
       record {
         at = 0;
@@ -121,20 +121,20 @@ module _ (rank : Row → ℕ) (ys : List V4) where
         same = refl;
       }
 
-  abbrev pub Nearer : Sofar rank ys → Sofar rank ys → Type 0
+  abbrev pub Nearer : LoopInvariant rank ys → LoopInvariant rank ys → Type 0
   Nearer t s = length ys - t .at < length ys - s .at
 
   pub nearer-wf : WellFounded Nearer
-  nearer-wf = InvImage·wf (λ (s : Sofar rank ys). length ys - s .at) (Nat·lt-wfRel .wf)
+  nearer-wf = InvImage·wf (λ (s : LoopInvariant rank ys). length ys - s .at) (Nat·lt-wfRel .wf)
 
-  module _ (s : Sofar rank ys) where
+  module _ (s : LoopInvariant rank ys) where
     abbrev pub here : V4
     here = getD ys (s .at) none
 
     abbrev pub following : Best
     following = better (s .best) (rank (rowOf here)) (here .local)
 
-    abbrev pub onward : s .at < length ys → (r : Best) (u : Val) → r ≡ following → Is B.the-row r (u ∷ []) → Sofar rank ys
+    abbrev pub onward : s .at < length ys → (r : Best) (u : Val) → r ≡ following → Is B.the-row r (u ∷ []) → LoopInvariant rank ys
     onward b r u e is =
         record {
           at = s .at + 1;

@@ -24,7 +24,7 @@ use Rattle.row_address.specs.V4.{secondaryV4, coversV4}
 use Rattle.row_address.specs.Words.{rowOf}
 use Rattle.rows_source.specs.Selected.{wanted, localIn}
 use Rattle.rows_source.specs.Laws.{reaches-test}
-use Rattle.state.specs.Holds.{Valid, sizes-valid}
+use Rattle.state.specs.Represents.{Valid, sizes-valid}
 use Rattle.call_read.specs.declared.Sourced.{Sourced}
 use Rattle.call_read.specs.declared.Sourced.the-variants.{Refused, Address}
 use Rattle.call_read.specs.Answer.{numbers, sourcedBy, sourcedOf}

@@ -5,5 +5,5 @@ pub mod Call
 pub mod Step
 pub mod Computing
 pub mod Laws
-pub mod Kept
-pub mod Runs
+pub mod Preservation
+pub mod Noninterference

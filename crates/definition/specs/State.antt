@@ -38,12 +38,12 @@ most a b =
 -- What a step leaves: the state afterwards, the event rows that it told, and the greatest length that each list had at any moment of it
 pub record Out : Type 0 where
   pub state : State
-  pub told : List Row
+  pub emitted : List Row
   pub peak : Sizes
 
 -- the state becomes st, and rows are told
 abbrev pub becomes : State → List Row → Out
-becomes st rows = record { state = st; told = rows; peak = sizes st }
+becomes st rows = record { state = st; emitted = rows; peak = sizes st }
 
 -- nothing is done
 abbrev pub stays : State → Out
@@ -55,7 +55,7 @@ also o f =
     let p = f (o .state) in
     record {
       state = p .state;
-      told = o .told ++ p .told;
+      emitted = o .emitted ++ p .emitted;
       peak = most (o .peak) (p .peak);
     }
 

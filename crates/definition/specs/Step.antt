@@ -92,7 +92,7 @@ unfit n = leb 200 n
 
 -- what an outcome replies, the state that it leaves, and the greatest length that each list had
 abbrev pub answered : Outcome → Reply
-answered (goes o) = written (o .told)
+answered (goes o) = written (o .emitted)
 answered (refused n st) = refusal n
 
 abbrev pub result : Outcome → State

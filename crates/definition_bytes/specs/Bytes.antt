@@ -12,8 +12,8 @@ use Rattle.endian.specs.Laws.{Below}
 use Rattle.definition.specs.Words.{stateOf}
 use Rattle.definition.specs.Call.{Call, Reply, Numbers, numbers, refusal}
 use Rattle.definition.specs.Step.{Result, alters, semantics, step}
-use Rattle.definition.specs.Runs.Statement.{Choice, struck, view}
-use Rattle.definition.specs.Runs.Public.{Lent, Seen, answers, spared, Equal}
+use Rattle.definition.specs.Noninterference.Statement.{Choice, struck, view}
+use Rattle.definition.specs.Noninterference.Public.{Lent, Seen, answers, spared, Equal}
 
 -- ---- on bytes: 200 where there are not as many as there must be
 abbrev pub onBytes : Bool → Reply → Reply

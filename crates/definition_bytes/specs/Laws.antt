@@ -11,9 +11,9 @@ use Rattle.endian.specs.Endian.{wordsOf}
 use Rattle.endian.specs.Laws.{wordsOf-take, wordsOf-drop}
 use Rattle.definition.specs.Call.{Call, numbers}
 use Rattle.definition.specs.Step.{Buffer, unlent, forEvents, forListing, forRow, semantics, step}
-use Rattle.definition.specs.Runs.Statement.{after}
-use Rattle.definition.specs.Runs.Public.{Lent, Made, Seen, Ran}
-use Rattle.definition.specs.Runs.ReadBack.{roomOf}
+use Rattle.definition.specs.Noninterference.Statement.{after}
+use Rattle.definition.specs.Noninterference.Public.{Lent, Made, Seen, Ran}
+use Rattle.definition.specs.Noninterference.ReadBack.{roomOf}
 
 -- ---- a run, lent buffers of zeros
 lent-zeros : (k : Buffer) → Lent k (zeros (roomOf k))

@@ -17,11 +17,11 @@ use Rattle.endian.specs.Laws.{Below, length-bytesOf, words-bytes, wordsOf-put}
 use Rattle.definition.specs.Words.{stateSize}
 use Rattle.definition.specs.Call.{Call, Reply, Numbers, numbers, replied, refusal}
 use Rattle.definition.specs.Step.{Result, refuses, alters, semantics, step}
-use Rattle.definition.specs.Kept.Step.{Held, held-empty, step-held, perform-reads}
-use Rattle.definition.specs.Runs.Statement.{struck, emptyWords, unstruck}
-use Rattle.definition.specs.Runs.Public.{Seen, readBack, spared, Equal}
-use Rattle.definition.specs.Runs.ReadBack.{shaped, shaped-back}
-use Rattle.definition.specs.Runs.Code.{Shows, Showed, showed-equal}
+use Rattle.definition.specs.Preservation.Step.{Held, held-empty, step-held, perform-reads}
+use Rattle.definition.specs.Noninterference.Statement.{struck, emptyWords, unstruck}
+use Rattle.definition.specs.Noninterference.Public.{Seen, readBack, spared, Equal}
+use Rattle.definition.specs.Noninterference.ReadBack.{shaped, shaped-back}
+use Rattle.definition.specs.Noninterference.Code.{Shows, Showed, showed-equal}
 use Rattle.definition_bytes.specs.Bytes.{onBytes, stateOn, suffices, inner, Narrow, Made, Ran, asWords, inWords, Agree, emptyBytes, ByteRuns}
 use Rattle.definition_bytes.specs.AsWords.{lacking, Is, is}
 
@@ -46,7 +46,7 @@ unfolding flat
 none-below i = omega arith
 
 -- the bytes, as long as they must be, hold well-formed words
-record Holds (s : List ℕ) : Type 0 where
+record Represents (s : List ℕ) : Type 0 where
   long : length s ≡ 38028
   held : Held (wordsOf s)
 
@@ -54,7 +54,7 @@ record Goes (c : Call) (s : List ℕ) (x : Seen) (s′ : List ℕ) : Type 0 wher
   shows : Shows (asWords c) (wordsOf s) (inWords x) (wordsOf s′)
   long : length s′ ≡ 38028
 
-module _ (c : Call) (s b : List ℕ) (n : Numbers) (s′ b′ : List ℕ) (m : Made c s b n s′ b′) (h : Holds s) where
+module _ (c : Call) (s b : List ℕ) (n : Numbers) (s′ b′ : List ℕ) (m : Made c s b n s′ b′) (h : Represents s) where
   w : List ℕ
   w = wordsOf s
 
@@ -110,7 +110,7 @@ module _ (c : Call) (s b : List ℕ) (n : Numbers) (s′ b′ : List ℕ) (m : M
   goes = test-case (suffices c s) goes-yes goes-no
 
 -- ---- a run
-ran-showed : (cs : List Call) (s : List ℕ) (xs : List Seen) (s′ : List ℕ) → Ran cs s xs s′ → Holds s → Showed (map asWords cs) (wordsOf s) (map inWords xs) (wordsOf s′)
+ran-showed : (cs : List Call) (s : List ℕ) (xs : List Seen) (s′ : List ℕ) → Ran cs s xs s′ → Represents s → Showed (map asWords cs) (wordsOf s) (map inWords xs) (wordsOf s′)
 ran-showed cs s xs s′ (Ran.none t) h = Showed.none (wordsOf t)
 ran-showed cs s xs s′ (Ran.next c ds t b x t′ ys t″ m r) h =
     let g = goes c t b (x .numbers) t′ (x .buffer) m h in
@@ -126,7 +126,7 @@ wordsOf-zeros (suc n) = rw (mul-suc 4 n, add-four, wordsOf-zeros n)
 empty-words : wordsOf emptyBytes ≡ emptyWords
 empty-words = wordsOf-zeros 9507
 
-holds-empty : Holds emptyBytes
+holds-empty : Represents emptyBytes
 holds-empty = record { long = length-zeros 38028; held = subst Held (sym empty-words) held-empty }
 
 -- ---- the claim

@@ -12,15 +12,15 @@ use Rattle.definition.specs.Step.{Result, Checks, unlent, changes, changing, ou
 use Rattle.definition.specs.Reference.Addresses.{goes}
 use Rattle.definition.specs.Reference.Removal.{expire}
 use Rattle.definition.specs.Laws.Expire.{expire-quiet}
-use Rattle.definition.specs.Kept.Step.{perform-case, checked-held, leaves-decode}
+use Rattle.definition.specs.Preservation.Step.{perform-case, checked-held, leaves-decode}
 use Rattle.interface4.specs.Stays.{Stays}
 
-limited-stays : (o : Out) (w : List ℕ) → (length (o .told) ≡ 0 → encode (o .state) ≡ w) → outcome (goes o) w .reply .value ≡ 0 → Stays (outcome (goes o) w) w
+limited-stays : (o : Out) (w : List ℕ) → (length (o .emitted) ≡ 0 → encode (o .state) ≡ w) → outcome (goes o) w .reply .value ≡ 0 → Stays (outcome (goes o) w) w
 limited-stays o w q =
     cond-case (λ (r : Result). r .reply .value ≡ 0 → Stays r w) (within (o .peak)) (λ e h. record { words = q h; value = h })
     (λ e h. record { words = refl; value = refl })
 
-module _ (k : Checks) (f : State → Out) (w : List ℕ) (quiet : (st : State) → length (f st .told) ≡ 0 → f st .state ≡ st) where
+module _ (k : Checks) (f : State → Out) (w : List ℕ) (quiet : (st : State) → length (f st .emitted) ≡ 0 → f st .state ≡ st) where
   change-stays : changing k (λ st. goes (f st)) w .reply .value ≡ 0 → Stays (changing k (λ st. goes (f st)) w) w
   change-stays =
       perform-case (λ (r : Result). r .reply .value ≡ 0 → Stays r w) w (record { checks = k; lent = unlent; names = []; action = changes (λ st. st) (λ st. goes (f st)) })

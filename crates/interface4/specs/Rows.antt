@@ -15,10 +15,10 @@ use Rattle.definition.specs.Call.{Reply, refusal, foundRow}
 use Rattle.definition.specs.Step.{lookup4Call, lookup4FlowCall}
 use Rattle.definition.specs.Reference.Lookup as Lookup
 use Rattle.definition.specs.Reference.Lookup.{Flow, lookupIn, lookup4, lookup4Flow}
-use Rattle.definition.specs.Kept.Fit.{fit-state, length-route}
-use Rattle.definition.specs.Kept.Encode.{Good}
-use Rattle.definition.specs.Kept.Numbers.{OfFound, lookup-number}
-use Rattle.definition.specs.Kept.Reading.{FoundIn, lookup-fit}
+use Rattle.definition.specs.Preservation.Fit.{fit-state, length-route}
+use Rattle.definition.specs.Preservation.Encode.{Good}
+use Rattle.definition.specs.Preservation.Numbers.{OfFound, lookup-number}
+use Rattle.definition.specs.Preservation.Reading.{FoundIn, lookup-fit}
 use Rattle.layout.specs.Route.{fitRoute}
 use Rattle.call_read.specs.Numbers.{reads}
 

@@ -12,9 +12,9 @@ use Rattle.lists.specs.Bools.{cond-true, cond-false, test-case}
 use Rattle.definition.specs.Call as Call
 use Rattle.definition.specs.Call.{Call, Numbers, numbers, refusal}
 use Rattle.definition.specs.Step.{Result, alters, semantics, step, upCall, downCall, addV4Call, delV4Call, expireCall, addRoute4Call, delRoute4Call, dump4Call, lookup4Call, lookup4FlowCall, local4Call, source4Call, sourceCall, select4Call}
-use Rattle.definition.specs.Kept.Step.{perform-reads}
-use Rattle.definition.specs.Runs.Public.{Lent}
-use Rattle.definition.specs.Runs.ReadBack.{shaped}
+use Rattle.definition.specs.Preservation.Step.{perform-reads}
+use Rattle.definition.specs.Noninterference.Public.{Lent}
+use Rattle.definition.specs.Noninterference.ReadBack.{shaped}
 use Rattle.endian.specs.Endian.{wordsOf, bytesOf}
 use Rattle.endian.specs.Laws.{Below, words-below, bytes-none}
 use Rattle.call_reply.specs.declared.Reply.{Reply}

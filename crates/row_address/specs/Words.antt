@@ -14,7 +14,7 @@ use Rattle.lists.specs.Bools.{test-case, and-left, and-right, or-case, true-fal
 use Rattle.life.specs.Life.{lowWord, highWord}
 use Rattle.life.specs.Laws.{low-clock, high-clock, clock-words}
 use Rattle.layout.specs.Address.{optional, broadcastPresent, broadcast, fitAddress}
-use Rattle.definition.specs.Kept.Fit.{fields-address, length-address}
+use Rattle.definition.specs.Preservation.Fit.{fields-address, length-address}
 use Rattle.row_address.specs.declared.Optional.{Optional}
 use Rattle.row_address.specs.declared.Optional.the-variants.{Absent, Present}
 use Rattle.row_address.specs.declared.V4.{V4}

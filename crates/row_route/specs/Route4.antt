@@ -21,7 +21,7 @@ use Rattle.kind.specs.Laws.{kind-code, code-kind, isFound, is-kind-found}
 use Rattle.layout.specs.Address.{optional}
 use Rattle.layout.specs.Route as Route
 use Rattle.layout.specs.Route.{fitRoute}
-use Rattle.definition.specs.Kept.Fit.{length-route}
+use Rattle.definition.specs.Preservation.Fit.{length-route}
 use Rattle.row_address.specs.V4.{optionalOf}
 use Rattle.row_address.specs.Words.{markOf, valueOf, mark-again, value-again, optional-again, spells}
 use Rattle.row_route.specs.declared.Route4.{Route4}

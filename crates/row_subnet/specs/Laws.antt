@@ -15,7 +15,7 @@ use Rattle.lists.specs.Place.{placeOf, first-at, nothing-from, something-at}
 use Rattle.lists.specs.Pass.{part, part-fit, laid-rows}
 use Rattle.layout.specs.Address.{local, prefix, secondary, fitAddress}
 use Rattle.definition.specs.Reference.Addresses.{primaryOf}
-use Rattle.definition.specs.Kept.Fit.{fields-address, length-address}
+use Rattle.definition.specs.Preservation.Fit.{fields-address, length-address}
 use Rattle.row_subnet.specs.Brings.{primaryFor}
 
 -- a row that fits has 20 words and a prefix up to 32

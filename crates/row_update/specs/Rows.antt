@@ -16,7 +16,7 @@ use Rattle.layout.specs.Address.{flags, secondaryBit, deprecatedBit}
 use Rattle.layout.specs.Request.{validAsked, preferredAsked}
 use Rattle.row_address.specs.V4.{lifeOf}
 use Rattle.definition.specs.Reference.Addresses.{lifeFlags, rewritten, setLife, asked, asSecondary, changedTo}
-use Rattle.definition.specs.Reference.Removal.{faded}
+use Rattle.definition.specs.Reference.Removal.{deprecate}
 
 -- a row with other flags
 abbrev pub flagged : Row → ℕ → Row
@@ -80,6 +80,6 @@ pub secondary-row : (a : Row) (f : ℕ) → f ≡ setBit secondaryBit (flags a) 
 unfolding asSecondary
 secondary-row a f e = rw e
 
-pub faded-row : (a : Row) (f : ℕ) → f ≡ setBit deprecatedBit (flags a) → flagged a f ≡ faded a
-unfolding faded
-faded-row a f e = rw e
+pub deprecate-row : (a : Row) (f : ℕ) → f ≡ setBit deprecatedBit (flags a) → flagged a f ≡ deprecate a
+unfolding deprecate
+deprecate-row a f e = rw e

@@ -10,7 +10,7 @@ ghost use Rattle.lists.specs.Lists.{put};
 ghost use Rattle.layout.specs.Flags.{clearBit, setBit};
 ghost use Rattle.layout.specs.Address.{secondaryBit, deprecatedBit};
 ghost use Rattle.definition.specs.Reference.Addresses.{rewritten, asked, asSecondary, changedTo};
-ghost use Rattle.definition.specs.Reference.Removal.{faded};
+ghost use Rattle.definition.specs.Reference.Removal.{deprecate};
 ghost use Rattle.row_update.specs.Rows.{flagged, lifetimesOf, begun};
 
 fn as_primary(flags: u32) -> u32
@@ -137,10 +137,10 @@ pub fn as_secondary(a: &[u32], out: &mut [u32])
 }
 
 // The row marked as deprecated.
-pub fn faded(a: &[u32], out: &mut [u32])
+pub fn deprecate(a: &[u32], out: &mut [u32])
     requires { ⌜ length (now a) ≡ 20 ⌝ }
     requires { ⌜ 20 ≤ length (now out) ⌝ }
-    ensures { λ _. ⌜ now (out .exit) ≡ put 0 (faded (now (a .entry))) (now (out .entry)) ⌝ }
+    ensures { λ _. ⌜ now (out .exit) ≡ put 0 (deprecate (now (a .entry))) (now (out .entry)) ⌝ }
 {
     flagged(a, deprecated(a[6]), out);
 }

@@ -10,7 +10,7 @@ use Rattle.lists.specs.Lists.{Row, keep}
 use Rattle.lists.specs.Laid.{Laid, Lays, laid-part}
 use Rattle.lists.specs.Pass.{part, laid-rows, part-width, part-fit}
 use Rattle.layout.specs.Route.{len, fitRoute}
-use Rattle.definition.specs.Kept.Fit.{route-len}
+use Rattle.definition.specs.Preservation.Fit.{route-len}
 use Rattle.definition.specs.Reference.Lookup.{longest}
 use Rattle.rows_lookup.specs.Best.{Best, best-start, best-taken, best-stays, best-end}
 

@@ -16,8 +16,8 @@ use Rattle.lists.specs.Put.{put-whole}
 use Rattle.layout.specs.Address.{secondary, fitAddress}
 use Rattle.layout.specs.Request.{fitAddV4}
 use Rattle.definition.specs.Reference.Addresses.{yields, place4, sameSubnet, asked, asSecondary}
-use Rattle.definition.specs.Kept.Fit.{length-address}
-use Rattle.definition.specs.Kept.Rows.{asked-fit, asSecondary-fit}
+use Rattle.definition.specs.Preservation.Fit.{length-address}
+use Rattle.definition.specs.Preservation.Rows.{asked-fit, asSecondary-fit}
 use Rattle.rows_place.specs.Behind.{behindOf, behind-le, behind-at, behind-more}
 
 -- ---- the place

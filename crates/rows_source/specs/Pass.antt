@@ -13,7 +13,7 @@ use Rattle.lists.specs.Lists.{Row, first}
 use Rattle.lists.specs.Bools.{test-case, and-left, and-right, and-rest}
 use Rattle.lists.specs.Laid.{Laid, Lays, laid-part, laid-word}
 use Rattle.layout.specs.Address.{prefix, local, fitAddress}
-use Rattle.definition.specs.Kept.Fit.{fields-address}
+use Rattle.definition.specs.Preservation.Fit.{fields-address}
 use Rattle.definition.specs.Reference.Source.{eligible, reaches, select4, localOf, orElse}
 use Rattle.lists.specs.Place.{nothing-from, something-at}
 use Rattle.lists.specs.Pass.{part, laid-rows, part-width, part-fit}
@@ -37,15 +37,15 @@ module _ (w : List ℕ) (n : ℕ) (long : length w ≡ 20 * n) where
     abbrev both : Row → Bool
     both a = eligible scope a && reaches dst a
 
-    abbrev pub Sofar : ℕ → ℕ → Type 0
-    Sofar i kept = Kept both (eligible scope) l i kept
+    abbrev pub LoopInvariant : ℕ → ℕ → Type 0
+    LoopInvariant i kept = Kept both (eligible scope) l i kept
 
-    pub select-start : Sofar 0 n
+    pub select-start : LoopInvariant 0 n
     select-start =
         let past : getElem? l n ≡ none = nothing-from l n (omega (arith, laid-rows w n (lit< tt) long l h)) in
         record { clear = refl; held = rw past refl }
 
-    module _ (i kept : ℕ) (b : i < n) (sofar : Sofar i kept) (fit near : Bool) (ef : fit ≡ eligible scope (part 20 w i)) (en : near ≡ reaches dst (part 20 w i)) where
+    module _ (i kept : ℕ) (b : i < n) (sofar : LoopInvariant i kept) (fit near : Bool) (ef : fit ≡ eligible scope (part 20 w i)) (en : near ≡ reaches dst (part 20 w i)) where
       here : i < length l
       here = omega (arith, laid-rows w n (lit< tt) long l h)
 
@@ -63,7 +63,7 @@ module _ (w : List ℕ) (n : ℕ) (long : length w ≡ 20 * n) where
             let t : both (getD l i []) ≡ false = rw (ef, en, laid-part h i here) at far in
             sofar .clear ∙ rw (first-next l i [] here both, t)
 
-        pub select-kept : (fit && eqb kept n) ≡ true → Sofar (i + 1) i
+        pub select-kept : (fit && eqb kept n) ≡ true → LoopInvariant (i + 1) i
         select-kept e =
             let t : eligible scope (getD l i []) ≡ true = rw (ef, laid-part h i here) at (and-left fit (eqb kept n) e) in
             let none-yet : getElem? l kept ≡ none =
@@ -72,7 +72,7 @@ module _ (w : List ℕ) (n : ℕ) (long : length w ≡ 20 * n) where
             let it : first (eligible scope) l ≡ some (getD l i []) = sofar .held ∙ rw (none-yet, first-next l i [] here (eligible scope), t) in
             record { clear = far-on; held = it ∙ rw (something-at l i [] here) refl }
 
-        pub select-stays : kept ≤ n → (fit && eqb kept n) ≡ false → Sofar (i + 1) kept
+        pub select-stays : kept ≤ n → (fit && eqb kept n) ≡ false → LoopInvariant (i + 1) kept
         select-stays k e =
             record {
               clear = far-on;
@@ -87,7 +87,7 @@ module _ (w : List ℕ) (n : ℕ) (long : length w ≡ 20 * n) where
                   sofar .held ∙ rw (first-next l i [] here (eligible scope), t′));
             }
 
-    module _ (i kept : ℕ) (b : n ≤ i) (sofar : Sofar i kept) where
+    module _ (i kept : ℕ) (b : n ≤ i) (sofar : LoopInvariant i kept) where
       over : select4 l dst scope ≡ localOf (getElem? l kept)
       unfolding select4
       over =

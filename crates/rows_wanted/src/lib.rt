@@ -8,7 +8,7 @@ ghost use Rattle.lists.specs.Lists.{Row, any};
 ghost use Rattle.lists.specs.Laid.{Laid, Lays};
 ghost use Rattle.layout.specs.Address.{prefix, fitAddress};
 ghost use Rattle.layout.specs.Route.{dst, len, kind, fitRoute};
-ghost use Rattle.definition.specs.Reference.Removal.{wanted, straysFrom};
+ghost use Rattle.definition.specs.Reference.Removal.{wanted, dependentOn};
 ghost use Rattle.rows_wanted.specs.Wants.{wantsLocal, wantsBroadcast, wants};
 
 // Whether a wants a local route: to its own address or to its network. Most addresses have another length, so that is asked first.
@@ -77,23 +77,23 @@ pub fn wanted(addresses: &[u32], n: usize, r: &[u32]) -> bool
 }
 
 // Whether a row of table 254 has ip as its preferred source.
-pub fn strays_from(r: &[u32], ip: u32) -> bool
+pub fn dependents_from(r: &[u32], ip: u32) -> bool
     requires { ⌜ length (now r) ≡ 32 ⌝ }
-    ensures { λ b. ⌜ b ≡ straysFrom ip (now (r .entry)) ⌝ }
+    ensures { λ b. ⌜ b ≡ dependentOn ip (now (r .entry)) ⌝ }
 {
     (r[0] == layout::TABLE_MAIN) & (r[8] == 1) & (r[9] == ip)
 }
 
 // Whether such a row is there.
-pub fn strays(rows: &[u32], n: usize, ip: u32) -> bool
+pub fn dependents(rows: &[u32], n: usize, ip: u32) -> bool
     requires { ⌜ (length (now rows) ≡ 32 * n) × Lays 32 fitRoute (now rows) ⌝ }
-    ensures { λ b. ⌜ ((l : List Row) → Laid 32 fitRoute (now (rows .entry)) l → b ≡ any (straysFrom ip) l) ⌝ }
+    ensures { λ b. ⌜ ((l : List Row) → Laid 32 fitRoute (now (rows .entry)) l → b ≡ any (dependentOn ip) l) ⌝ }
 {
     let mut i = 0usize;
     while i < n {
         let at = 32 * i;
         let r = &rows[at..at + 32];
-        if strays_from(r, ip) {
+        if dependents_from(r, ip) {
             return true;
         }
         i += 1;

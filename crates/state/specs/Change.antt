@@ -15,13 +15,13 @@ use Rattle.layout.specs.Address.{fitAddress}
 use Rattle.layout.specs.Route.{fitRoute}
 use Rattle.definition.specs.State.{State, withAddresses, withRoutes, withTables}
 use Rattle.definition.specs.Words.{encode, addressCount, routeCount, tableCount}
-use Rattle.definition.specs.Kept.Fit.{length-address, length-route, sized-routes}
-use Rattle.state.specs.Holds.{Holds, counts, beforeRoutes, beforeTables, behindAddresses, encode-addresses, encode-routes, encode-tables, sizedA, sizedR, atRoutes, atTables, count-addresses, count-routes, count-tables, holds-long}
+use Rattle.definition.specs.Preservation.Fit.{length-address, length-route, sized-routes}
+use Rattle.state.specs.Represents.{Represents, counts, beforeRoutes, beforeTables, behindAddresses, encode-addresses, encode-routes, encode-tables, sizedA, sizedR, atRoutes, atTables, count-addresses, count-routes, count-tables, holds-long}
 
-module _ {w : List ℕ} {st : State} (h : Holds w st) where
+module _ {w : List ℕ} {st : State} (h : Represents w st) where
   -- ---- a list becomes another, with its count
   pub addresses-become : (rows : List Row) (x : List ℕ) → length rows ≤ 64 → all fitAddress rows ≡ true
-      → x ≡ counts st ++ (pad 1280 (flat rows) ++ behindAddresses st) → Holds (set x 0 (length rows)) (withAddresses rows st)
+      → x ≡ counts st ++ (pad 1280 (flat rows) ++ behindAddresses st) → Represents (set x 0 (length rows)) (withAddresses rows st)
   unfolding encode
   addresses-become rows x l f e =
       record {
@@ -34,7 +34,7 @@ module _ {w : List ℕ} {st : State} (h : Holds w st) where
       }
 
   pub routes-become : (rows : List Row) (x : List ℕ) → length rows ≤ 256 → all fitRoute rows ≡ true
-      → x ≡ beforeRoutes st ++ (pad 8192 (flat rows) ++ pad 32 (st .tables)) → Holds (set x 1 (length rows)) (withRoutes rows st)
+      → x ≡ beforeRoutes st ++ (pad 8192 (flat rows) ++ pad 32 (st .tables)) → Represents (set x 1 (length rows)) (withRoutes rows st)
   unfolding encode
   routes-become rows x l f e =
       record {
@@ -72,7 +72,7 @@ module _ {w : List ℕ} {st : State} (h : Holds w st) where
   -- ---- addresses
   module _ (i : ℕ) where
     pub insert-address : (r : Row) → i ≤ length (st .addresses) → length (st .addresses) < 64 → fitAddress r ≡ true
-        → Holds (set (put (3 + 20 * i) (r ++ span (3 + 20 * i) (20 * (addressCount w - i)) w) w) 0 (addressCount w + 1)) (withAddresses (insertAt i r (st .addresses)) st)
+        → Represents (set (put (3 + 20 * i) (r ++ span (3 + 20 * i) (20 * (addressCount w - i)) w) w) 0 (addressCount w + 1)) (withAddresses (insertAt i r (st .addresses)) st)
     insert-address r k room f =
         let rows = insertAt i r (st .addresses) in
         let long : length rows ≡ length (st .addresses) + 1 = length-insertAt i r (st .addresses) k in
@@ -84,7 +84,7 @@ module _ {w : List ℕ} {st : State} (h : Holds w st) where
         ∙ row-insert (counts st) (behindAddresses st) 1280 3 20 (st .addresses) refl (sizedA h) roomA i (addressCount w - i) r m (length-address r f) (omega arith)))
 
     pub remove-address : i < length (st .addresses)
-        → Holds (set (put (3 + 20 * i) (span (3 + 20 * i + 20) (20 * (addressCount w - 1 - i)) w ++ zeros 20) w) 0 (addressCount w - 1)) (withAddresses (removeAt i (st .addresses)) st)
+        → Represents (set (put (3 + 20 * i) (span (3 + 20 * i + 20) (20 * (addressCount w - 1 - i)) w ++ zeros 20) w) 0 (addressCount w - 1)) (withAddresses (removeAt i (st .addresses)) st)
     remove-address k =
         let rows = removeAt i (st .addresses) in
         let long : length rows ≡ length (st .addresses) - 1 = length-removeAt i (st .addresses) k in
@@ -95,7 +95,7 @@ module _ {w : List ℕ} {st : State} (h : Holds w st) where
         (ap (λ (x : List ℕ). put (3 + 20 * i) (span (3 + 20 * i + 20) (20 * (length rows - i)) x ++ zeros 20) x) (h .words ∙ encode-addresses st)
         ∙ row-remove (counts st) (behindAddresses st) 1280 3 20 (st .addresses) refl (sizedA h) roomA i (length rows - i) m))
 
-    pub replace-address : (r : Row) → i < length (st .addresses) → fitAddress r ≡ true → Holds (put (3 + 20 * i) r w) (withAddresses (set (st .addresses) i r) st)
+    pub replace-address : (r : Row) → i < length (st .addresses) → fitAddress r ≡ true → Represents (put (3 + 20 * i) r w) (withAddresses (set (st .addresses) i r) st)
     unfolding encode
     replace-address r k f =
         let rows = set (st .addresses) i r in
@@ -114,7 +114,7 @@ module _ {w : List ℕ} {st : State} (h : Holds w st) where
 
     -- ---- routes
     pub insert-route : (r : Row) → i ≤ length (st .routes) → length (st .routes) < 256 → fitRoute r ≡ true
-        → Holds (set (put (1283 + 32 * i) (r ++ span (1283 + 32 * i) (32 * (routeCount w - i)) w) w) 1 (routeCount w + 1)) (withRoutes (insertAt i r (st .routes)) st)
+        → Represents (set (put (1283 + 32 * i) (r ++ span (1283 + 32 * i) (32 * (routeCount w - i)) w) w) 1 (routeCount w + 1)) (withRoutes (insertAt i r (st .routes)) st)
     insert-route r k room f =
         let rows = insertAt i r (st .routes) in
         let long : length rows ≡ length (st .routes) + 1 = length-insertAt i r (st .routes) k in
@@ -126,7 +126,7 @@ module _ {w : List ℕ} {st : State} (h : Holds w st) where
         ∙ row-insert (beforeRoutes st) (pad 32 (st .tables)) 8192 1283 32 (st .routes) (atRoutes h) (sizedR h) roomR i (routeCount w - i) r m (length-route r f) (omega arith)))
 
     pub remove-route : i < length (st .routes)
-        → Holds (set (put (1283 + 32 * i) (span (1283 + 32 * i + 32) (32 * (routeCount w - 1 - i)) w ++ zeros 32) w) 1 (routeCount w - 1)) (withRoutes (removeAt i (st .routes)) st)
+        → Represents (set (put (1283 + 32 * i) (span (1283 + 32 * i + 32) (32 * (routeCount w - 1 - i)) w ++ zeros 32) w) 1 (routeCount w - 1)) (withRoutes (removeAt i (st .routes)) st)
     remove-route k =
         let rows = removeAt i (st .routes) in
         let long : length rows ≡ length (st .routes) - 1 = length-removeAt i (st .routes) k in
@@ -137,7 +137,7 @@ module _ {w : List ℕ} {st : State} (h : Holds w st) where
         (ap (λ (x : List ℕ). put (1283 + 32 * i) (span (1283 + 32 * i + 32) (32 * (length rows - i)) x ++ zeros 32) x) (h .words ∙ encode-routes st)
         ∙ row-remove (beforeRoutes st) (pad 32 (st .tables)) 8192 1283 32 (st .routes) (atRoutes h) (sizedR h) roomR i (length rows - i) m))
 
-    pub replace-route : (r : Row) → i < length (st .routes) → fitRoute r ≡ true → Holds (put (1283 + 32 * i) r w) (withRoutes (set (st .routes) i r) st)
+    pub replace-route : (r : Row) → i < length (st .routes) → fitRoute r ≡ true → Represents (put (1283 + 32 * i) r w) (withRoutes (set (st .routes) i r) st)
     unfolding encode
     replace-route r k f =
         let rows = set (st .routes) i r in
@@ -156,7 +156,7 @@ module _ {w : List ℕ} {st : State} (h : Holds w st) where
 
   -- ---- only some routes, and zeros for the n others
   pub retain-routes : (q : Row → Bool) (n : ℕ) → length (keep q (st .routes)) + n ≡ length (st .routes)
-      → Holds (set (put 1283 (flat (keep q (st .routes)) ++ zeros (32 * n)) w) 1 (length (keep q (st .routes)))) (withRoutes (keep q (st .routes)) st)
+      → Represents (set (put 1283 (flat (keep q (st .routes)) ++ zeros (32 * n)) w) 1 (length (keep q (st .routes)))) (withRoutes (keep q (st .routes)) st)
   retain-routes q n e =
       let rows = keep q (st .routes) in
       let f : all fitRoute rows ≡ true = all-keep fitRoute q (st .routes) (h .routesFit) in
@@ -173,7 +173,7 @@ module _ {w : List ℕ} {st : State} (h : Holds w st) where
 
   -- one more at the end
   pub append-table : (t : ℕ) → length (st .tables) < 32
-      → Holds (set (set w (9475 + tableCount w) t) 2 (tableCount w + 1)) (withTables (st .tables ++ (t ∷ [])) st)
+      → Represents (set (set w (9475 + tableCount w) t) 2 (tableCount w + 1)) (withTables (st .tables ++ (t ∷ [])) st)
   unfolding encode
   append-table t room =
       let long : length (st .tables ++ (t ∷ [])) ≡ tableCount w + 1 = length-append (st .tables) (t ∷ []) ∙ omega (arith, count-tables h) in

@@ -9,7 +9,7 @@ ghost use Rattle.layout.specs.Address.{fitAddress};
 ghost use Rattle.layout.specs.Route.{fitRoute};
 ghost use Rattle.definition.specs.State.{State, withAddresses, withRoutes};
 ghost use Rattle.definition.specs.Words.{addressCount, routeCount};
-ghost use Rattle.state.specs.Holds.{Holds, Valid};
+ghost use Rattle.state.specs.Represents.{Represents, Valid};
 
 // A count as a place.
 pub fn wide(n: u32) -> usize
@@ -37,7 +37,7 @@ pub fn insert_address(s: &mut [u32], i: usize, row: &[u32])
     requires { ⌜ Valid (now s) ⌝ }
     requires { ⌜ (i ≤ addressCount (now s)) × (addressCount (now s) < 64) ⌝ }
     requires { ⌜ fitAddress (now row) ≡ true ⌝ }
-    ensures { λ _. ⌜ ((st : State) → Holds (now (s .entry)) st → Holds (now (s .exit)) (withAddresses (insertAt i (now (row .entry)) (st .addresses)) st)) ⌝ }
+    ensures { λ _. ⌜ ((st : State) → Represents (now (s .entry)) st → Represents (now (s .exit)) (withAddresses (insertAt i (now (row .entry)) (st .addresses)) st)) ⌝ }
 {
     let n = s[0];
     words::insert(s, 3 + 20 * i, 20 * (wide(n) - i), row);
@@ -48,7 +48,7 @@ pub fn insert_address(s: &mut [u32], i: usize, row: &[u32])
 pub fn remove_address(s: &mut [u32], i: usize)
     requires { ⌜ Valid (now s) ⌝ }
     requires { ⌜ i < addressCount (now s) ⌝ }
-    ensures { λ _. ⌜ ((st : State) → Holds (now (s .entry)) st → Holds (now (s .exit)) (withAddresses (removeAt i (st .addresses)) st)) ⌝ }
+    ensures { λ _. ⌜ ((st : State) → Represents (now (s .entry)) st → Represents (now (s .exit)) (withAddresses (removeAt i (st .addresses)) st)) ⌝ }
 {
     let n = s[0] - 1;
     words::remove(s, 3 + 20 * i, 20, 20 * (wide(n) - i));
@@ -60,7 +60,7 @@ pub fn replace_address(s: &mut [u32], i: usize, row: &[u32])
     requires { ⌜ Valid (now s) ⌝ }
     requires { ⌜ i < addressCount (now s) ⌝ }
     requires { ⌜ fitAddress (now row) ≡ true ⌝ }
-    ensures { λ _. ⌜ ((st : State) → Holds (now (s .entry)) st → Holds (now (s .exit)) (withAddresses (set (st .addresses) i (now (row .entry))) st)) ⌝ }
+    ensures { λ _. ⌜ ((st : State) → Represents (now (s .entry)) st → Represents (now (s .exit)) (withAddresses (set (st .addresses) i (now (row .entry))) st)) ⌝ }
 {
     words::store(s, 3 + 20 * i, row);
 }
@@ -69,7 +69,7 @@ pub fn insert_route(s: &mut [u32], i: usize, row: &[u32])
     requires { ⌜ Valid (now s) ⌝ }
     requires { ⌜ (i ≤ routeCount (now s)) × (routeCount (now s) < 256) ⌝ }
     requires { ⌜ fitRoute (now row) ≡ true ⌝ }
-    ensures { λ _. ⌜ ((st : State) → Holds (now (s .entry)) st → Holds (now (s .exit)) (withRoutes (insertAt i (now (row .entry)) (st .routes)) st)) ⌝ }
+    ensures { λ _. ⌜ ((st : State) → Represents (now (s .entry)) st → Represents (now (s .exit)) (withRoutes (insertAt i (now (row .entry)) (st .routes)) st)) ⌝ }
 {
     let n = s[1];
     words::insert(s, 1283 + 32 * i, 32 * (wide(n) - i), row);
@@ -79,7 +79,7 @@ pub fn insert_route(s: &mut [u32], i: usize, row: &[u32])
 pub fn remove_route(s: &mut [u32], i: usize)
     requires { ⌜ Valid (now s) ⌝ }
     requires { ⌜ i < routeCount (now s) ⌝ }
-    ensures { λ _. ⌜ ((st : State) → Holds (now (s .entry)) st → Holds (now (s .exit)) (withRoutes (removeAt i (st .routes)) st)) ⌝ }
+    ensures { λ _. ⌜ ((st : State) → Represents (now (s .entry)) st → Represents (now (s .exit)) (withRoutes (removeAt i (st .routes)) st)) ⌝ }
 {
     let n = s[1] - 1;
     words::remove(s, 1283 + 32 * i, 32, 32 * (wide(n) - i));
@@ -90,7 +90,7 @@ pub fn replace_route(s: &mut [u32], i: usize, row: &[u32])
     requires { ⌜ Valid (now s) ⌝ }
     requires { ⌜ i < routeCount (now s) ⌝ }
     requires { ⌜ fitRoute (now row) ≡ true ⌝ }
-    ensures { λ _. ⌜ ((st : State) → Holds (now (s .entry)) st → Holds (now (s .exit)) (withRoutes (set (st .routes) i (now (row .entry))) st)) ⌝ }
+    ensures { λ _. ⌜ ((st : State) → Represents (now (s .entry)) st → Represents (now (s .exit)) (withRoutes (set (st .routes) i (now (row .entry))) st)) ⌝ }
 {
     words::store(s, 1283 + 32 * i, row);
 }

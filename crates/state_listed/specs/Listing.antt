@@ -11,9 +11,9 @@ use Rattle.lists.specs.Laid.{Lays}
 use Rattle.layout.specs.Route.{fitRoute}
 use Rattle.definition.specs.Words.{decode, wellFormed, routeCount, tableCount, noneTwice}
 use Rattle.definition.specs.Reference.Source.{dump4}
-use Rattle.definition.specs.Kept.Encode.{good-decode}
-use Rattle.definition.specs.Kept.Fit.{fit-state}
-use Rattle.state.specs.Holds.{Valid, holds-decode, sizes-valid}
+use Rattle.definition.specs.Preservation.Encode.{good-decode}
+use Rattle.definition.specs.Preservation.Fit.{fit-state}
+use Rattle.state.specs.Represents.{Valid, holds-decode, sizes-valid}
 use Rattle.state.specs.Change.{tables-at}
 use Rattle.state_tables.specs.Listed.{tablesOf}
 use Rattle.state_read.specs.Parts.{routePart, ready-routes}

@@ -13,7 +13,7 @@ use Rattle.layout.specs.Route.{fitRoute}
 use Rattle.definition.specs.State.{State}
 use Rattle.definition.specs.Words.{addressCount, routeCount}
 use Rattle.definition.specs.Reference.Lookup.{listed}
-use Rattle.state.specs.Holds.{Holds, Valid, counts, behindAddresses, beforeRoutes, encode-addresses, encode-routes, sizedA, sizedR, atRoutes, count-addresses, count-routes, sizes-valid}
+use Rattle.state.specs.Represents.{Represents, Valid, counts, behindAddresses, beforeRoutes, encode-addresses, encode-routes, sizedA, sizedR, atRoutes, count-addresses, count-routes, sizes-valid}
 use Rattle.state.specs.Change.{tables-at}
 use Rattle.state_tables.specs.Listed.{tablesOf}
 
@@ -32,7 +32,7 @@ part-at before flats rest at size n p q =
     rw (whole, drop-at before (pad size flats ++ rest) at p)
     (ap (take n) (append-assoc flats (zeros (size - length flats)) rest) ∙ take-at flats (zeros (size - length flats) ++ rest) n q)
 
-module _ {w : List ℕ} {st : State} (h : Holds w st) where
+module _ {w : List ℕ} {st : State} (h : Represents w st) where
   pub laid-addresses : Laid 20 fitAddress (addressPart w) (st .addresses)
   laid-addresses =
       let long : length (flat (st .addresses)) ≡ 20 * addressCount w = length-flat 20 (st .addresses) (sizedA h) ∙ ap (λ (n : ℕ). 20 * n) (sym (count-addresses h)) in
@@ -91,8 +91,8 @@ ready-addresses p n v e f =
     (ap length e ∙ length-addresses v ∙ ap (λ (k : ℕ). 20 * k) (sym f), subst (Lays 20 fitAddress) (sym e) (lays-addresses v))
 
 -- and what it then says of the state
-pub of-routes : {w : List ℕ} {st : State} (p : List ℕ) → Holds w st → p ≡ routePart w → Laid 32 fitRoute p (st .routes)
+pub of-routes : {w : List ℕ} {st : State} (p : List ℕ) → Represents w st → p ≡ routePart w → Laid 32 fitRoute p (st .routes)
 of-routes {st = st} p h e = subst (λ (x : List ℕ). Laid 32 fitRoute x (st .routes)) (sym e) (laid-routes h)
 
-pub of-addresses : {w : List ℕ} {st : State} (p : List ℕ) → Holds w st → p ≡ addressPart w → Laid 20 fitAddress p (st .addresses)
+pub of-addresses : {w : List ℕ} {st : State} (p : List ℕ) → Represents w st → p ≡ addressPart w → Laid 20 fitAddress p (st .addresses)
 of-addresses {st = st} p h e = subst (λ (x : List ℕ). Laid 20 fitAddress x (st .addresses)) (sym e) (laid-addresses h)

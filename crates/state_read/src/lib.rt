@@ -12,7 +12,7 @@ ghost use Rattle.definition.specs.Words.{routeCount};
 ghost use Rattle.rows_source.specs.Selected.{localIn, wanted};
 ghost use Rattle.definition.specs.Reference.Lookup.{lookupIn, local4};
 ghost use Rattle.definition.specs.Reference.Source.{select4, source4, source};
-ghost use Rattle.state.specs.Holds.{Holds, Valid};
+ghost use Rattle.state.specs.Represents.{Represents, Valid};
 ghost use Rattle.state_read.specs.Parts.{addressPart, routePart};
 
 // The words of the routes in use.
@@ -38,7 +38,7 @@ pub fn addresses(s: &[u32]) -> &[u32]
 // The route of a flow.
 pub fn lookup4_in(s: &[u32], f: Flow) -> Looked
     requires { ⌜ Valid (now s) ⌝ }
-    ensures { λ r. ⌜ placed (routeCount (now (s .entry))) r × ((st : State) → Holds (now (s .entry)) st → foundBy (st .routes) r ≡ lookupIn st (flowOf f)) ⌝ }
+    ensures { λ r. ⌜ placed (routeCount (now (s .entry))) r × ((st : State) → Represents (now (s .entry)) st → foundBy (st .routes) r ≡ lookupIn st (flowOf f)) ⌝ }
 {
     let listed = state_tables::listed(s, layout::TABLE_DEFAULT);
     rows_lookup::lookup4_in(routes(s), state::route_count(s), listed, f)
@@ -47,7 +47,7 @@ pub fn lookup4_in(s: &[u32], f: Flow) -> Looked
 // Whether an address is the loopback's.
 pub fn local4(s: &[u32], ip: u32) -> bool
     requires { ⌜ Valid (now s) ⌝ }
-    ensures { λ r. ⌜ ((st : State) → Holds (now (s .entry)) st → r ≡ local4 st ip) ⌝ }
+    ensures { λ r. ⌜ ((st : State) → Represents (now (s .entry)) st → r ≡ local4 st ip) ⌝ }
 {
     let listed = state_tables::listed(s, layout::TABLE_LOCAL);
     rows_lookup::local4(routes(s), state::route_count(s), listed, ip)
@@ -56,7 +56,7 @@ pub fn local4(s: &[u32], ip: u32) -> bool
 // The address chosen for a destination (any where it isn't present) and a scope.
 pub fn select4(s: &[u32], dst_present: bool, dst: u32, scope: u32) -> Selected
     requires { ⌜ Valid (now s) ⌝ }
-    ensures { λ r. ⌜ ((st : State) → Holds (now (s .entry)) st → localIn r ≡ select4 (st .addresses) (wanted «dst_present» dst) scope) ⌝ }
+    ensures { λ r. ⌜ ((st : State) → Represents (now (s .entry)) st → localIn r ≡ select4 (st .addresses) (wanted «dst_present» dst) scope) ⌝ }
 {
     rows_source::select4(
         addresses(s),
@@ -70,7 +70,7 @@ pub fn select4(s: &[u32], dst_present: bool, dst: u32, scope: u32) -> Selected
 // The source for a route's row and a destination.
 pub fn source4(s: &[u32], row: &[u32], ip: u32) -> Selected
     requires { ⌜ Valid (now s) × (length (now row) ≡ 32) ⌝ }
-    ensures { λ r. ⌜ ((st : State) → Holds (now (s .entry)) st → localIn r ≡ source4 (st .addresses) (now (row .entry)) ip) ⌝ }
+    ensures { λ r. ⌜ ((st : State) → Represents (now (s .entry)) st → localIn r ≡ source4 (st .addresses) (now (row .entry)) ip) ⌝ }
 {
     rows_source::source4(addresses(s), state::address_count(s), row, ip)
 }
@@ -78,7 +78,7 @@ pub fn source4(s: &[u32], row: &[u32], ip: u32) -> Selected
 // The source for a destination.
 pub fn source(s: &[u32], ip: u32) -> u32
     requires { ⌜ Valid (now s) ⌝ }
-    ensures { λ r. ⌜ ((st : State) → Holds (now (s .entry)) st → r ≡ source st ip) ⌝ }
+    ensures { λ r. ⌜ ((st : State) → Represents (now (s .entry)) st → r ≡ source st ip) ⌝ }
 {
     let listed = state_tables::listed(s, layout::TABLE_DEFAULT);
     rows_source::source(

@@ -24,7 +24,7 @@ use Rattle.definition.specs.State.{State, withRoutes}
 use Rattle.definition.specs.Words.{routeCount}
 use Rattle.definition.specs.Reference.Addresses.{down}
 use Rattle.definition.specs.Reference.Removal.{disable}
-use Rattle.state.specs.Holds.{Holds, beforeRoutes, encode-routes, sizedR, atRoutes, count-routes, holds-long}
+use Rattle.state.specs.Represents.{Represents, beforeRoutes, encode-routes, sizedR, atRoutes, count-routes, holds-long}
 use Rattle.state.specs.Change.{retain-routes}
 
 -- a route remains that is not through the device; with host, one of host scope remains too
@@ -92,7 +92,7 @@ module _ (p : Row → Bool) (base k : ℕ) (w : List ℕ) (i : ℕ) (h : base + 
   step-count = then (p row) refl .1 ∙ ap (λ (x : List Row). length x) (sym (keep-next p base k w i))
 
 -- ---- the routes
-pub routes-of : {w : List ℕ} {st : State} → Holds w st → rowsOf 1283 32 w (routeCount w) ≡ st .routes
+pub routes-of : {w : List ℕ} {st : State} → Represents w st → rowsOf 1283 32 w (routeCount w) ≡ st .routes
 routes-of {w} {st} h =
     let there : drop 1283 w ≡ pad 8192 (flat (st .routes)) ++ pad 32 (st .tables) =
     ap (drop 1283) (h .words ∙ encode-routes st) ∙ drop-at (beforeRoutes st) (pad 8192 (flat (st .routes)) ++ pad 32 (st .tables)) 1283 (atRoutes h)
@@ -100,8 +100,8 @@ routes-of {w} {st} h =
     rw (count-routes h, there) (chop-pad 8192 32 (st .routes) (pad 32 (st .tables)) (sizedR h))
 
 -- the rows that remain, zeros for the others, and their count
-pub retained : {w : List ℕ} {st : State} (p : Row → Bool) → Holds w st
-    → Holds (set (put (1283 + 32 * length (keep p (rowsOf 1283 32 w (routeCount w)))) (zeros (32 * (routeCount w - length (keep p (rowsOf 1283 32 w (routeCount w)))))) (put 1283 (flat (keep p (rowsOf 1283 32 w (routeCount w)))) w)) 1 (length (keep p (rowsOf 1283 32 w (routeCount w)))))
+pub retained : {w : List ℕ} {st : State} (p : Row → Bool) → Represents w st
+    → Represents (set (put (1283 + 32 * length (keep p (rowsOf 1283 32 w (routeCount w)))) (zeros (32 * (routeCount w - length (keep p (rowsOf 1283 32 w (routeCount w)))))) (put 1283 (flat (keep p (rowsOf 1283 32 w (routeCount w)))) w)) 1 (length (keep p (rowsOf 1283 32 w (routeCount w)))))
     (withRoutes (keep p (st .routes)) st)
 retained {w} {st} p h =
     let rows = keep p (st .routes) in
@@ -203,5 +203,5 @@ module _ {p : Row → Bool} {w : List ℕ} {i j : ℕ} {s : List ℕ} (k : Keepi
       }
 
   -- zeros behind them, and their count
-  pub keeping-end : {st : State} → Holds w st → i ≡ routeCount w → Holds (set (put (1283 + 32 * j) (zeros (32 * (i - j))) s) 1 j) (withRoutes (keep p (st .routes)) st)
+  pub keeping-end : {st : State} → Represents w st → i ≡ routeCount w → Represents (set (put (1283 + 32 * j) (zeros (32 * (i - j))) s) 1 j) (withRoutes (keep p (st .routes)) st)
   keeping-end h e = rw (k .words, k .count, e) (retained p h)

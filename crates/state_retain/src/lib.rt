@@ -6,7 +6,7 @@ ghost use Rattle.lists.specs.Lists.{put, span, keep, zeros};
 ghost use Rattle.definition.specs.State.{State, withRoutes};
 ghost use Rattle.definition.specs.Reference.Addresses.{down};
 ghost use Rattle.definition.specs.Reference.Removal.{disable};
-ghost use Rattle.state.specs.Holds.{Holds, Valid};
+ghost use Rattle.state.specs.Represents.{Represents, Valid};
 ghost use Rattle.state_retain.specs.Retain.{Turned, remains};
 
 // Whether a route remains: all do that are not through the device, and with host those of host scope too.
@@ -68,7 +68,7 @@ fn turn(s: &mut [u32], i: usize, j: usize, host: bool) -> usize
 // The routes that remain.
 fn retain(s: &mut [u32], host: bool)
     requires { ⌜ Valid (now s) ⌝ }
-    ensures { λ _. ⌜ ((st : State) → Holds (now (s .entry)) st → Holds (now (s .exit)) (withRoutes (keep (remains host) (st .routes)) st)) ⌝ }
+    ensures { λ _. ⌜ ((st : State) → Represents (now (s .entry)) st → Represents (now (s .exit)) (withRoutes (keep (remains host) (st .routes)) st)) ⌝ }
 {
     let n = state::wide(s[1]);
     let mut j = 0usize;
@@ -83,7 +83,7 @@ fn retain(s: &mut [u32], host: bool)
 // The device goes down: its routes go, but for those of host scope.
 pub fn down(s: &mut [u32])
     requires { ⌜ Valid (now s) ⌝ }
-    ensures { λ _. ⌜ ((st : State) → Holds (now (s .entry)) st → Holds (now (s .exit)) ((down st) .state)) ⌝ }
+    ensures { λ _. ⌜ ((st : State) → Represents (now (s .entry)) st → Represents (now (s .exit)) ((down st) .state)) ⌝ }
 {
     retain(s, true);
 }
@@ -91,7 +91,7 @@ pub fn down(s: &mut [u32])
 // With the last address the device's routes go.
 pub fn disable(s: &mut [u32])
     requires { ⌜ Valid (now s) ⌝ }
-    ensures { λ _. ⌜ ((st : State) → Holds (now (s .entry)) st → Holds (now (s .exit)) ((disable st) .state)) ⌝ }
+    ensures { λ _. ⌜ ((st : State) → Represents (now (s .entry)) st → Represents (now (s .exit)) ((disable st) .state)) ⌝ }
 {
     if s[0] == 0 {
         retain(s, false);

@@ -12,22 +12,22 @@ use Rattle.lists.specs.Split.{among-more}
 use Rattle.definition.specs.State.{State, withTables}
 use Rattle.definition.specs.Words.{tableCount}
 use Rattle.definition.specs.Reference.Insert.{addTable, listTable, create4}
-use Rattle.state.specs.Holds.{Holds, Valid, count-tables, sizes-valid}
+use Rattle.state.specs.Represents.{Represents, Valid, count-tables, sizes-valid}
 use Rattle.state.specs.Change.{tables-at, append-table}
 
 -- the tables that the words list
 abbrev pub tablesOf : List ℕ → List ℕ
 tablesOf w = span 9475 (tableCount w) w
 
-module _ {w : List ℕ} {st : State} (h : Holds w st) (t : ℕ) where
+module _ {w : List ℕ} {st : State} (h : Represents w st) (t : ℕ) where
   -- a table that is listed already, and one that is not
-  pub add-there : among t (tablesOf w) ≡ true → Holds w (withTables (addTable t (st .tables)) st)
+  pub add-there : among t (tablesOf w) ≡ true → Represents w (withTables (addTable t (st .tables)) st)
   add-there e =
       let f : among t (st .tables) ≡ true = ap (among t) (sym (tables-at h)) ∙ e in
       rw f h
 
   pub add-new : among t (tablesOf w) ≡ false → length (addTable t (tablesOf w)) ≤ 32
-      → Holds (set (set w (9475 + tableCount w) t) 2 (tableCount w + 1)) (withTables (addTable t (st .tables)) st)
+      → Represents (set (set w (9475 + tableCount w) t) 2 (tableCount w + 1)) (withTables (addTable t (st .tables)) st)
   add-new e room =
       let f : among t (st .tables) ≡ false = ap (among t) (sym (tables-at h)) ∙ e in
       let long : length (st .tables ++ (t ∷ [])) ≤ 32 = rw (tables-at h, f) at room in
@@ -65,14 +65,14 @@ length-local t l h e =
     go true f = length-there 255 (l ++ (254 ∷ [])) (among-more 255 254 l ∙ or-false (among 255 l) ∙ f) ∙ length-append l (254 ∷ []) ∙ sym (rw (length-there 255 l f))
     go false f = length-new 255 (l ++ (254 ∷ [])) (among-more 255 254 l ∙ or-false (among 255 l) ∙ f) ∙ omega (arith, length-append l (254 ∷ []), length-new 255 l f)
 
-pub length-listed : {w : List ℕ} {st : State} → Holds w st → tableCount w ≡ length (tablesOf w)
+pub length-listed : {w : List ℕ} {st : State} → Represents w st → tableCount w ≡ length (tablesOf w)
 length-listed h = count-tables h ∙ sym (ap length (tables-at h))
 
-pub create-one : {w : List ℕ} (st : State) (t : ℕ) → (t ≡ 255 → ⊥) → Holds w (withTables (addTable t (st .tables)) st) → Holds w (create4 t st)
+pub create-one : {w : List ℕ} (st : State) (t : ℕ) → (t ≡ 255 → ⊥) → Represents w (withTables (addTable t (st .tables)) st) → Represents w (create4 t st)
 unfolding create4
 create-one st t e h = rw (list-other t (st .tables) e) h
 
-pub create-two : {w : List ℕ} (st : State) (t : ℕ) → t ≡ 255 → Holds w (withTables (addTable t (addTable 254 (st .tables))) st) → Holds w (create4 t st)
+pub create-two : {w : List ℕ} (st : State) (t : ℕ) → t ≡ 255 → Represents w (withTables (addTable t (addTable 254 (st .tables))) st) → Represents w (create4 t st)
 unfolding create4
 create-two st t e h = rw (list-local t (st .tables) e) h
 
@@ -86,6 +86,6 @@ at-most {w} t v = go (among t (tablesOf w)) refl
     go true e = omega (arith, length-there t (tablesOf w) e, within)
     go false e = omega (arith, length-new t (tablesOf w) e, within)
 
-pub local-next : {w x : List ℕ} {st : State} (t : ℕ) → Holds w st → Holds x (withTables (addTable 254 (st .tables)) st) → t ≡ 255
+pub local-next : {w x : List ℕ} {st : State} (t : ℕ) → Represents w st → Represents x (withTables (addTable 254 (st .tables)) st) → t ≡ 255
     → length (listTable t (tablesOf w)) ≤ 32 → length (addTable t (tablesOf x)) ≤ 32
 local-next {w} {x} {st} t h k e room = rw (tables-at k) (rw (tables-at h, list-local t (st .tables) e) at room)

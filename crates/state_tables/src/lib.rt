@@ -5,7 +5,7 @@ ghost use lib.ListN.{length};
 ghost use Rattle.lists.specs.Lists.{among};
 ghost use Rattle.definition.specs.State.{State, withTables};
 ghost use Rattle.definition.specs.Reference.Insert.{addTable, listTable, create4};
-ghost use Rattle.state.specs.Holds.{Holds, Valid};
+ghost use Rattle.state.specs.Represents.{Represents, Valid};
 ghost use Rattle.state_tables.specs.Listed.{tablesOf};
 
 pub fn listed(s: &[u32], t: u32) -> bool
@@ -21,7 +21,7 @@ pub fn listed(s: &[u32], t: u32) -> bool
 pub fn add_table(s: &mut [u32], t: u32)
     requires { ⌜ Valid (now s) ⌝ }
     requires { ⌜ length (addTable t (tablesOf (now s))) ≤ 32 ⌝ }
-    ensures { λ _. ⌜ ((st : State) → Holds (now (s .entry)) st → Holds (now (s .exit)) (withTables (addTable t (st .tables)) st)) ⌝ }
+    ensures { λ _. ⌜ ((st : State) → Represents (now (s .entry)) st → Represents (now (s .exit)) (withTables (addTable t (st .tables)) st)) ⌝ }
 {
     if listed(s, t) {
         return;
@@ -61,7 +61,7 @@ pub fn tables_after(s: &[u32], t: u32) -> usize
 pub fn list_table(s: &mut [u32], t: u32)
     requires { ⌜ Valid (now s) ⌝ }
     requires { ⌜ length (listTable t (tablesOf (now s))) ≤ 32 ⌝ }
-    ensures { λ _. ⌜ ((st : State) → Holds (now (s .entry)) st → Holds (now (s .exit)) (create4 t st)) ⌝ }
+    ensures { λ _. ⌜ ((st : State) → Represents (now (s .entry)) st → Represents (now (s .exit)) (create4 t st)) ⌝ }
 {
     if t != layout::TABLE_LOCAL {
         add_table(s, t);

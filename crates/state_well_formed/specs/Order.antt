@@ -19,7 +19,7 @@ use Rattle.lists.specs.Pass.{part-chop}
 use Rattle.layout.specs.Route.{before}
 use Rattle.definition.specs.Words.{ordered, distinct}
 use Rattle.state_well_formed.specs.Look.{row-next}
-use Rattle.definition.specs.Kept.Order.{before-never, before-after, before-alike, level-alike}
+use Rattle.definition.specs.Preservation.Order.{before-never, before-after, before-alike, level-alike}
 
 -- not before: the relation of the order
 le-trans : (a b c : Row) → before b a ≡ false → before c b ≡ false → before c a ≡ false

@@ -12,7 +12,7 @@ use Rattle.lists.specs.Bools.{fails, test-case}
 use Rattle.lists.specs.Pass.{part-chop}
 use Rattle.layout.specs.Route.{fitRoute, before}
 use Rattle.definition.specs.Words.{ordered, distinct}
-use Rattle.definition.specs.Kept.Order.{before-never}
+use Rattle.definition.specs.Preservation.Order.{before-never}
 use Rattle.state_well_formed.specs.Look.{row-next}
 use Rattle.state_well_formed.specs.Order.{order-next, order-broken, order-end, past-run, ordered-later, distinct-turn, distinct-end}
 

@@ -13,11 +13,11 @@ use Rattle.lists.specs.Place.{placeOf, first-at, nothing-from, something-at}
 use Rattle.layout.specs.Request.{replaceAsked, upAtAddV4}
 use Rattle.definition.specs.State.{State}
 use Rattle.definition.specs.Reference.Addresses.{Outcome, goes, refused, step, sameAddress, newAddress, changeV4, addedOver, addV4, loopback}
-use Rattle.definition.specs.Kept.Keeps.{Keeps}
-use Rattle.definition.specs.Kept.Addresses.{addV4-keeps, step-kept, loopback-fit}
+use Rattle.definition.specs.Preservation.Keeps.{Keeps}
+use Rattle.definition.specs.Preservation.Addresses.{addV4-keeps, step-kept, loopback-fit}
 use Rattle.rows_place.specs.Rows.{freshRow}
-use Rattle.state.specs.Holds.{Holds}
-use Rattle.step_laws.specs.Adds.{Adds}
+use Rattle.state.specs.Represents.{Represents}
+use Rattle.step_laws.specs.EmitsOrFull.{EmitsOrFull}
 use Rattle.step_laws.specs.declared.Told.{Told}
 use Rattle.step_add_v4.specs.declared.Done.{Done}
 use Rattle.step_add_v4.specs.declared.Done.the-variants.{Refused}
@@ -33,7 +33,7 @@ module _ (q : Row) (clock : ℕ) (st : State) (place : ℕ) (found : place ≡ p
     there = at-place ∙ something-at (st .addresses) place [] b
 
     pub added-change : replaceAsked q ≡ 1 → {w₀ w ev₀ ev : List ℕ} {t : Told} (r : Done) → r ≡ doneOf t
-        → Adds (changeV4 q (getD (st .addresses) place []) clock st) w ev₀ ev t → Comes (addV4 q clock st) w₀ w ev₀ ev r
+        → EmitsOrFull (changeV4 q (getD (st .addresses) place []) clock st) w ev₀ ev t → Comes (addV4 q clock st) w₀ w ev₀ ev r
     unfolding addV4
     added-change e r s a =
         rw (there, eq-eqb (replaceAsked q) 1 e) (comes-goes (changeV4 q (getD (st .addresses) place []) clock st) r s a)
@@ -44,11 +44,11 @@ module _ (q : Row) (clock : ℕ) (st : State) (place : ℕ) (found : place ≡ p
 
   -- it is new
   pub added-new : length (st .addresses) ≤ place → (new : Row) → new ≡ freshRow (st .addresses) q clock → (up : Bool) → up ≡ eqb (upAtAddV4 q) 1
-      → {w₀ w ev₀ ev : List ℕ} {t : Told} (r : Done) → r ≡ doneOf t → Adds (newAddress new up st) w ev₀ ev t → Comes (addV4 q clock st) w₀ w ev₀ ev r
+      → {w₀ w ev₀ ev : List ℕ} {t : Told} (r : Done) → r ≡ doneOf t → EmitsOrFull (newAddress new up st) w ev₀ ev t → Comes (addV4 q clock st) w₀ w ev₀ ev r
   unfolding addV4
   added-new b new e up f r s a =
       let absent : first (sameAddress q) (st .addresses) ≡ none = at-place ∙ nothing-from (st .addresses) place b in
-      let mine : Adds (newAddress (freshRow (st .addresses) q clock) (eqb (upAtAddV4 q) 1) st) _ _ _ _ = rw (e, f) at a in
+      let mine : EmitsOrFull (newAddress (freshRow (st .addresses) q clock) (eqb (upAtAddV4 q) 1) st) _ _ _ _ = rw (e, f) at a in
       rw absent (comes-goes (newAddress (freshRow (st .addresses) q clock) (eqb (upAtAddV4 q) 1) st) r s mine)
 
 -- ---- the loopback's
@@ -71,8 +71,8 @@ refused-same q clock none st n x e =
     leftOf (goes o) = st
     leftOf (refused m y) = y
 
-pub added-step : (q : Row) (clock : ℕ) (st : State) {w₀ w ev₀ ev : List ℕ} {r : Done} (t : Told) → t ≡ Rattle.step_add_v4.specs.Comes.toldOf r → Holds w₀ st
-    → Comes (addV4 q clock st) w₀ w ev₀ ev r → Adds (step (addV4 q clock st)) w ev₀ ev t
+pub added-step : (q : Row) (clock : ℕ) (st : State) {w₀ w ev₀ ev : List ℕ} {r : Done} (t : Told) → t ≡ Rattle.step_add_v4.specs.Comes.emittedOf r → Represents w₀ st
+    → Comes (addV4 q clock st) w₀ w ev₀ ev r → EmitsOrFull (step (addV4 q clock st)) w ev₀ ev t
 unfolding addV4
 added-step q clock st t e h c =
     comes-step (addedOver q clock (first (sameAddress q) (st .addresses)) st) st (refused-same q clock (first (sameAddress q) (st .addresses)) st) t e h c

@@ -9,20 +9,20 @@ use lib.ListN.{length}
 use Rattle.definition.specs.State.{State, Out, stays}
 use Rattle.definition.specs.Words.{within}
 use Rattle.definition.specs.Reference.Addresses.{Outcome, goes, refused, step}
-use Rattle.state.specs.Holds.{Holds}
-use Rattle.step_events.specs.Does.{Does}
-use Rattle.step_laws.specs.Adds.{Adds, rowsOf, adds-none}
+use Rattle.state.specs.Represents.{Represents}
+use Rattle.step_events.specs.Emits.{Emits}
+use Rattle.step_laws.specs.EmitsOrFull.{EmitsOrFull, rowsOf, adds-none}
 use Rattle.step_laws.specs.declared.Told.{Told}
 use Rattle.step_laws.specs.declared.Told.the-variants as Tell
 use Rattle.step_add_v4.specs.declared.Done.{Done}
 use Rattle.step_add_v4.specs.declared.Done.the-variants.{Rows, Refused, Full}
 
 abbrev pub answerOf : Outcome → Done
-answerOf (goes o) = cond (within (o .peak)) (Rows (length (o .told))) Full
+answerOf (goes o) = cond (within (o .peak)) (Rows (length (o .emitted))) Full
 answerOf (refused n st) = Refused n
 
 abbrev pub DoesSo : Outcome → List ℕ → List ℕ → List ℕ → List ℕ → Type 0
-DoesSo (goes o) w₀ w ev₀ ev = within (o .peak) ≡ true → Does o w ev₀ ev (length (o .told))
+DoesSo (goes o) w₀ w ev₀ ev = within (o .peak) ≡ true → Emits o w ev₀ ev (length (o .emitted))
 DoesSo (refused n st) w₀ w ev₀ ev = (w ≡ w₀) × (ev ≡ ev₀)
 
 pub record Comes (u : Outcome) (w₀ w ev₀ ev : List ℕ) (r : Done) : Type 0 where
@@ -41,10 +41,10 @@ doneOf (Tell.Rows k) = Rows k
 doneOf Tell.Full = Full
 
 -- a call's answer as a step's: a refusal is a step that does nothing
-abbrev pub toldOf : Done → Told
-toldOf (Rows k) = Tell.Rows k
-toldOf (Refused n) = Tell.Rows 0
-toldOf Full = Tell.Full
+abbrev pub emittedOf : Done → Told
+emittedOf (Rows k) = Tell.Rows k
+emittedOf (Refused n) = Tell.Rows 0
+emittedOf Full = Tell.Full
 
 pub call-rows : (t : Told) (k : ℕ) → t ≡ Tell.Rows k → Rows k ≡ doneOf t
 call-rows t k e = rw e
@@ -52,13 +52,13 @@ call-rows t k e = rw e
 pub call-full : (t : Told) → t ≡ Tell.Full → Full ≡ doneOf t
 call-full t e = rw e
 
-pub step-rows : (d : Done) (k : ℕ) → d ≡ Rows k → Tell.Rows k ≡ toldOf d
+pub step-rows : (d : Done) (k : ℕ) → d ≡ Rows k → Tell.Rows k ≡ emittedOf d
 step-rows d k e = rw e
 
-pub step-refused : (d : Done) (n : ℕ) → d ≡ Refused n → Tell.Rows 0 ≡ toldOf d
+pub step-refused : (d : Done) (n : ℕ) → d ≡ Refused n → Tell.Rows 0 ≡ emittedOf d
 step-refused d n e = rw e
 
-pub step-full : (d : Done) → d ≡ Full → Tell.Full ≡ toldOf d
+pub step-full : (d : Done) → d ≡ Full → Tell.Full ≡ emittedOf d
 step-full d e = rw e
 
 pub done-rows : (t : Told) → doneRows (doneOf t) ≡ rowsOf t
@@ -68,31 +68,31 @@ done-rows Tell.Full = refl
 pub done-few : (n : ℕ) (t : Told) (r : Done) → r ≡ doneOf t → rowsOf t ≤ n → doneRows r ≤ n
 done-few n t r e h = rw (e, done-rows t) h
 
-pub told-few : (n : ℕ) (d : Done) (t : Told) → t ≡ toldOf d → doneRows d ≤ n → rowsOf t ≤ n
-told-few n (Rows k) t e h = rw e h
-told-few n (Refused k) t e h = rw e (omega arith)
-told-few n Full t e h = rw e h
+pub emitted-few : (n : ℕ) (d : Done) (t : Told) → t ≡ emittedOf d → doneRows d ≤ n → rowsOf t ≤ n
+emitted-few n (Rows k) t e h = rw e h
+emitted-few n (Refused k) t e h = rw e (omega arith)
+emitted-few n Full t e h = rw e h
 
 done-cond : (b : Bool) (k : ℕ) → doneOf (cond b (Tell.Rows k) Tell.Full) ≡ cond b (Rows k) Full
 done-cond true k = refl
 done-cond false k = refl
 
-told-cond : (b : Bool) (k : ℕ) → toldOf (cond b (Rows k) Full) ≡ cond b (Tell.Rows k) Tell.Full
-told-cond true k = refl
-told-cond false k = refl
+emitted-cond : (b : Bool) (k : ℕ) → emittedOf (cond b (Rows k) Full) ≡ cond b (Tell.Rows k) Tell.Full
+emitted-cond true k = refl
+emitted-cond false k = refl
 
-pub comes-goes : (o : Out) {w₀ w ev₀ ev : List ℕ} {t : Told} (r : Done) → r ≡ doneOf t → Adds o w ev₀ ev t → Comes (goes o) w₀ w ev₀ ev r
+pub comes-goes : (o : Out) {w₀ w ev₀ ev : List ℕ} {t : Told} (r : Done) → r ≡ doneOf t → EmitsOrFull o w ev₀ ev t → Comes (goes o) w₀ w ev₀ ev r
 comes-goes o r e a =
-    record { answer = e ∙ ap doneOf (a .answer) ∙ done-cond (within (o .peak)) (length (o .told)); does = a .does }
+    record { answer = e ∙ ap doneOf (a .answer) ∙ done-cond (within (o .peak)) (length (o .emitted)); does = a .does }
 
 pub comes-refused : (n : ℕ) (st : State) {w ev : List ℕ} → Comes (refused n st) w w ev ev (Refused n)
 comes-refused n st = record { answer = refl; does = (refl, refl) }
 
 -- as a step
-pub comes-step : (u : Outcome) (st : State) → ((n : ℕ) (x : State) → u ≡ refused n x → x ≡ st) → {w₀ w ev₀ ev : List ℕ} {r : Done} (t : Told) → t ≡ toldOf r → Holds w₀ st → Comes u w₀ w ev₀ ev r → Adds (step u) w ev₀ ev t
+pub comes-step : (u : Outcome) (st : State) → ((n : ℕ) (x : State) → u ≡ refused n x → x ≡ st) → {w₀ w ev₀ ev : List ℕ} {r : Done} (t : Told) → t ≡ emittedOf r → Represents w₀ st → Comes u w₀ w ev₀ ev r → EmitsOrFull (step u) w ev₀ ev t
 comes-step (goes o) st s t e h c =
-    record { answer = e ∙ ap toldOf (c .answer) ∙ told-cond (within (o .peak)) (length (o .told)); does = c .does }
+    record { answer = e ∙ ap emittedOf (c .answer) ∙ emitted-cond (within (o .peak)) (length (o .emitted)); does = c .does }
 comes-step (refused n x) st s {w₀} {w} {ev₀} {ev} t e h c =
-    let z : t ≡ Tell.Rows 0 = e ∙ ap toldOf (c .answer) in
-    let here : Adds (stays x) w₀ ev₀ ev₀ (Tell.Rows 0) = adds-none x (subst (Holds w₀) (sym (s n x refl)) h) in
+    let z : t ≡ Tell.Rows 0 = e ∙ ap emittedOf (c .answer) in
+    let here : EmitsOrFull (stays x) w₀ ev₀ ev₀ (Tell.Rows 0) = adds-none x (subst (Represents w₀) (sym (s n x refl)) h) in
     rw (z, c .does .0, c .does .1) here

@@ -17,14 +17,14 @@ use Rattle.definition.specs.State.{State, Out, through}
 use Rattle.definition.specs.Words.{fitState, addressCount}
 use Rattle.definition.specs.Reference.Insert.{kernelAdd4}
 use Rattle.definition.specs.Reference.Addresses.{candidates, bring, addV4, step, loopback, up}
-use Rattle.definition.specs.Kept.Fit.{fields-address}
-use Rattle.definition.specs.Kept.Keeps.{Keeps, through-keeps, keeps-fit}
-use Rattle.definition.specs.Kept.Rows.{candidates-fit}
-use Rattle.definition.specs.Kept.Addresses.{bring-keeps}
-use Rattle.definition.specs.Kept.Growing as Growing
-use Rattle.state.specs.Holds.{Holds, count-addresses, Sound}
-use Rattle.step_events.specs.Does.{does-length, rest}
-use Rattle.step_laws.specs.Adds.{Adds, joined, holds-within, adds-rows, adds-also, adds-stop}
+use Rattle.definition.specs.Preservation.Fit.{fields-address}
+use Rattle.definition.specs.Preservation.Keeps.{Keeps, through-keeps, keeps-fit}
+use Rattle.definition.specs.Preservation.Rows.{candidates-fit}
+use Rattle.definition.specs.Preservation.Addresses.{bring-keeps}
+use Rattle.definition.specs.Preservation.Growing as Growing
+use Rattle.state.specs.Represents.{Represents, count-addresses, Sound}
+use Rattle.step_events.specs.Emits.{does-length, rest}
+use Rattle.step_laws.specs.EmitsOrFull.{EmitsOrFull, joined, holds-within, adds-rows, adds-also, adds-stop}
 use Rattle.step_laws.specs.Through.{Covered, covered-through, adds-start, adds-next, adds-full-end, adds-end}
 use Rattle.step_laws.specs.declared.Told.{Told}
 use Rattle.step_laws.specs.declared.Told.the-variants.{Rows, Full}
@@ -58,7 +58,7 @@ turns-keep : (l m : List Row) → all fitAddress m ≡ true → Keeps (through (
 turns-keep l m h = through-keeps (turn l) fitAddress m (λ a f. bring-keeps (candidates l true a) (turn-fit l a f)) h
 
 -- ---- address i's routes, as candidates writes them and bring takes them
-module _ {w : List ℕ} (i : ℕ) (b : i < addressCount w) (st : State) (h : Holds w st) (p : List ℕ) (l : p ≡ addressPart w)
+module _ {w : List ℕ} (i : ℕ) (b : i < addressCount w) (st : State) (h : Represents w st) (p : List ℕ) (l : p ≡ addressPart w)
     (k : ℕ) (o x : List ℕ) (c : (k ≡ length (candidates (st .addresses) true (part 20 p i))) × (x ≡ put 0 (flat (candidates (st .addresses) true (part 20 p i))) o)) where
   e : part 20 p i ≡ getD (st .addresses) i []
   e = laid-part (of-addresses p h l) i (omega (arith, count-addresses h))
@@ -71,24 +71,24 @@ module _ {w : List ℕ} (i : ℕ) (b : i < addressCount w) (st : State) (h : Hol
 
   pub turn-done : fitState st ≡ true → {w′ ev₀ ev : List ℕ} {r : Told}
       → ((rows : List Row) → Laid 32 fitRoute (take (32 * k - 0) (drop 0 x)) rows → AddsFrom (bring rows) w w′ ev₀ ev r)
-      → Adds (turnAt i st) w′ ev₀ ev r
+      → EmitsOrFull (turnAt i st) w′ ev₀ ev r
   turn-done f {w′} {ev₀} {ev} {r} d =
-      subst (λ (y : Row). Adds (turn (st .addresses) y st) w′ ev₀ ev r) e
+      subst (λ (y : Row). EmitsOrFull (turn (st .addresses) y st) w′ ev₀ ev r) e
       (d (candidates (st .addresses) true (part 20 p i)) (block-rows (candidates (st .addresses) true (part 20 p i)) (turn-fit (st .addresses) (part 20 p i) mine) k (c .0) o (c .1)) st h f)
 
 -- ---- the first i addresses' routes are brought
-pub record Sofar (s₀ ev₀ : List ℕ) (i : ℕ) (s ev : List ℕ) (t : ℕ) : Type 0 where
+pub record LoopInvariant (s₀ ev₀ : List ℕ) (i : ℕ) (s ev : List ℕ) (t : ℕ) : Type 0 where
   pub adds : AddsFrom (λ st. through (turn (st .addresses)) (take i (st .addresses)) st) s₀ s ev₀ ev (Rows t)
 
-pub sofar-start : (s ev : List ℕ) → Sofar s ev 0 s ev 0
+pub sofar-start : (s ev : List ℕ) → LoopInvariant s ev 0 s ev 0
 sofar-start s ev = record { adds = λ st h f. adds-start (turn (st .addresses)) (st .addresses) st h }
 
-module _ {s₀ ev₀ s ev : List ℕ} {i t : ℕ} (a : Sofar s₀ ev₀ i s ev t) where
-  module _ (st : State) (h : Holds s₀ st) (f : fitState st ≡ true) where
+module _ {s₀ ev₀ s ev : List ℕ} {i t : ℕ} (a : LoopInvariant s₀ ev₀ i s ev t) where
+  module _ (st : State) (h : Represents s₀ st) (f : fitState st ≡ true) where
     abbrev later : State
     later = (through (turn (st .addresses)) (take i (st .addresses)) st) .state
 
-    later-holds : Holds s later
+    later-holds : Represents s later
     later-holds = (adds-rows (a .adds st h f)) .1 .holds
 
     later-fit : fitState later ≡ true
@@ -126,22 +126,22 @@ module _ {s₀ ev₀ s ev : List ℕ} {i t : ℕ} (a : Sofar s₀ ev₀ i s ev t
     one-more : AddsFrom (λ st. through (turn (st .addresses)) (take (i + 1) (st .addresses)) st) s₀ w ev₀ (take (34 * t) ev ++ (x ++ drop (length ev - 34 * t) (drop (34 * t) ev))) (joined t r)
     one-more st h f =
         let b′ : i < length (st .addresses) = omega (arith, count-addresses h) in
-        let here : Adds (turn (st .addresses) (getD (st .addresses) i []) (later st h f)) w (rest t ev) x r =
-        subst (λ (l : List Row). Adds (turn l (getD l i []) (later st h f)) w (rest t ev) x r) (later-same st h f) (u (later st h f) (later-holds st h f) (later-fit st h f))
+        let here : EmitsOrFull (turn (st .addresses) (getD (st .addresses) i []) (later st h f)) w (rest t ev) x r =
+        subst (λ (l : List Row). EmitsOrFull (turn l (getD l i []) (later st h f)) w (rest t ev) x r) (later-same st h f) (u (later st h f) (later-holds st h f) (later-fit st h f))
         in
         adds-next (turn (st .addresses)) (st .addresses) st (turn-covered (st .addresses)) (holds-within h) i [] b′ (a .adds st h f) here
 
-    pub sofar-next : (m : ℕ) → r ≡ Rows m → Sofar s₀ ev₀ (i + 1) w (take (34 * t) ev ++ (x ++ drop (length ev - 34 * t) (drop (34 * t) ev))) (t + m)
+    pub sofar-next : (m : ℕ) → r ≡ Rows m → LoopInvariant s₀ ev₀ (i + 1) w (take (34 * t) ev ++ (x ++ drop (length ev - 34 * t) (drop (34 * t) ev))) (t + m)
     sofar-next m e =
         record {
           adds = λ st h f.
-              subst (λ (q : Told). Adds (through (turn (st .addresses)) (take (i + 1) (st .addresses)) st) w ev₀ (take (34 * t) ev ++ (x ++ drop (length ev - 34 * t) (drop (34 * t) ev))) (joined t q)) e (one-more st h f);
+              subst (λ (q : Told). EmitsOrFull (through (turn (st .addresses)) (take (i + 1) (st .addresses)) st) w ev₀ (take (34 * t) ev ++ (x ++ drop (length ev - 34 * t) (drop (34 * t) ev))) (joined t q)) e (one-more st h f);
         }
 
     pub sofar-full : r ≡ Full → {w′ ev′ : List ℕ} → AddsFrom every s₀ w′ ev₀ ev′ Full
     sofar-full e st h f =
         adds-full-end (turn (st .addresses)) (st .addresses) st (turn-covered (st .addresses)) (holds-within h) (i + 1)
-        (subst (λ (q : Told). Adds (through (turn (st .addresses)) (take (i + 1) (st .addresses)) st) w ev₀ (take (34 * t) ev ++ (x ++ drop (length ev - 34 * t) (drop (34 * t) ev))) (joined t q)) e (one-more st h f))
+        (subst (λ (q : Told). EmitsOrFull (through (turn (st .addresses)) (take (i + 1) (st .addresses)) st) w ev₀ (take (34 * t) ev ++ (x ++ drop (length ev - 34 * t) (drop (34 * t) ev))) (joined t q)) e (one-more st h f))
 
   pub sofar-end : addressCount s₀ ≤ i → AddsFrom every s₀ s ev₀ ev (Rows t)
   sofar-end b st h f = adds-end (turn (st .addresses)) (st .addresses) st i (omega (arith, count-addresses h)) (a .adds st h f)
@@ -151,12 +151,12 @@ module _ (clock : ℕ) {s₀ s ev₀ ev : List ℕ} {r : Told} (a : AddsFrom (λ
   pub up-full : r ≡ Full → {w ev′ : List ℕ} → AddsFrom (up clock) s₀ w ev₀ ev′ Full
   unfolding up
   up-full e st h f =
-      let full : Adds (step (addV4 loopback clock st)) s ev₀ ev Full = subst (λ (q : Told). Adds (step (addV4 loopback clock st)) s ev₀ ev q) e (a st h f) in
+      let full : EmitsOrFull (step (addV4 loopback clock st)) s ev₀ ev Full = subst (λ (q : Told). EmitsOrFull (step (addV4 loopback clock st)) s ev₀ ev q) e (a st h f) in
       adds-stop full every
 
   module _ (k : ℕ) (e : r ≡ Rows k) where
     came : AddsFrom (λ st. step (addV4 loopback clock st)) s₀ s ev₀ ev (Rows k)
-    came st h f = subst (λ (q : Told). Adds (step (addV4 loopback clock st)) s ev₀ ev q) e (a st h f)
+    came st h f = subst (λ (q : Told). EmitsOrFull (step (addV4 loopback clock st)) s ev₀ ev q) e (a st h f)
 
     pub up-sound : Sound s₀ → Sound s
     up-sound v = adds-sound (λ st. step (addV4 loopback clock st)) (loopback-keeps clock) came v

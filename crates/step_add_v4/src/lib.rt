@@ -10,10 +10,10 @@ ghost use Rattle.layout.specs.Request.{fitAddV4};
 ghost use Rattle.definition.specs.State.{State};
 ghost use Rattle.definition.specs.Words.{fitState, addressCount};
 ghost use Rattle.definition.specs.Reference.Addresses.{addV4, up};
-ghost use Rattle.state.specs.Holds.{Holds, Sound};
-ghost use Rattle.step_laws.specs.Adds.{rowsOf};
+ghost use Rattle.state.specs.Represents.{Represents, Sound};
+ghost use Rattle.step_laws.specs.EmitsOrFull.{rowsOf};
 ghost use Rattle.step_new_address.specs.Sound.{AddsFrom};
-ghost use Rattle.step_add_v4.specs.Comes.{Comes, doneRows, doneOf, toldOf};
+ghost use Rattle.step_add_v4.specs.Comes.{Comes, doneRows, doneOf, emittedOf};
 ghost use Rattle.step_add_v4.specs.Every.{every, turnAt};
 
 // What a call came to: the event rows told, a refusal's number, or that a list had no room.
@@ -23,10 +23,10 @@ pub enum Done {
     Full,
 }
 
-fn call_of(told: Told) -> Done
-    ensures { λ r. ⌜ r ≡ doneOf told ⌝ }
+fn call_of(emitted: Told) -> Done
+    ensures { λ r. ⌜ r ≡ doneOf emitted ⌝ }
 {
-    match told {
+    match emitted {
         Told::Rows(k) => Done::Rows(k),
         Told::Full => Done::Full,
     }
@@ -34,7 +34,7 @@ fn call_of(told: Told) -> Done
 
 // A refusal is a step that does nothing.
 fn step_of(came: Done) -> Told
-    ensures { λ r. ⌜ r ≡ toldOf came ⌝ }
+    ensures { λ r. ⌜ r ≡ emittedOf came ⌝ }
 {
     match came {
         Done::Rows(k) => Told::Rows(k),
@@ -49,7 +49,7 @@ pub fn add_v4(s: &mut [u32], ev: &mut [u32], q: &[u32], clock: Nanoseconds) -> D
     requires { ⌜ (length (now q) ≡ 18) × (fitAddV4 (now q) ≡ true) ⌝ }
     requires { ⌜ 170 ≤ length (now ev) ⌝ }
     ensures { λ r. ⌜ doneRows r ≤ 5 ⌝ }
-    ensures { λ r. ⌜ ((st : State) → Holds (now (s .entry)) st → fitState st ≡ true → Comes (addV4 (now (q .entry)) (clock .0) st) (now (s .entry)) (now (s .exit)) (now (ev .entry)) (now (ev .exit)) r) ⌝ }
+    ensures { λ r. ⌜ ((st : State) → Represents (now (s .entry)) st → fitState st ≡ true → Comes (addV4 (now (q .entry)) (clock .0) st) (now (s .entry)) (now (s .exit)) (now (ev .entry)) (now (ev .exit)) r) ⌝ }
 {
     let n = state::address_count(s);
     let place = rows_place::same_at(state_read::addresses(s), n, q);
@@ -92,14 +92,14 @@ fn bring_all(s: &mut [u32], ev: &mut [u32]) -> Told
     ensures { λ r. ⌜ AddsFrom every (now (s .entry)) (now (s .exit)) (now (ev .entry)) (now (ev .exit)) r ⌝ }
 {
     let n = state::address_count(s);
-    let mut told = 0usize;
+    let mut emitted = 0usize;
     let mut i = 0usize;
     while i < n {
-        let from = 34 * told;
+        let from = 34 * emitted;
         let came = bring_at(s, &mut ev[from..], i);
         match came {
             Told::Rows(m) => {
-                told += m;
+                emitted += m;
             }
             Told::Full => {
                 return Told::Full;
@@ -107,7 +107,7 @@ fn bring_all(s: &mut [u32], ev: &mut [u32]) -> Told
         }
         i += 1;
     }
-    Told::Rows(told)
+    Told::Rows(emitted)
 }
 
 // 127.0.0.1 if it isn't there, with its routes; then the routes that every address has.

@@ -9,7 +9,7 @@ use mathlib.Core.Option.{Option, none, some}
 use lib.Dec.{eqb, leb, ltb}
 use lib.ListN.{length, length-append}
 use borrow.Author.Tests.{le-leb, eqb-true, leb-true, ltb-true}
-use Rattle.state.specs.Holds.{Holds, count-addresses, count-routes, count-tables}
+use Rattle.state.specs.Represents.{Represents, count-addresses, count-routes, count-tables}
 use Rattle.lists.specs.Lists.{Row, all, first, among, replaceFirst}
 use Rattle.lists.specs.Bools.{test-case, cond-case, and-iff, and-both, cond-true, cond-false}
 use Rattle.lists.specs.All.{all-append, all-head, all-tail}
@@ -27,11 +27,11 @@ use Rattle.definition.specs.Reference.Lookup.{broadcastKind}
 use Rattle.definition.specs.Reference.Insert as Insert
 use Rattle.definition.specs.Reference.Insert.{addTable, listTable, create4, insert4, inserted, kernelAdd4, kernelDel4}
 use Rattle.definition.specs.Reference.Addresses.{Outcome, refused, step, only, kernelRoute, localRoute, prefixRoute, upRoutes, candidates, primaryOf, bring, place4, newAddress, changedTo, reroutes, moved, changeV4, addedOver, addV4, sameAddress, loopback, up, namesBroadcast, ownNetwork}
-use Rattle.definition.specs.Kept.Growing.{Grows, insert-grows, no-replacing, length-place4}
-use Rattle.definition.specs.Kept.Peaks.{kernelAdd4-rises, newAddress-rises, up-rises, rises-within, kernelDel4-under}
-use Rattle.definition.specs.Kept.Step.{covered}
+use Rattle.definition.specs.Preservation.Growing.{Grows, insert-grows, no-replacing, length-place4}
+use Rattle.definition.specs.Preservation.Peaks.{kernelAdd4-rises, newAddress-rises, up-rises, rises-within, kernelDel4-under}
+use Rattle.definition.specs.Preservation.Step.{covered}
 use Rattle.definition.specs.Step.{roomy}
-use Rattle.step_laws.specs.Adds.{within-also}
+use Rattle.step_laws.specs.EmitsOrFull.{within-also}
 use Rattle.step_add_v4.specs.Every.{turn, every}
 use Rattle.row_candidates.specs.Rows.{subnetRoute}
 
@@ -102,7 +102,7 @@ add-most new t st =
     tables = rw t (list-local (st .tables))
 
     go : (i : Insert.Inserted) → Grows (st .routes) i → Most 0 1 st (inserted new i (create4 (table new) st))
-    go (Insert.put rows told) h = record { ofAddresses = omega arith; ofRoutes = omega (arith, h); ofTables = tables }
+    go (Insert.put rows emitted) h = record { ofAddresses = omega arith; ofRoutes = omega (arith, h); ofTables = tables }
     go Insert.nothing h = record { ofAddresses = omega arith; ofRoutes = omega arith; ofTables = tables }
     go (Insert.refused n) h = record { ofAddresses = omega arith; ofRoutes = omega arith; ofTables = tables }
 
@@ -244,7 +244,7 @@ add-room q clock st a r t = added-room q clock (first (sameAddress q) (st .addre
 abbrev pub hasRoom : List ℕ → ℕ → Bool
 hasRoom w rows = ltb (addressCount w) 64 && leb (routeCount w + rows) 256 && leb (tableCount w) 30
 
-module _ {w : List ℕ} (rows : ℕ) (b : Bool) (e : b ≡ hasRoom w rows) (y : b ≡ true) (st : State) (h : Holds w st) where
+module _ {w : List ℕ} (rows : ℕ) (b : Bool) (e : b ≡ hasRoom w rows) (y : b ≡ true) (st : State) (h : Represents w st) where
   facts : ((length (st .addresses) < 64) × (length (st .routes) + rows ≤ 256)) × (length (st .tables) ≤ 30)
   facts =
       let k = simp and-iff at (sym e ∙ y) in

@@ -10,8 +10,8 @@ ghost use Rattle.layout.specs.Request.{fitAddV4};
 ghost use Rattle.definition.specs.State.{State};
 ghost use Rattle.definition.specs.Words.{fitState, routeCount};
 ghost use Rattle.definition.specs.Reference.Addresses.{addV4, up};
-ghost use Rattle.state.specs.Holds.{Holds, Sound};
-ghost use Rattle.step_laws.specs.Adds.{rowsOf};
+ghost use Rattle.state.specs.Represents.{Represents, Sound};
+ghost use Rattle.step_laws.specs.EmitsOrFull.{rowsOf};
 ghost use Rattle.step_laws.specs.declared.Told.the-variants as Tell;
 ghost use Rattle.step_add_v4.specs.declared.Done.the-variants as Call;
 ghost use Rattle.step_add_v4.specs.Comes.{Comes, doneRows};
@@ -37,7 +37,7 @@ fn try_add_v4(s: &mut [u32], ev: &mut [u32], q: &[u32], clock: Nanoseconds) -> D
     requires { ⌜ 170 ≤ length (now ev) ⌝ }
     ensures { λ r. ⌜ doneRows r ≤ 5 ⌝ }
     ensures { λ r. ⌜ (r ≡ Call.Full → (now (s .exit) ≡ now (s .entry)) × (now (ev .exit) ≡ now (ev .entry))) ⌝ }
-    ensures { λ r. ⌜ ((st : State) → Holds (now (s .entry)) st → fitState st ≡ true → Comes (addV4 (now (q .entry)) (clock .0) st) (now (s .entry)) (now (s .exit)) (now (ev .entry)) (now (ev .exit)) r) ⌝ }
+    ensures { λ r. ⌜ ((st : State) → Represents (now (s .entry)) st → fitState st ≡ true → Comes (addV4 (now (q .entry)) (clock .0) st) (now (s .entry)) (now (s .exit)) (now (ev .entry)) (now (ev .exit)) r) ⌝ }
 {
     let mut copy = [0u32; 9507];
     words::store(&mut copy, 0, s);
@@ -62,7 +62,7 @@ pub fn add_v4(s: &mut [u32], ev: &mut [u32], q: &[u32], clock: Nanoseconds) -> D
     requires { ⌜ 170 ≤ length (now ev) ⌝ }
     ensures { λ r. ⌜ doneRows r ≤ 5 ⌝ }
     ensures { λ r. ⌜ (r ≡ Call.Full → (now (s .exit) ≡ now (s .entry)) × (now (ev .exit) ≡ now (ev .entry))) ⌝ }
-    ensures { λ r. ⌜ ((st : State) → Holds (now (s .entry)) st → fitState st ≡ true → Comes (addV4 (now (q .entry)) (clock .0) st) (now (s .entry)) (now (s .exit)) (now (ev .entry)) (now (ev .exit)) r) ⌝ }
+    ensures { λ r. ⌜ ((st : State) → Represents (now (s .entry)) st → fitState st ≡ true → Comes (addV4 (now (q .entry)) (clock .0) st) (now (s .entry)) (now (s .exit)) (now (ev .entry)) (now (ev .exit)) r) ⌝ }
 {
     if has_room(s, 4) {
         return step_add_v4::add_v4(s, ev, q, clock);

@@ -18,9 +18,9 @@ use Rattle.definition.specs.State.{State, Out}
 use Rattle.definition.specs.Words.{addressCount}
 use Rattle.definition.specs.Reference.Addresses.{covers, goes, refused}
 use Rattle.definition.specs.Reference.Removal.{deletes, delV4, removeV4}
-use Rattle.definition.specs.Kept.Shrinking.{weight}
-use Rattle.state.specs.Holds.{Holds, count-addresses}
-use Rattle.step_events.specs.Step.{Fits, Step}
+use Rattle.definition.specs.Preservation.Shrinking.{potential}
+use Rattle.state.specs.Represents.{Represents, count-addresses}
+use Rattle.step_events.specs.EmitsWithin.{Fits, EmitsWithin}
 use Rattle.lists.specs.Front.{any-here}
 use Rattle.step_remove_v4.specs.One.{addressRow, lent-address}
 use Rattle.step_del_v4.specs.declared.Deleted.{Deleted}
@@ -60,13 +60,13 @@ deletes-is q a same within e f = rw (e, f)
 pub record Went (q : Row) (st : State) (s ev₀ ev : List ℕ) (n : ℕ) : Type 0 where
   pub out : Out
   pub is : delV4 q st ≡ goes out
-  pub step : Step weight st out s ev₀ ev n
+  pub step : EmitsWithin potential st out s ev₀ ev n
 
 abbrev pub Deletes : Row → State → List ℕ → List ℕ → List ℕ → Deleted → Type 0
 Deletes q st s ev₀ ev (Rows n) = Went q st s ev₀ ev n
-Deletes q st s ev₀ ev Nothing = (delV4 q st ≡ refused 99 st) × Holds s st × (ev ≡ ev₀)
+Deletes q st s ev₀ ev Nothing = (delV4 q st ≡ refused 99 st) × Represents s st × (ev ≡ ev₀)
 
-module _ (q : Row) {st : State} {s ev : List ℕ} (f : Fits weight st s ev) (n i : ℕ) (en : n ≡ addressCount s) (e : i ≡ placeOf (deletes q) (st .addresses)) where
+module _ (q : Row) {st : State} {s ev : List ℕ} (f : Fits potential st s ev) (n i : ℕ) (en : n ≡ addressCount s) (e : i ≡ placeOf (deletes q) (st .addresses)) where
   place : first (deletes q) (st .addresses) ≡ getElem? (st .addresses) i
   place = first-at (deletes q) (st .addresses) ∙ ap (getElem? (st .addresses)) (sym e)
 
@@ -83,7 +83,7 @@ module _ (q : Row) {st : State} {s ev : List ℕ} (f : Fits weight st s ev) (n i
   pub deleted-there : (b : i < n) (row : Row) → row ≡ addressRow s i → any (eqRow row) (st .addresses) ≡ true
   deleted-there b row w = any-here (eqRow row) (st .addresses) i [] (in-use b) (rw (← (same b row w)) (eqRow-refl row))
 
-  pub deleted-rows : (b : i < n) (row : Row) → row ≡ addressRow s i → {s′ ev′ : List ℕ} {r : ℕ} → Step weight st (removeV4 row st) s′ ev ev′ r → Deletes q st s′ ev ev′ (Rows r)
+  pub deleted-rows : (b : i < n) (row : Row) → row ≡ addressRow s i → {s′ ev′ : List ℕ} {r : ℕ} → EmitsWithin potential st (removeV4 row st) s′ ev ev′ r → Deletes q st s′ ev ev′ (Rows r)
   unfolding delV4
   deleted-rows b row w t =
       record {

@@ -10,8 +10,8 @@ ghost use Rattle.lists.specs.Place.{placeOf};
 ghost use Rattle.layout.specs.Address.{prefix, fitAddress};
 ghost use Rattle.definition.specs.State.{State};
 ghost use Rattle.definition.specs.Reference.Removal.{deletes};
-ghost use Rattle.definition.specs.Kept.Shrinking.{weight};
-ghost use Rattle.step_events.specs.Step.{Fits, Ready};
+ghost use Rattle.definition.specs.Preservation.Shrinking.{potential};
+ghost use Rattle.step_events.specs.EmitsWithin.{Fits, Ready};
 ghost use Rattle.step_del_v4.specs.Asked.{Deletes};
 
 // What came of a deletion: the number of rows told, or that no address meets the conditions.
@@ -59,9 +59,9 @@ fn find(rows: &[u32], n: usize, q: &[u32]) -> usize
 }
 
 pub fn del_v4(s: &mut [u32], ev: &mut [u32], q: &[u32]) -> Deleted
-    requires { ⌜ Ready weight (now s) (now ev) ⌝ }
+    requires { ⌜ Ready potential (now s) (now ev) ⌝ }
     requires { ⌜ length (now q) ≡ 11 ⌝ }
-    ensures { λ r. ⌜ ((st : State) → Fits weight st (now (s .entry)) (now (ev .entry)) → Deletes (now (q .entry)) st (now (s .exit)) (now (ev .entry)) (now (ev .exit)) r) ⌝ }
+    ensures { λ r. ⌜ ((st : State) → Fits potential st (now (s .entry)) (now (ev .entry)) → Deletes (now (q .entry)) st (now (s .exit)) (now (ev .entry)) (now (ev .exit)) r) ⌝ }
 {
     let n = state::address_count(s);
     let i = find(state_read::addresses(s), n, q);

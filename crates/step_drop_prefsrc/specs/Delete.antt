@@ -7,17 +7,17 @@ use native.Mathlib.Omega.{arith}
 use lib.ListN.{length}
 use Rattle.definition.specs.State.{State, Out}
 use Rattle.definition.specs.Words.{routeCount}
-use Rattle.definition.specs.Kept.Shrinking.{weight}
-use Rattle.state.specs.Holds.{Valid, count-routes}
-use Rattle.step_events.specs.Step.{Ready, Step, step-same}
+use Rattle.definition.specs.Preservation.Shrinking.{potential}
+use Rattle.state.specs.Represents.{Valid, count-routes}
+use Rattle.step_events.specs.EmitsWithin.{Ready, EmitsWithin, step-same}
 
-pub ready-valid : {s ev : List ℕ} → Ready weight s ev → Valid s
+pub ready-valid : {s ev : List ℕ} → Ready potential s ev → Valid s
 ready-valid y = record { state = y .state; holds = y .fits .holds }
 
 -- room for as many rows as there are routes
-pub ready-room : {s ev : List ℕ} → Ready weight s ev → 34 * routeCount s ≤ length ev
+pub ready-room : {s ev : List ℕ} → Ready potential s ev → 34 * routeCount s ≤ length ev
 ready-room y = omega (arith, y .fits .room, count-routes (y .fits .holds))
 
 -- a step known by an equation
-pub step-eq : {st : State} {o p : Out} {s ev₀ ev : List ℕ} {r : ℕ} → o ≡ p → Step weight st p s ev₀ ev r → Step weight st o s ev₀ ev r
-step-eq e t = step-same weight (ap (λ (x : Out). x .state) (sym e)) (ap (λ (x : Out). x .told) (sym e)) t
+pub step-eq : {st : State} {o p : Out} {s ev₀ ev : List ℕ} {r : ℕ} → o ≡ p → EmitsWithin potential st p s ev₀ ev r → EmitsWithin potential st o s ev₀ ev r
+step-eq e t = step-same potential (ap (λ (x : Out). x .state) (sym e)) (ap (λ (x : Out). x .emitted) (sym e)) t

@@ -1,3 +1,3 @@
-pub mod Strays
+pub mod Dependents
 pub mod Delete
 pub mod Sweep

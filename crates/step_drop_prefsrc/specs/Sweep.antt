@@ -18,18 +18,18 @@ use Rattle.lists.specs.At.{flat-append, flat-cons}
 use Rattle.layout.specs.Event.{delRoute4}
 use Rattle.definition.specs.State.{State, becomes, withRoutes}
 use Rattle.definition.specs.Words.{routeCount}
-use Rattle.definition.specs.Reference.Removal.{straysFrom}
-use Rattle.definition.specs.Kept.Shrinking.{weight}
-use Rattle.state.specs.Holds.{sizedR}
+use Rattle.definition.specs.Reference.Removal.{dependentOn}
+use Rattle.definition.specs.Preservation.Shrinking.{potential}
+use Rattle.state.specs.Represents.{sizedR}
 use Rattle.state_retain.specs.Retain.{rowsOf, keep-next, routes-of, lentRow, lent-span, Turned, turned-stays, turned-goes, Keeping, keeping-start, keeping-few, keeping-row, keeping-turn, keeping-end}
-use Rattle.step_events.specs.Does.{rest}
-use Rattle.step_events.specs.Step.{Fits, Step, step-same}
-use Rattle.step_drop_prefsrc.specs.Strays.{straysGo, stray-named, all-go}
+use Rattle.step_events.specs.Emits.{rest}
+use Rattle.step_events.specs.EmitsWithin.{Fits, EmitsWithin, step-same}
+use Rattle.step_drop_prefsrc.specs.Dependents.{dependentsGo, stray-named, all-go}
 
 -- row i was looked at behind j that stay: it is told if it passes, and stays otherwise
 pub record Swept (q : Row → Bool) (i j : ℕ) (s s′ ev ev′ : List ℕ) (r : ℕ) : Type 0 where
   pub turned : Turned (λ x. not (q x)) i j s s′ r
-  pub told : ev′ ≡ cond (q (span (1283 + 32 * i) 32 s)) (put 0 (delRoute4 (span (1283 + 32 * i) 32 s)) ev) ev
+  pub emitted : ev′ ≡ cond (q (span (1283 + 32 * i) 32 s)) (put 0 (delRoute4 (span (1283 + 32 * i) 32 s)) ev) ev
 
 module _ (q : Row → Bool) (i j : ℕ) (s ev : List ℕ) where
   pub swept-goes : q (lentRow s i) ≡ true → {ev′ : List ℕ} → ev′ ≡ put 0 (delRoute4 (lentRow s i)) ev → Swept q i j s s ev ev′ j
@@ -37,13 +37,13 @@ module _ (q : Row → Bool) (i j : ℕ) (s ev : List ℕ) where
       let b : q (span (1283 + 32 * i) 32 s) ≡ true = ap q (sym (lent-span s i)) ∙ e in
       record {
         turned = turned-goes (λ x. not (q x)) i j s (ap not e);
-        told = t ∙ ap (λ (x : Row). put 0 (delRoute4 x) ev) (lent-span s i) ∙ sym (rw b);
+        emitted = t ∙ ap (λ (x : Row). put 0 (delRoute4 x) ev) (lent-span s i) ∙ sym (rw b);
       }
 
   pub swept-stays : q (lentRow s i) ≡ false → {s′ : List ℕ} {r : ℕ} → r ≡ j + 1 → s′ ≡ put (1283 + 32 * j) (span (1283 + 32 * i) 32 s) s → Swept q i j s s′ ev ev r
   swept-stays e c w =
       let b : q (span (1283 + 32 * i) 32 s) ≡ false = ap q (sym (lent-span s i)) ∙ e in
-      record { turned = turned-stays (λ x. not (q x)) i j s (ap not e) c w; told = sym (rw b) }
+      record { turned = turned-stays (λ x. not (q x)) i j s (ap not e) c w; emitted = sym (rw b) }
 
 -- the deletions told of rows
 abbrev pub gone : List Row → List ℕ
@@ -63,12 +63,12 @@ length-rest t ev = length-take-le (length ev - 34 * t) (drop (34 * t) ev) (rw le
 -- of the first i routes of w those that pass are told, and the j others stand in front
 pub record Sweeping (q : Row → Bool) (w : List ℕ) (i j : ℕ) (s ev₀ ev : List ℕ) : Type 0 where
   pub kept : Keeping (λ x. not (q x)) w i j s
-  pub told : ev ≡ put 0 (gone (keep q (rowsOf 1283 32 w i))) ev₀
+  pub emitted : ev ≡ put 0 (gone (keep q (rowsOf 1283 32 w i))) ev₀
   pub long : length ev ≡ length ev₀
 
 pub sweeping-start : (q : Row → Bool) (w ev : List ℕ) → length w ≡ 9507 → Sweeping q w 0 0 w ev ev
 unfolding flat Rattle.lists.specs.Lists.chop
-sweeping-start q w ev h = record { kept = keeping-start (λ x. not (q x)) w h; told = put-none 0 ev; long = refl }
+sweeping-start q w ev h = record { kept = keeping-start (λ x. not (q x)) w h; emitted = put-none 0 ev; long = refl }
 
 module _ {q : Row → Bool} {w : List ℕ} {i j : ℕ} {s ev₀ ev : List ℕ} (k : Sweeping q w i j s ev₀ ev) where
   abbrev rows : List Row
@@ -101,7 +101,7 @@ module _ {q : Row → Bool} {w : List ℕ} {i j : ℕ} {s ev₀ ev : List ℕ} (
         ap (λ (y : List ℕ). take (34 * n) ev ++ (y ++ drop m (drop (34 * n) ev))) f
         ∙ put-part (34 * n) m 0 (delRoute4 row) ev (omega arith) (omega arith)
         ∙ ap (λ (a : ℕ). put a (delRoute4 row) ev) here
-        ∙ ap (put (0 + length (gone rows)) (delRoute4 row)) (k .told)
+        ∙ ap (put (0 + length (gone rows)) (delRoute4 row)) (k .emitted)
         ∙ put-behind 0 (gone rows) ev₀ (omega arith) (delRoute4 row) (omega arith)
         ∙ ap (λ (y : List ℕ). put 0 y ev₀) (sym one)
       where
@@ -114,7 +114,7 @@ module _ {q : Row → Bool} {w : List ℕ} {i j : ℕ} {s ev₀ ev : List ℕ} (
         ap (λ (y : List ℕ). take (34 * n) ev ++ (y ++ drop m (drop (34 * n) ev))) f
         ∙ ap (λ (y : List ℕ). take (34 * n) ev ++ y) (take-append-drop m (drop (34 * n) ev))
         ∙ take-append-drop (34 * n) ev
-        ∙ k .told
+        ∙ k .emitted
         ∙ sym (rw (e, append-nil))
 
     pub sweeping-turn : {s′ x : List ℕ} {r : ℕ} → length s′ ≡ length s → length x ≡ length (rest (i - j) ev) → Swept q i j s s′ (rest (i - j) ev) x r
@@ -122,29 +122,29 @@ module _ {q : Row → Bool} {w : List ℕ} {i j : ℕ} {s ev₀ ev : List ℕ} (
     sweeping-turn l m t =
         record {
           kept = keeping-turn (k .kept) b l (t .turned);
-          told = more (q row) refl (rw (keeping-row (k .kept) b) at (t .told)) ∙ ap (λ (y : List Row). put 0 (gone y) ev₀) (sym (keep-next q 1283 32 w i));
+          emitted = more (q row) refl (rw (keeping-row (k .kept) b) at (t .emitted)) ∙ ap (λ (y : List Row). put 0 (gone y) ev₀) (sym (keep-next q 1283 32 w i));
           long =
               let few = keeping-few (k .kept) in
               simp (length-append, length-drop, length-take-le (34 * (i - j)) ev (omega (arith, k .long))) (omega (arith, k .long, length-rest (i - j) ev));
         }
 
 -- all of them
-pub sweeping-end : (ip : ℕ) {w s ev₀ ev : List ℕ} {n j : ℕ} {st : State} → Sweeping (straysFrom ip) w n j s ev₀ ev → n ≡ routeCount w → Fits weight st w ev₀
-    → Step weight st (straysGo ip st) (set (put (1283 + 32 * j) (zeros (32 * (n - j))) s) 1 j) ev₀ ev (n - j)
+pub sweeping-end : (ip : ℕ) {w s ev₀ ev : List ℕ} {n j : ℕ} {st : State} → Sweeping (dependentOn ip) w n j s ev₀ ev → n ≡ routeCount w → Fits potential st w ev₀
+    → EmitsWithin potential st (dependentsGo ip st) (set (put (1283 + 32 * j) (zeros (32 * (n - j))) s) 1 j) ev₀ ev (n - j)
 sweeping-end ip {w} {ev₀ = ev₀} {n = n} {j = j} {st = st} k e f =
-    let q : Row → Bool = straysFrom ip in
+    let q : Row → Bool = dependentOn ip in
     let h = f .holds in
     let all : rowsOf 1283 32 w n ≡ st .routes = ap (rowsOf 1283 32 w) e ∙ routes-of h in
     let same = all-go q (stray-named ip) st in
-    let told : keep q (rowsOf 1283 32 w n) ≡ keep q (st .routes) = ap (keep q) all in
-    let count : n - j ≡ length (keep q (st .routes)) = omega (arith, sweeping-count k, ap length told) in
+    let emitted : keep q (rowsOf 1283 32 w n) ≡ keep q (st .routes) = ap (keep q) all in
+    let count : n - j ≡ length (keep q (st .routes)) = omega (arith, sweeping-count k, ap length emitted) in
     let o = becomes (withRoutes (keep (λ x. not (q x)) (st .routes)) st) (map delRoute4 (keep q (st .routes))) in
-    step-same weight {o = o} (sym (same .leaves)) (sym (same .tells))
+    step-same potential {o = o} (sym (same .leaves)) (sym (same .sameEmitted))
     (record {
       holds = keeping-end (k .kept) h e;
       count = count ∙ sym (length-map (keep q (st .routes)) delRoute4);
       wide = sized-gone (keep q (st .routes)) (all-keep (λ r. eqb (length r) 32) q (st .routes) (sizedR h));
-      words = k .told ∙ ap (λ (rows : List Row). put 0 (gone rows) ev₀) told;
+      words = k .emitted ∙ ap (λ (rows : List Row). put 0 (gone rows) ev₀) emitted;
       less = omega (arith, length-keep q (st .routes), length-keep (λ x. not (q x)) (st .routes), count-pair q (st .routes));
       room = f .room;
     })

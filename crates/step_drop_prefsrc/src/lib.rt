@@ -3,22 +3,22 @@ ghost use mathlib.Core.Path.{_≡_};
 ghost use Prim.Native.Nat.{_+_, _*_, _≤_, _<_};
 ghost use lib.ListN.{length};
 ghost use Rattle.definition.specs.State.{State};
-ghost use Rattle.definition.specs.Reference.Removal.{straysFrom};
-ghost use Rattle.definition.specs.Kept.Shrinking.{weight};
-ghost use Rattle.step_events.specs.Step.{Fits, Ready, Step};
-ghost use Rattle.step_drop_prefsrc.specs.Strays.{straysGo};
+ghost use Rattle.definition.specs.Reference.Removal.{dependentOn};
+ghost use Rattle.definition.specs.Preservation.Shrinking.{potential};
+ghost use Rattle.step_events.specs.EmitsWithin.{Fits, Ready, EmitsWithin};
+ghost use Rattle.step_drop_prefsrc.specs.Dependents.{dependentsGo};
 ghost use Rattle.step_drop_prefsrc.specs.Sweep.{Swept};
 
 // Row i, behind j that remain, is told if it is a main row with the preferred source ip, and becomes row j otherwise:
 // how many remain with it.
-fn stray_turn(s: &mut [u32], ev: &mut [u32], i: usize, j: usize, ip: u32) -> usize
+fn dependent_turn(s: &mut [u32], ev: &mut [u32], i: usize, j: usize, ip: u32) -> usize
     requires { ⌜ (length (now s) ≡ 9507) × (j ≤ i) × (i < 256) ⌝ }
     requires { ⌜ 34 ≤ length (now ev) ⌝ }
-    ensures { λ r. ⌜ Swept (straysFrom ip) i j (now (s .entry)) (now (s .exit)) (now (ev .entry)) (now (ev .exit)) r ⌝ }
+    ensures { λ r. ⌜ Swept (dependentOn ip) i j (now (s .entry)) (now (s .exit)) (now (ev .entry)) (now (ev .exit)) r ⌝ }
 {
     let at = 1283 + 32 * i;
     let end = at + 32;
-    if rows_wanted::strays_from(&s[at..end], ip) {
+    if rows_wanted::dependents_from(&s[at..end], ip) {
         step_events::del_route4(ev, &s[at..end]);
         return j;
     }
@@ -26,15 +26,15 @@ fn stray_turn(s: &mut [u32], ev: &mut [u32], i: usize, j: usize, ip: u32) -> usi
 }
 
 // The main rows with the preferred source ip go, in their order: one pass tells them and closes the gaps.
-pub fn drop_strays(s: &mut [u32], ev: &mut [u32], ip: u32) -> usize
-    requires { ⌜ Ready weight (now s) (now ev) ⌝ }
-    ensures { λ r. ⌜ ((st : State) → Fits weight st (now (s .entry)) (now (ev .entry)) → Step weight st (straysGo ip st) (now (s .exit)) (now (ev .entry)) (now (ev .exit)) r) ⌝ }
+pub fn drop_dependents(s: &mut [u32], ev: &mut [u32], ip: u32) -> usize
+    requires { ⌜ Ready potential (now s) (now ev) ⌝ }
+    ensures { λ r. ⌜ ((st : State) → Fits potential st (now (s .entry)) (now (ev .entry)) → EmitsWithin potential st (dependentsGo ip st) (now (s .exit)) (now (ev .entry)) (now (ev .exit)) r) ⌝ }
 {
     let n = state::route_count(s);
     let mut i = 0usize;
     let mut j = 0usize;
     while i < n {
-        j = stray_turn(s, &mut ev[34 * (i - j)..], i, j, ip);
+        j = dependent_turn(s, &mut ev[34 * (i - j)..], i, j, ip);
         i += 1;
     }
     state_retain::close(s, n, j);

@@ -17,10 +17,10 @@ use Rattle.layout.specs.Route as Route
 use Rattle.definition.specs.State.{State, Out, stays, also, through}
 use Rattle.definition.specs.Reference.Lookup.{mainTable, localKind, listed, local4}
 use Rattle.definition.specs.Reference.Insert.{kernelDel4}
-use Rattle.definition.specs.Reference.Removal.{wanted, ofKind, straysFrom, fall, disable}
-use Rattle.definition.specs.Kept.Shrinking.{weight, live, kernelDel4-away, disable-away}
-use Rattle.state.specs.Holds.{Holds}
-use Rattle.step_events.specs.Step.{Step}
+use Rattle.definition.specs.Reference.Removal.{wanted, ofKind, dependentOn, fall, disable}
+use Rattle.definition.specs.Preservation.Shrinking.{potential, live, kernelDel4-away, disable-away}
+use Rattle.state.specs.Represents.{Represents}
+use Rattle.step_events.specs.EmitsWithin.{EmitsWithin}
 use Rattle.step_events.specs.Turns.{Like, like-refl, like-sym, like-trans, stays-also, also-like}
 
 -- ---- routes that none wants
@@ -70,31 +70,31 @@ loses-any left (r ∷ l) =
 -- what falls, where that is so
 unfoldable pub fallFrom : ℕ → Bool → State → Out
 fallFrom ip lost st =
-    cond (lost && not (local4 st ip)) (through kernelDel4 (cond (listed mainTable st) (keep (straysFrom ip) (st .routes)) []) st) (stays st)
+    cond (lost && not (local4 st ip)) (through kernelDel4 (cond (listed mainTable st) (keep (dependentOn ip) (st .routes)) []) st) (stays st)
 
 pub fall-from : (a : Row) (left l : List Row) (st : State) → fall a (keep (λ r. not (wanted left r)) l) st ≡ fallFrom (local a) (any (loses left) l) st
 unfolding fall fallFrom
 fall-from a left l st = rw (loses-any left l)
 
 -- a step that says nothing, behind another
-pub step-quiet : {st : State} {o : Out} {s ev₀ ev : List ℕ} {r : ℕ} (f : State → Out) {s′ : List ℕ} → Step weight st o s ev₀ ev r
-    → Holds s′ ((f (o .state)) .state) → (f (o .state)) .told ≡ [] → weight ((f (o .state)) .state) ≤ weight (o .state) → Step weight st (also o f) s′ ev₀ ev r
+pub step-quiet : {st : State} {o : Out} {s ev₀ ev : List ℕ} {r : ℕ} (f : State → Out) {s′ : List ℕ} → EmitsWithin potential st o s ev₀ ev r
+    → Represents s′ ((f (o .state)) .state) → (f (o .state)) .emitted ≡ [] → potential ((f (o .state)) .state) ≤ potential (o .state) → EmitsWithin potential st (also o f) s′ ev₀ ev r
 unfolding also
 step-quiet {o = o} f t h e l =
-    let told : o .told ++ (f (o .state)) .told ≡ o .told = ap (λ (x : List Row). o .told ++ x) e ∙ append-nil (o .told) in
+    let emitted : o .emitted ++ (f (o .state)) .emitted ≡ o .emitted = ap (λ (x : List Row). o .emitted ++ x) e ∙ append-nil (o .emitted) in
     record {
       holds = h;
-      count = rw told (t .count);
-      wide = rw told (t .wide);
-      words = rw told (t .words);
+      count = rw emitted (t .count);
+      wide = rw emitted (t .wide);
+      words = rw emitted (t .words);
       less = omega (arith, t .less);
       room = t .room;
     }
 
-pub disable-quiet : (st : State) → ((disable st) .told ≡ []) × (weight ((disable st) .state) ≤ weight st)
+pub disable-quiet : (st : State) → ((disable st) .emitted ≡ []) × (potential ((disable st) .state) ≤ potential st)
 unfolding disable
 disable-quiet st =
     let away = disable-away st in (
-      cond-case (λ (o : Out). o .told ≡ []) (eqb (length (st .addresses)) 0) (λ e. refl) (λ e. refl),
+      cond-case (λ (o : Out). o .emitted ≡ []) (eqb (length (st .addresses)) 0) (λ e. refl) (λ e. refl),
       omega (arith, away .shrunk, ap length (away .sameAddresses), ap (count live) (away .sameAddresses)),
     )

@@ -6,10 +6,10 @@ ghost use lib.ListN.{length};
 ghost use Rattle.lists.specs.Lists.{Row, any};
 ghost use Rattle.lists.specs.Laid.{Laid, Lays};
 ghost use Rattle.definition.specs.State.{State, through};
-ghost use Rattle.definition.specs.Reference.Removal.{wanted, straysFrom};
-ghost use Rattle.definition.specs.Kept.Shrinking.{weight};
-ghost use Rattle.state.specs.Holds.{Holds, Valid};
-ghost use Rattle.step_events.specs.Step.{Fits, Ready, Step};
+ghost use Rattle.definition.specs.Reference.Removal.{wanted, dependentOn};
+ghost use Rattle.definition.specs.Preservation.Shrinking.{potential};
+ghost use Rattle.state.specs.Represents.{Represents, Valid};
+ghost use Rattle.step_events.specs.EmitsWithin.{Fits, Ready, EmitsWithin};
 ghost use Rattle.step_drop_routes.specs.One.{unlessWanted, loses, fallFrom};
 ghost use Rattle.step_drop_routes.specs.Turns.{anyRow, routesGo};
 
@@ -17,16 +17,16 @@ ghost use Rattle.step_drop_routes.specs.Turns.{anyRow, routesGo};
 fn wanted_in(s: &[u32], r: &[u32]) -> bool
     requires { ⌜ Valid (now s) ⌝ }
     requires { ⌜ length (now r) ≡ 32 ⌝ }
-    ensures { λ b. ⌜ ((st : State) → Holds (now (s .entry)) st → b ≡ wanted (st .addresses) (now (r .entry))) ⌝ }
+    ensures { λ b. ⌜ ((st : State) → Represents (now (s .entry)) st → b ≡ wanted (st .addresses) (now (r .entry))) ⌝ }
 {
     rows_wanted::wanted(state_read::addresses(s), state::address_count(s), r)
 }
 
 // A route goes unless an address wants it.
 fn unless_wanted(s: &mut [u32], ev: &mut [u32], r: &[u32]) -> usize
-    requires { ⌜ Ready weight (now s) (now ev) ⌝ }
+    requires { ⌜ Ready potential (now s) (now ev) ⌝ }
     requires { ⌜ length (now r) ≡ 32 ⌝ }
-    ensures { λ n. ⌜ ((st : State) → Fits weight st (now (s .entry)) (now (ev .entry)) → Step weight st (unlessWanted (now (r .entry)) st) (now (s .exit)) (now (ev .entry)) (now (ev .exit)) n) ⌝ }
+    ensures { λ n. ⌜ ((st : State) → Fits potential st (now (s .entry)) (now (ev .entry)) → EmitsWithin potential st (unlessWanted (now (r .entry)) st) (now (s .exit)) (now (ev .entry)) (now (ev .exit)) n) ⌝ }
 {
     if wanted_in(s, r) {
         return 0;
@@ -36,9 +36,9 @@ fn unless_wanted(s: &mut [u32], ev: &mut [u32], r: &[u32]) -> usize
 
 // The m routes in rows, one after the other.
 fn delete_unwanted(s: &mut [u32], ev: &mut [u32], rows: &[u32], m: usize) -> usize
-    requires { ⌜ Ready weight (now s) (now ev) ⌝ }
+    requires { ⌜ Ready potential (now s) (now ev) ⌝ }
     requires { ⌜ (length (now rows) ≡ 32 * m) × Lays 32 anyRow (now rows) ⌝ }
-    ensures { λ n. ⌜ ((st : State) → Fits weight st (now (s .entry)) (now (ev .entry)) → (l : List Row) → Laid 32 anyRow (now (rows .entry)) l → Step weight st (through unlessWanted l st) (now (s .exit)) (now (ev .entry)) (now (ev .exit)) n) ⌝ }
+    ensures { λ n. ⌜ ((st : State) → Fits potential st (now (s .entry)) (now (ev .entry)) → (l : List Row) → Laid 32 anyRow (now (rows .entry)) l → EmitsWithin potential st (through unlessWanted l st) (now (s .exit)) (now (ev .entry)) (now (ev .exit)) n) ⌝ }
 {
     let mut j = 0usize;
     let mut k = 0usize;
@@ -55,7 +55,7 @@ fn delete_unwanted(s: &mut [u32], ev: &mut [u32], rows: &[u32], m: usize) -> usi
 fn lost(s: &[u32], r: &[u32]) -> bool
     requires { ⌜ Valid (now s) ⌝ }
     requires { ⌜ length (now r) ≡ 32 ⌝ }
-    ensures { λ b. ⌜ ((st : State) → Holds (now (s .entry)) st → b ≡ loses (st .addresses) (now (r .entry))) ⌝ }
+    ensures { λ b. ⌜ ((st : State) → Represents (now (s .entry)) st → b ≡ loses (st .addresses) (now (r .entry))) ⌝ }
 {
     let host = (r[5] == layout::KIND_LOCAL) & (r[2] == 32);
     if !host {
@@ -68,7 +68,7 @@ fn lost(s: &[u32], r: &[u32]) -> bool
 fn loses(s: &[u32], rows: &[u32], m: usize) -> bool
     requires { ⌜ Valid (now s) ⌝ }
     requires { ⌜ (length (now rows) ≡ 32 * m) × Lays 32 anyRow (now rows) ⌝ }
-    ensures { λ b. ⌜ ((st : State) → Holds (now (s .entry)) st → (l : List Row) → Laid 32 anyRow (now (rows .entry)) l → b ≡ any (loses (st .addresses)) l) ⌝ }
+    ensures { λ b. ⌜ ((st : State) → Represents (now (s .entry)) st → (l : List Row) → Laid 32 anyRow (now (rows .entry)) l → b ≡ any (loses (st .addresses)) l) ⌝ }
 {
     let mut j = 0usize;
     while j < m {
@@ -83,23 +83,23 @@ fn loses(s: &[u32], rows: &[u32], m: usize) -> bool
 }
 
 // Whether a main row has the preferred source ip.
-fn some_stray(s: &[u32], ip: u32) -> bool
+fn some_dependent(s: &[u32], ip: u32) -> bool
     requires { ⌜ Valid (now s) ⌝ }
-    ensures { λ b. ⌜ ((st : State) → Holds (now (s .entry)) st → b ≡ any (straysFrom ip) (st .routes)) ⌝ }
+    ensures { λ b. ⌜ ((st : State) → Represents (now (s .entry)) st → b ≡ any (dependentOn ip) (st .routes)) ⌝ }
 {
-    rows_wanted::strays(state_read::routes(s), state::route_count(s), ip)
+    rows_wanted::dependents(state_read::routes(s), state::route_count(s), ip)
 }
 
 // The main rows with the preferred source ip fall if a local route of it is lost and it is local no more. Most
 // sources have no such row, so that is asked before all else.
 fn fall(s: &mut [u32], ev: &mut [u32], ip: u32, lost: bool) -> usize
-    requires { ⌜ Ready weight (now s) (now ev) ⌝ }
-    ensures { λ n. ⌜ ((st : State) → Fits weight st (now (s .entry)) (now (ev .entry)) → Step weight st (fallFrom ip lost st) (now (s .exit)) (now (ev .entry)) (now (ev .exit)) n) ⌝ }
+    requires { ⌜ Ready potential (now s) (now ev) ⌝ }
+    ensures { λ n. ⌜ ((st : State) → Fits potential st (now (s .entry)) (now (ev .entry)) → EmitsWithin potential st (fallFrom ip lost st) (now (s .exit)) (now (ev .entry)) (now (ev .exit)) n) ⌝ }
 {
     if !lost {
         return 0;
     }
-    if !some_stray(s, ip) {
+    if !some_dependent(s, ip) {
         return 0;
     }
     if state_read::local4(s, ip) {
@@ -108,14 +108,14 @@ fn fall(s: &mut [u32], ev: &mut [u32], ip: u32, lost: bool) -> usize
     if !state_tables::listed(s, layout::TABLE_MAIN) {
         return 0;
     }
-    step_drop_prefsrc::drop_strays(s, ev, ip)
+    step_drop_prefsrc::drop_dependents(s, ev, ip)
 }
 
 // The routes of an address ip that is gone, m in rows, and what goes with them.
 pub fn take_routes(s: &mut [u32], ev: &mut [u32], rows: &[u32], m: usize, ip: u32) -> usize
-    requires { ⌜ Ready weight (now s) (now ev) ⌝ }
+    requires { ⌜ Ready potential (now s) (now ev) ⌝ }
     requires { ⌜ (length (now rows) ≡ 32 * m) × Lays 32 anyRow (now rows) ⌝ }
-    ensures { λ n. ⌜ ((st : State) → Fits weight st (now (s .entry)) (now (ev .entry)) → (l : List Row) → Laid 32 anyRow (now (rows .entry)) l → Step weight st (routesGo ip l st) (now (s .exit)) (now (ev .entry)) (now (ev .exit)) n) ⌝ }
+    ensures { λ n. ⌜ ((st : State) → Fits potential st (now (s .entry)) (now (ev .entry)) → (l : List Row) → Laid 32 anyRow (now (rows .entry)) l → EmitsWithin potential st (routesGo ip l st) (now (s .exit)) (now (ev .entry)) (now (ev .exit)) n) ⌝ }
 {
     let k = delete_unwanted(s, ev, rows, m);
     let lost = loses(s, rows, m);

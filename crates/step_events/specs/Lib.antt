@@ -1,4 +1,4 @@
 pub mod Row
-pub mod Does
-pub mod Step
+pub mod Emits
+pub mod EmitsWithin
 pub mod Turns

@@ -20,13 +20,13 @@ use Rattle.layout.specs.Address.{fitAddress, valid, preferred, changed, flags, 
 use Rattle.layout.specs.Event.{newAddr4}
 use Rattle.definition.specs.State.{State, Out, becomes, stays, also, withAddresses}
 use Rattle.definition.specs.Words.{addressCount}
-use Rattle.definition.specs.Reference.Removal.{removeV4, due, fades, faded, expire}
-use Rattle.definition.specs.Kept.Fit.{length-address}
-use Rattle.definition.specs.Kept.Rows.{faded-fit}
-use Rattle.definition.specs.Kept.Shrinking.{weight}
-use Rattle.state.specs.Holds.{Holds, count-addresses}
-use Rattle.step_events.specs.Does.{rest}
-use Rattle.step_events.specs.Step.{Fits, Ready, Step, step-one, step-none, step-also}
+use Rattle.definition.specs.Reference.Removal.{removeV4, due, deprecates, deprecate, expire}
+use Rattle.definition.specs.Preservation.Fit.{length-address}
+use Rattle.definition.specs.Preservation.Rows.{deprecate-fit}
+use Rattle.definition.specs.Preservation.Shrinking.{potential}
+use Rattle.state.specs.Represents.{Represents, count-addresses}
+use Rattle.step_events.specs.Emits.{rest}
+use Rattle.step_events.specs.EmitsWithin.{Fits, Ready, EmitsWithin, step-one, step-none, step-also}
 use Rattle.step_events.specs.Turns.{like-refl, like-sym, like-trans, also-like, also-assoc, Going, going-start, going-end, going-fits}
 use Rattle.step_drop_prefsrc.specs.Delete.{step-eq}
 use Rattle.step_drop_routes.specs.Turns.{step-facts}
@@ -40,10 +40,10 @@ pub due-is : (allowance now : ℕ) (a : Row) (over : Bool) → over ≡ reached 
 unfolding due
 due-is allowance now a over e = ap (λ (b : Bool). not b && over) (has-and 7 (flags a)) ∙ ap (λ (o : Bool). not (permanent a) && o) e
 
-pub fades-is : (allowance now : ℕ) (a : Row) (over : Bool) → over ≡ reached allowance (preferred a) (changed a) now
-    → (not (not (eqb (bitAnd (flags a) 128) 0)) && not (not (eqb (bitAnd (flags a) 32) 0)) && over) ≡ fades allowance now a
-unfolding fades
-fades-is allowance now a over e =
+pub deprecates-is : (allowance now : ℕ) (a : Row) (over : Bool) → over ≡ reached allowance (preferred a) (changed a) now
+    → (not (not (eqb (bitAnd (flags a) 128) 0)) && not (not (eqb (bitAnd (flags a) 32) 0)) && over) ≡ deprecates allowance now a
+unfolding deprecates
+deprecates-is allowance now a over e =
     ap (λ (b : Bool). not b && not (not (eqb (bitAnd (flags a) 32) 0)) && over) (has-and 7 (flags a))
     ∙ ap (λ (b : Bool). not (permanent a) && not b && over) (has-and 5 (flags a))
     ∙ ap (λ (o : Bool). not (permanent a) && not (deprecated a) && o) e
@@ -62,17 +62,17 @@ next-less i n left j b m l q =
     (λ e. let z : j ≡ i + 1 = q ∙ rw e in let h : n ≤ left = ltb-false left n e in omega arith)
 
 -- ---- a row that is marked
-pub marked-row : (a row z : List ℕ) → fitAddress a ≡ true → row ≡ put 0 (faded a) z → length z ≡ 20 → row ≡ faded a
-marked-row a row z f e l = e ∙ put-row (faded a) z (length-address (faded a) (faded-fit a f)) l
+pub marked-row : (a row z : List ℕ) → fitAddress a ≡ true → row ≡ put 0 (deprecate a) z → length z ≡ 20 → row ≡ deprecate a
+marked-row a row z f e l = e ∙ put-row (deprecate a) z (length-address (deprecate a) (deprecate-fit a f)) l
 
-pub marked-fits : (a row : List ℕ) → fitAddress a ≡ true → row ≡ faded a → (length row ≡ 20) × (fitAddress row ≡ true)
-marked-fits a row f e = (ap length e ∙ length-address (faded a) (faded-fit a f), ap fitAddress e ∙ faded-fit a f)
+pub marked-fits : (a row : List ℕ) → fitAddress a ≡ true → row ≡ deprecate a → (length row ≡ 20) × (fitAddress row ≡ true)
+marked-fits a row f e = (ap length e ∙ length-address (deprecate a) (deprecate-fit a f), ap fitAddress e ∙ deprecate-fit a f)
 
 -- ---- the three turns
-pub some-room : {s ev : List ℕ} → Ready weight s ev → (i : ℕ) → i < addressCount s → 34 ≤ length ev
+pub some-room : {s ev : List ℕ} → Ready potential s ev → (i : ℕ) → i < addressCount s → 34 ≤ length ev
 some-room y i b = omega (arith, y .fits .room, count-addresses (y .fits .holds))
 
-module _ (allowance now : ℕ) {st : State} {s ev : List ℕ} (row : Row) (i : ℕ) (b : i < addressCount s) (f : Fits weight st s ev) (q : row ≡ addressRow s i) where
+module _ (allowance now : ℕ) {st : State} {s ev : List ℕ} (row : Row) (i : ℕ) (b : i < addressCount s) (f : Fits potential st s ev) (q : row ≡ addressRow s i) where
   in-use : i < length (st .addresses)
   in-use = omega (arith, count-addresses (f .holds))
 
@@ -82,51 +82,51 @@ module _ (allowance now : ℕ) {st : State} {s ev : List ℕ} (row : Row) (i : �
   pub turn-there : any (eqRow row) (st .addresses) ≡ true
   turn-there = any-here (eqRow row) (st .addresses) i [] in-use (rw (← same) (eqRow-refl row))
 
-  by-row : expireTurn allowance now i st ≡ cond (due allowance now row) (removeV4 row st) (cond (fades allowance now row) (becomes (withAddresses (set (st .addresses) i (faded row)) st) (newAddr4 (faded row) ∷ [])) (stays st))
+  by-row : expireTurn allowance now i st ≡ cond (due allowance now row) (removeV4 row st) (cond (deprecates allowance now row) (becomes (withAddresses (set (st .addresses) i (deprecate row)) st) (newAddr4 (deprecate row) ∷ [])) (stays st))
   unfolding expireTurn
-  by-row = ap (λ (a : Row). cond (due allowance now a) (removeV4 a st) (cond (fades allowance now a) (becomes (withAddresses (set (st .addresses) i (faded a)) st) (newAddr4 (faded a) ∷ [])) (stays st))) (sym same)
+  by-row = ap (λ (a : Row). cond (due allowance now a) (removeV4 a st) (cond (deprecates allowance now a) (becomes (withAddresses (set (st .addresses) i (deprecate a)) st) (newAddr4 (deprecate a) ∷ [])) (stays st))) (sym same)
 
-  pub turn-due : {s′ ev′ : List ℕ} {r : ℕ} → due allowance now row ≡ true → Step weight st (removeV4 row st) s′ ev ev′ r → Step weight st (expireTurn allowance now i st) s′ ev ev′ r
+  pub turn-due : {s′ ev′ : List ℕ} {r : ℕ} → due allowance now row ≡ true → EmitsWithin potential st (removeV4 row st) s′ ev ev′ r → EmitsWithin potential st (expireTurn allowance now i st) s′ ev ev′ r
   turn-due d t = step-eq (by-row ∙ cond-true (due allowance now row) (removeV4 row st) _ d) t
 
-  pub turn-stays : due allowance now row ≡ false → fades allowance now row ≡ false → Step weight st (expireTurn allowance now i st) s ev ev 0
-  turn-stays d e = step-eq (by-row ∙ cond-false (due allowance now row) (removeV4 row st) _ d ∙ cond-false (fades allowance now row) _ (stays st) e) (step-none weight f)
+  pub turn-stays : due allowance now row ≡ false → deprecates allowance now row ≡ false → EmitsWithin potential st (expireTurn allowance now i st) s ev ev 0
+  turn-stays d e = step-eq (by-row ∙ cond-false (due allowance now row) (removeV4 row st) _ d ∙ cond-false (deprecates allowance now row) _ (stays st) e) (step-none potential f)
 
-  pub turn-fades : {s′ ev′ : List ℕ} → due allowance now row ≡ false → fades allowance now row ≡ true
-      → Holds s′ (withAddresses (set (st .addresses) i (faded row)) st) → ev′ ≡ put 0 (newAddr4 (faded row)) ev → Step weight st (expireTurn allowance now i st) s′ ev ev′ 1
+  pub turn-deprecates : {s′ ev′ : List ℕ} → due allowance now row ≡ false → deprecates allowance now row ≡ true
+      → Represents s′ (withAddresses (set (st .addresses) i (deprecate row)) st) → ev′ ≡ put 0 (newAddr4 (deprecate row)) ev → EmitsWithin potential st (expireTurn allowance now i st) s′ ev ev′ 1
   unfolding newAddr4
-  turn-fades d e h w =
+  turn-deprecates d e h w =
       let fit : fitAddress (getD (st .addresses) i []) ≡ true = all-at fitAddress i (st .addresses) [] in-use (f .holds .addressesFit) in
       let fit′ : fitAddress row ≡ true = ap fitAddress same ∙ fit in
-      let lighter : 1 + weight (withAddresses (set (st .addresses) i (faded (getD (st .addresses) i []))) st) ≤ weight st = live-lighter allowance now st i in-use fit (sym (ap (fades allowance now) same) ∙ e) in
-      step-eq (by-row ∙ cond-false (due allowance now row) (removeV4 row st) _ d ∙ cond-true (fades allowance now row) _ (stays st) e)
-      (step-one weight (withAddresses (set (st .addresses) i (faded row)) st) (newAddr4 (faded row)) f h
-      (omega (arith, length-append (faded row) (zeros 12), length-zeros 12, length-address (faded row) (faded-fit row fit′)))
+      let lighter : 1 + potential (withAddresses (set (st .addresses) i (deprecate (getD (st .addresses) i []))) st) ≤ potential st = live-lighter allowance now st i in-use fit (sym (ap (deprecates allowance now) same) ∙ e) in
+      step-eq (by-row ∙ cond-false (due allowance now row) (removeV4 row st) _ d ∙ cond-true (deprecates allowance now row) _ (stays st) e)
+      (step-one potential (withAddresses (set (st .addresses) i (deprecate row)) st) (newAddr4 (deprecate row)) f h
+      (omega (arith, length-append (deprecate row) (zeros 12), length-zeros 12, length-address (deprecate row) (deprecate-fit row fit′)))
       (rw same lighter) w)
 
 -- ---- the pass so far
 abbrev pub Expiring : ℕ → ℕ → State → ℕ → ℕ → List ℕ → List ℕ → List ℕ → Type 0
-Expiring allowance now st i k s ev₀ ev = Going weight st (expire allowance now st) (expire allowance now) (Quiet allowance now i) s ev₀ ev k
+Expiring allowance now st i k s ev₀ ev = Going potential st (expire allowance now st) (expire allowance now) (Quiet allowance now i) s ev₀ ev k
 
-pub expiring-start : (allowance now : ℕ) {st : State} {s ev : List ℕ} → Fits weight st s ev → Expiring allowance now st 0 0 s ev ev
+pub expiring-start : (allowance now : ℕ) {st : State} {s ev : List ℕ} → Fits potential st s ev → Expiring allowance now st 0 0 s ev ev
 expiring-start allowance now {st} f =
-    going-start weight (expire allowance now) (Quiet allowance now 0) f (like-refl (expire allowance now st)) (record { clean = refl; within = omega arith })
+    going-start potential (expire allowance now) (Quiet allowance now 0) f (like-refl (expire allowance now st)) (record { clean = refl; within = omega arith })
 
 module _ (allowance now i : ℕ) {st : State} {k : ℕ} {s ev₀ ev : List ℕ} (g : Expiring allowance now st i k s ev₀ ev) where
-  pub expiring-facts : {s₀ : List ℕ} → Fits weight st s₀ ev₀ → ((34 * k ≤ length ev) × (length s ≡ 9507) × (length ev ≡ length ev₀) × (k ≤ 384)) × ((i ≤ addressCount s) × (addressCount s ≤ 64))
+  pub expiring-facts : {s₀ : List ℕ} → Fits potential st s₀ ev₀ → ((34 * k ≤ length ev) × (length s ≡ 9507) × (length ev ≡ length ev₀) × (k ≤ 384)) × ((i ≤ addressCount s) × (addressCount s ≤ 64))
   expiring-facts f =
       let h = g .step .holds in
       (step-facts f (g .step), (omega (arith, count-addresses h, g .holding .within), omega (arith, count-addresses h, h .addressesWithin)))
 
   pub expiring-next : (n : ℕ) → n ≡ addressCount s → i < n → (j left : ℕ) {s′ x : List ℕ} {r : ℕ} → left ≡ addressCount s′ → j ≡ nextPlace i n left
-      → ((m : State) → Fits weight m s (rest k ev) → Step weight m (expireTurn allowance now i m) s′ (rest k ev) x r)
+      → ((m : State) → Fits potential m s (rest k ev) → EmitsWithin potential m (expireTurn allowance now i m) s′ (rest k ev) x r)
       → Expiring allowance now st j (k + r) s′ ev₀ (take (34 * k) ev ++ (x ++ drop (length ev - 34 * k) (drop (34 * k) ev)))
   unfolding also
   expiring-next n en b j left {s′} el ej t =
       let o = g .sofar in
       let m = o .state in
       let h = g .step .holds in
-      let done = t m (going-fits weight g) in
+      let done = t m (going-fits potential g) in
       let turn : State → Out = expireTurn allowance now i in
       let place : j ≡ nextPlace i (length (m .addresses)) (length ((turn m) .state .addresses)) =
       ej ∙ ap (λ (x : ℕ). nextPlace i x left) (en ∙ count-addresses h) ∙ ap (nextPlace i (length (m .addresses))) (el ∙ count-addresses (done .holds))
@@ -134,21 +134,21 @@ module _ (allowance now i : ℕ) {st : State} {k : ℕ} {s ev₀ ev : List ℕ} 
       let more = expire-turn allowance now i m (g .holding) (h .addressesFit) (omega (arith, count-addresses h)) j place in
       record {
         sofar = also o turn;
-        step = step-also weight (g .step) turn done;
+        step = step-also potential (g .step) turn done;
         goes =
             like-trans (also-assoc o turn (expire allowance now))
             (like-trans (like-sym (also-like (expire allowance now) (λ y. also (turn y) (expire allowance now)) (like-refl o) (more .0))) (g .goes));
         holding = more .1;
       }
 
-  pub expiring-end : addressCount s ≤ i → Step weight st (expire allowance now st) s ev₀ ev k
-  expiring-end b = going-end weight g (λ m h w. expire-none allowance now m i (h .clean) (omega (arith, count-addresses w)))
+  pub expiring-end : addressCount s ≤ i → EmitsWithin potential st (expire allowance now st) s ev₀ ev k
+  expiring-end b = going-end potential g (λ m h w. expire-none allowance now m i (h .clean) (omega (arith, count-addresses w)))
 
   -- no address comes
-  pub expiring-fewer : (n : ℕ) → n ≡ addressCount s → i < n → {s′ x : List ℕ} {r : ℕ} → ((m : State) → Fits weight m s (rest k ev) → Step weight m (expireTurn allowance now i m) s′ (rest k ev) x r)
+  pub expiring-fewer : (n : ℕ) → n ≡ addressCount s → i < n → {s′ x : List ℕ} {r : ℕ} → ((m : State) → Fits potential m s (rest k ev) → EmitsWithin potential m (expireTurn allowance now i m) s′ (rest k ev) x r)
       → addressCount s′ ≤ n
   expiring-fewer n en b t =
       let m = g .sofar .state in
       let h = g .step .holds in
-      let done = t m (going-fits weight g) in
+      let done = t m (going-fits potential g) in
       omega (arith, count-addresses h, count-addresses (done .holds), turn-fewer allowance now i m (omega (arith, count-addresses h)))

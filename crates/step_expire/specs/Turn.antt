@@ -22,10 +22,10 @@ use Rattle.layout.specs.Address.{fitAddress, deprecated, changed, flags}
 use Rattle.layout.specs.Event.{newAddr4}
 use Rattle.definition.specs.State.{State, Out, becomes, stays, also, through, withAddresses}
 use Rattle.definition.specs.Reference.Addresses.{rewritten}
-use Rattle.definition.specs.Reference.Removal.{removeOne, removeV4, due, fades, faded, marked, fade, expire}
+use Rattle.definition.specs.Reference.Removal.{removeOne, removeV4, due, deprecates, deprecate, marked, deprecateDue, expire}
 use Rattle.definition.specs.Laws.Expire.{expire-last, expire-again}
-use Rattle.definition.specs.Kept.Fit.{length-address}
-use Rattle.definition.specs.Kept.Shrinking.{weight, live, faded-marked, removeOne-removes}
+use Rattle.definition.specs.Preservation.Fit.{length-address}
+use Rattle.definition.specs.Preservation.Shrinking.{potential, live, deprecate-marked, removeOne-removes}
 use Rattle.step_events.specs.Turns.{Like, like-refl, like-sym, like-trans, like-eq, stays-also, also-like, also-assoc}
 use Rattle.lists.specs.Front.{none-joined, first-front, front-more, any-here}
 use Rattle.step_remove_v4.specs.Gone.{goesWith, secondaries, remove-parts, primary-there}
@@ -52,8 +52,8 @@ other-bit f =
     ap (λ (n : ℕ). eqb n 1) same
 
 module _ (allowance now : ℕ) where
-  by-words : (a : Row) → 6 ≤ length a → due allowance now (faded a) ≡ due allowance now a
-  unfolding due faded rewritten
+  by-words : (a : Row) → 6 ≤ length a → due allowance now (deprecate a) ≡ due allowance now a
+  unfolding due deprecate rewritten
   by-words (u ∷ v ∷ w ∷ x ∷ y ∷ z ∷ l) h =
       rw (clock-words (changed (u ∷ v ∷ w ∷ x ∷ y ∷ z ∷ l)), other-bit (flags (u ∷ v ∷ w ∷ x ∷ y ∷ z ∷ l)))
   by-words [] h = absurd (omega arith)
@@ -64,53 +64,53 @@ module _ (allowance now : ℕ) where
   by-words (u ∷ v ∷ w ∷ x ∷ y ∷ []) h = absurd (omega arith)
 
   -- it is due as before, and fades no more
-  due-faded : (a : Row) → fitAddress a ≡ true → due allowance now (faded a) ≡ due allowance now a
-  due-faded a h = by-words a (omega (arith, length-address a h))
+  due-deprecate : (a : Row) → fitAddress a ≡ true → due allowance now (deprecate a) ≡ due allowance now a
+  due-deprecate a h = by-words a (omega (arith, length-address a h))
 
-  fades-faded : (a : Row) → fitAddress a ≡ true → fades allowance now (faded a) ≡ false
-  unfolding fades
-  fades-faded a h = fails _ (λ e. true-false (deprecated (faded a)) (faded-marked a h) (not-true (deprecated (faded a)) ((simp and-iff at e) .0 .1)))
+  deprecates-deprecate : (a : Row) → fitAddress a ≡ true → deprecates allowance now (deprecate a) ≡ false
+  unfolding deprecates
+  deprecates-deprecate a h = fails _ (λ e. true-false (deprecated (deprecate a)) (deprecate-marked a h) (not-true (deprecated (deprecate a)) ((simp and-iff at e) .0 .1)))
 
   -- it is due or fades
   abbrev pub stirs : Row → Bool
-  stirs a = due allowance now a || fades allowance now a
+  stirs a = due allowance now a || deprecates allowance now a
 
   not-due : (l : List Row) → any stirs l ≡ false → any (due allowance now) l ≡ false
-  not-due l h = any-none stirs (due allowance now) l (λ a e. or-left (due allowance now a) (fades allowance now a) e) h
+  not-due l h = any-none stirs (due allowance now) l (λ a e. or-left (due allowance now a) (deprecates allowance now a) e) h
 
   -- ---- a pass, as lists
-  abbrev fadedList : List Row → List Row
-  fadedList l = map (marked allowance now) (until (due allowance now) l) ++ onward (due allowance now) l
+  abbrev deprecateList : List Row → List Row
+  deprecateList l = map (marked allowance now) (until (due allowance now) l) ++ onward (due allowance now) l
 
-  abbrev toldOf : List Row → List Row
-  toldOf l = map (λ a. newAddr4 (faded a)) (keep (fades allowance now) (until (due allowance now) l))
+  abbrev emittedOf : List Row → List Row
+  emittedOf l = map (λ a. newAddr4 (deprecate a)) (keep (deprecates allowance now) (until (due allowance now) l))
 
   -- a front that stays as it is
-  faded-front : (l m : List Row) → any stirs l ≡ false → fadedList (l ++ m) ≡ l ++ fadedList m
-  faded-front [] m h = refl
-  faded-front (a ∷ l) m h =
+  deprecate-front : (l m : List Row) → any stirs l ≡ false → deprecateList (l ++ m) ≡ l ++ deprecateList m
+  deprecate-front [] m h = refl
+  deprecate-front (a ∷ l) m h =
       let k = or-false (stirs a) (any stirs l) h in
-      let j = or-false (due allowance now a) (fades allowance now a) (k .0) in
-      rw (j .0, j .1) (ap (λ (x : List Row). a ∷ x) (faded-front l m (k .1)))
+      let j = or-false (due allowance now a) (deprecates allowance now a) (k .0) in
+      rw (j .0, j .1) (ap (λ (x : List Row). a ∷ x) (deprecate-front l m (k .1)))
 
-  told-front : (l m : List Row) → any stirs l ≡ false → toldOf (l ++ m) ≡ toldOf m
-  told-front [] m h = refl
-  told-front (a ∷ l) m h =
+  emitted-front : (l m : List Row) → any stirs l ≡ false → emittedOf (l ++ m) ≡ emittedOf m
+  emitted-front [] m h = refl
+  emitted-front (a ∷ l) m h =
       let k = or-false (stirs a) (any stirs l) h in
-      let j = or-false (due allowance now a) (fades allowance now a) (k .0) in
-      rw (j .0, j .1) (told-front l m (k .1))
+      let j = or-false (due allowance now a) (deprecates allowance now a) (k .0) in
+      rw (j .0, j .1) (emitted-front l m (k .1))
 
   first-behind : (l m : List Row) → any stirs l ≡ false → first (due allowance now) (l ++ m) ≡ first (due allowance now) m
   first-behind [] m h = refl
   first-behind (a ∷ l) m h =
       let k = or-false (stirs a) (any stirs l) h in
-      let j = or-false (due allowance now a) (fades allowance now a) (k .0) in
+      let j = or-false (due allowance now a) (deprecates allowance now a) (k .0) in
       rw (j .0) (first-behind l m (k .1))
 
   -- nothing is marked
-  fade-stays : (st : State) → fadedList (st .addresses) ≡ st .addresses → toldOf (st .addresses) ≡ [] → Like (fade allowance now st) (stays st)
-  unfolding fade
-  fade-stays st e f = record { leaves = ap (λ (l : List Row). withAddresses l st) e; tells = f }
+  deprecateDue-stays : (st : State) → deprecateList (st .addresses) ≡ st .addresses → emittedOf (st .addresses) ≡ [] → Like (deprecateDue allowance now st) (stays st)
+  unfolding deprecateDue
+  deprecateDue-stays st e f = record { leaves = ap (λ (l : List Row). withAddresses l st) e; sameEmitted = f }
 
   -- ---- the three cases at address i, behind a front of those that don't stir
   module _ (st : State) (i : ℕ) (clean : any stirs (take i (st .addresses)) ≡ false) where
@@ -125,85 +125,85 @@ module _ (allowance now : ℕ) where
       rest = drop (suc i) l
 
       -- it is due
-      fade-due : due allowance now a ≡ true → Like (fade allowance now st) (stays st)
-      fade-due e =
-          let here : fadedList (a ∷ rest) ≡ a ∷ rest = rw e in
-          let none : toldOf (a ∷ rest) ≡ [] = rw e in
-          fade-stays st
-          (ap fadedList (split-at l i [] b) ∙ faded-front (take i l) (a ∷ rest) clean ∙ ap (λ (x : List Row). take i l ++ x) here ∙ sym (split-at l i [] b))
-          (ap toldOf (split-at l i [] b) ∙ told-front (take i l) (a ∷ rest) clean ∙ none)
+      deprecateDue-due : due allowance now a ≡ true → Like (deprecateDue allowance now st) (stays st)
+      deprecateDue-due e =
+          let here : deprecateList (a ∷ rest) ≡ a ∷ rest = rw e in
+          let none : emittedOf (a ∷ rest) ≡ [] = rw e in
+          deprecateDue-stays st
+          (ap deprecateList (split-at l i [] b) ∙ deprecate-front (take i l) (a ∷ rest) clean ∙ ap (λ (x : List Row). take i l ++ x) here ∙ sym (split-at l i [] b))
+          (ap emittedOf (split-at l i [] b) ∙ emitted-front (take i l) (a ∷ rest) clean ∙ none)
 
       pub expire-due : due allowance now a ≡ true → Like (expire allowance now st) (also (removeV4 a st) (expire allowance now))
       expire-due e =
           let ex : State → Out = expire allowance now in
           like-trans (like-eq (expire-again allowance now st a (first-front (due allowance now) i l [] (not-due (take i l) clean) b e)))
-          (like-trans (also-like ex ex (also-like (removeV4 a) (removeV4 a) (fade-due e) (like-refl _)) (like-refl _))
+          (like-trans (also-like ex ex (also-like (removeV4 a) (removeV4 a) (deprecateDue-due e) (like-refl _)) (like-refl _))
           (also-like ex ex (stays-also st (removeV4 a)) (like-refl _)))
 
       -- it fades
-      module _ (f : fitAddress a ≡ true) (d : due allowance now a ≡ false) (e : fades allowance now a ≡ true) where
+      module _ (f : fitAddress a ≡ true) (d : due allowance now a ≡ false) (e : deprecates allowance now a ≡ true) where
         abbrev later : State
-        later = withAddresses (set l i (faded a)) st
+        later = withAddresses (set l i (deprecate a)) st
 
-        split : set l i (faded a) ≡ take i l ++ (faded a ∷ rest)
-        split = set-split l i (faded a) b
+        split : set l i (deprecate a) ≡ take i l ++ (deprecate a ∷ rest)
+        split = set-split l i (deprecate a) b
 
-        lists : fadedList l ≡ fadedList (set l i (faded a))
+        lists : deprecateList l ≡ deprecateList (set l i (deprecate a))
         lists =
-            let one : fadedList (a ∷ rest) ≡ faded a ∷ fadedList rest = rw (d, e) in
-            let two : fadedList (faded a ∷ rest) ≡ faded a ∷ fadedList rest = rw (due-faded a f ∙ d, fades-faded a f) in
-            ap fadedList (split-at l i [] b) ∙ faded-front (take i l) (a ∷ rest) clean
+            let one : deprecateList (a ∷ rest) ≡ deprecate a ∷ deprecateList rest = rw (d, e) in
+            let two : deprecateList (deprecate a ∷ rest) ≡ deprecate a ∷ deprecateList rest = rw (due-deprecate a f ∙ d, deprecates-deprecate a f) in
+            ap deprecateList (split-at l i [] b) ∙ deprecate-front (take i l) (a ∷ rest) clean
             ∙ ap (λ (x : List Row). take i l ++ x) (one ∙ sym two)
-            ∙ sym (ap fadedList split ∙ faded-front (take i l) (faded a ∷ rest) clean)
+            ∙ sym (ap deprecateList split ∙ deprecate-front (take i l) (deprecate a ∷ rest) clean)
 
-        tolds : toldOf l ≡ newAddr4 (faded a) ∷ toldOf (set l i (faded a))
+        tolds : emittedOf l ≡ newAddr4 (deprecate a) ∷ emittedOf (set l i (deprecate a))
         tolds =
-            let one : toldOf (a ∷ rest) ≡ newAddr4 (faded a) ∷ toldOf rest = rw (d, e) in
-            let two : toldOf (faded a ∷ rest) ≡ toldOf rest = rw (due-faded a f ∙ d, fades-faded a f) in
-            ap toldOf (split-at l i [] b) ∙ told-front (take i l) (a ∷ rest) clean ∙ one
-            ∙ ap (λ (x : List Row). newAddr4 (faded a) ∷ x) (sym (ap toldOf split ∙ told-front (take i l) (faded a ∷ rest) clean ∙ two))
+            let one : emittedOf (a ∷ rest) ≡ newAddr4 (deprecate a) ∷ emittedOf rest = rw (d, e) in
+            let two : emittedOf (deprecate a ∷ rest) ≡ emittedOf rest = rw (due-deprecate a f ∙ d, deprecates-deprecate a f) in
+            ap emittedOf (split-at l i [] b) ∙ emitted-front (take i l) (a ∷ rest) clean ∙ one
+            ∙ ap (λ (x : List Row). newAddr4 (deprecate a) ∷ x) (sym (ap emittedOf split ∙ emitted-front (take i l) (deprecate a ∷ rest) clean ∙ two))
 
         abbrev marks : Out
-        marks = becomes later (newAddr4 (faded a) ∷ [])
+        marks = becomes later (newAddr4 (deprecate a) ∷ [])
 
-        fade-later : Like (fade allowance now st) (also marks (fade allowance now))
-        unfolding also fade
-        fade-later = record { leaves = ap (λ (x : List Row). withAddresses x st) lists; tells = tolds }
+        deprecateDue-later : Like (deprecateDue allowance now st) (also marks (deprecateDue allowance now))
+        unfolding also deprecateDue
+        deprecateDue-later = record { leaves = ap (λ (x : List Row). withAddresses x st) lists; sameEmitted = tolds }
 
-        same-first : first (due allowance now) l ≡ first (due allowance now) (set l i (faded a))
+        same-first : first (due allowance now) l ≡ first (due allowance now) (set l i (deprecate a))
         same-first =
             let one : first (due allowance now) (a ∷ rest) ≡ first (due allowance now) rest = rw d in
-            let two : first (due allowance now) (faded a ∷ rest) ≡ first (due allowance now) rest = rw (due-faded a f ∙ d) in
+            let two : first (due allowance now) (deprecate a ∷ rest) ≡ first (due allowance now) rest = rw (due-deprecate a f ∙ d) in
             ap (first (due allowance now)) (split-at l i [] b) ∙ first-behind (take i l) (a ∷ rest) clean
-            ∙ one ∙ sym (ap (first (due allowance now)) split ∙ first-behind (take i l) (faded a ∷ rest) clean ∙ two)
+            ∙ one ∙ sym (ap (first (due allowance now)) split ∙ first-behind (take i l) (deprecate a ∷ rest) clean ∙ two)
 
-        pub expire-fades : Like (expire allowance now st) (also marks (expire allowance now))
-        expire-fades = go (first (due allowance now) l) refl
+        pub expire-deprecates : Like (expire allowance now st) (also marks (expire allowance now))
+        expire-deprecates = go (first (due allowance now) l) refl
           where
             go : (o : Option Row) → first (due allowance now) l ≡ o → Like (expire allowance now st) (also marks (expire allowance now))
             go none q =
                 like-trans (like-eq (expire-last allowance now st q))
-                (like-trans fade-later (also-like (fade allowance now) (expire allowance now) (like-refl marks) (like-eq (sym (expire-last allowance now later (sym same-first ∙ q))))))
+                (like-trans deprecateDue-later (also-like (deprecateDue allowance now) (expire allowance now) (like-refl marks) (like-eq (sym (expire-last allowance now later (sym same-first ∙ q))))))
             go (some c) q =
                 let ex : State → Out = expire allowance now in
-                let fd : State → Out = fade allowance now in
+                let fd : State → Out = deprecateDue allowance now in
                 let whole : State → Out = λ s. also (also (fd s) (removeV4 c)) ex in
                 like-trans (like-eq (expire-again allowance now st c q))
-                (like-trans (also-like ex ex (also-like (removeV4 c) (removeV4 c) fade-later (like-refl _)) (like-refl _))
+                (like-trans (also-like ex ex (also-like (removeV4 c) (removeV4 c) deprecateDue-later (like-refl _)) (like-refl _))
                 (like-trans (also-like ex ex (also-assoc marks fd (removeV4 c)) (like-refl _))
                 (like-trans (also-assoc marks (λ s. also (fd s) (removeV4 c)) ex)
                 (also-like whole ex (like-refl marks) (like-eq (sym (expire-again allowance now later c (sym same-first ∙ q))))))))
 
         -- the front is one longer
-        pub fades-clean : any stirs (take (i + 1) (set l i (faded a))) ≡ false
-        fades-clean =
-            let two : stirs (faded a) ≡ false = rw (due-faded a f ∙ d, fades-faded a f) in
+        pub deprecates-clean : any stirs (take (i + 1) (set l i (deprecate a))) ≡ false
+        deprecates-clean =
+            let two : stirs (deprecate a) ≡ false = rw (due-deprecate a f ∙ d, deprecates-deprecate a f) in
             let long : length (take i l) ≡ i = length-take-le i l (omega arith) in
-            let there : take (i + 1) (set l i (faded a)) ≡ take i l ++ (faded a ∷ []) =
-            ap (take (i + 1)) (split ∙ sym (append-assoc (take i l) (faded a ∷ []) rest))
-            ∙ take-at (take i l ++ (faded a ∷ [])) rest (i + 1) (length-append (take i l) (faded a ∷ []) ∙ ap (λ (n : ℕ). n + 1) long)
+            let there : take (i + 1) (set l i (deprecate a)) ≡ take i l ++ (deprecate a ∷ []) =
+            ap (take (i + 1)) (split ∙ sym (append-assoc (take i l) (deprecate a ∷ []) rest))
+            ∙ take-at (take i l ++ (deprecate a ∷ [])) rest (i + 1) (length-append (take i l) (deprecate a ∷ []) ∙ ap (λ (n : ℕ). n + 1) long)
             in
-            rw there (none-joined stirs (take i l) (faded a ∷ []) clean (rw two))
+            rw there (none-joined stirs (take i l) (deprecate a ∷ []) clean (rw two))
 
     -- none is left
     pub expire-none : length l ≤ i → Like (expire allowance now st) (stays st)
@@ -211,15 +211,15 @@ module _ (allowance now : ℕ) where
         let whole : any stirs l ≡ false = rw (take-all i l b) at clean in
         let back : l ++ [] ≡ l = append-nil l in
         like-trans (like-eq (expire-last allowance now st (ap (first (due allowance now)) (sym back) ∙ first-behind l [] whole)))
-        (fade-stays st (ap fadedList (sym back) ∙ faded-front l [] whole ∙ back) (ap toldOf (sym back) ∙ told-front l [] whole))
+        (deprecateDue-stays st (ap deprecateList (sym back) ∙ deprecate-front l [] whole ∙ back) (ap emittedOf (sym back) ∙ emitted-front l [] whole))
 
   -- ---- a turn
   -- what comes of the address at i
   unfoldable pub expireTurn : ℕ → State → Out
   expireTurn i st =
       cond (due allowance now (getD (st .addresses) i [])) (removeV4 (getD (st .addresses) i []) st)
-      (cond (fades allowance now (getD (st .addresses) i []))
-      (becomes (withAddresses (set (st .addresses) i (faded (getD (st .addresses) i []))) st) (newAddr4 (faded (getD (st .addresses) i [])) ∷ []))
+      (cond (deprecates allowance now (getD (st .addresses) i []))
+      (becomes (withAddresses (set (st .addresses) i (deprecate (getD (st .addresses) i []))) st) (newAddr4 (deprecate (getD (st .addresses) i [])) ∷ []))
       (stays st))
 
   -- of the addresses those before i don't stir
@@ -265,29 +265,29 @@ module _ (allowance now : ℕ) (i : ℕ) (st : State) (h : Quiet allowance now i
       let fewer = removed-fewer here st (any-here (eqRow here) (st .addresses) i [] b (eqRow-refl here)) in
       let none : j ≡ 0 = q ∙ rw (d, lt-ltb (length ((removeV4 here st) .state .addresses)) (length (st .addresses)) fewer) in
       rw (none, d) (expire-due allowance now st i (h .clean) b d, record { clean = refl; within = omega arith }))
-      (λ d. test-case (fades allowance now here)
+      (λ d. test-case (deprecates allowance now here)
       (λ e.
       let f : fitAddress here ≡ true = all-at fitAddress i (st .addresses) [] b fit in
-      let same : length (set (st .addresses) i (faded here)) ≡ length (st .addresses) = length-set (st .addresses) i (faded here) in
-      let next : j ≡ i + 1 = q ∙ rw (d, e, le-ltb (length (set (st .addresses) i (faded here))) (length (st .addresses)) (omega arith)) in
-      rw (next, d, e) (expire-fades allowance now st i (h .clean) b f d e, record { clean = fades-clean allowance now st i (h .clean) b f d e; within = omega arith }))
+      let same : length (set (st .addresses) i (deprecate here)) ≡ length (st .addresses) = length-set (st .addresses) i (deprecate here) in
+      let next : j ≡ i + 1 = q ∙ rw (d, e, le-ltb (length (set (st .addresses) i (deprecate here))) (length (st .addresses)) (omega arith)) in
+      rw (next, d, e) (expire-deprecates allowance now st i (h .clean) b f d e, record { clean = deprecates-clean allowance now st i (h .clean) b f d e; within = omega arith }))
       (λ e.
       let next : j ≡ i + 1 = q ∙ rw (d, e, le-ltb (length (st .addresses)) (length (st .addresses)) (omega arith)) in
       rw (next, d, e) (like-sym (stays-also st (expire allowance now)), record { clean = front-more (stirs allowance now) i (st .addresses) [] (h .clean) b (rw (d, e)); within = omega arith })))
 
 -- one that fades counts no longer
-pub live-lighter : (allowance now : ℕ) (st : State) (i : ℕ) → i < length (st .addresses) → fitAddress (getD (st .addresses) i []) ≡ true → fades allowance now (getD (st .addresses) i []) ≡ true
-    → 1 + weight (withAddresses (set (st .addresses) i (faded (getD (st .addresses) i []))) st) ≤ weight st
-unfolding fades
+pub live-lighter : (allowance now : ℕ) (st : State) (i : ℕ) → i < length (st .addresses) → fitAddress (getD (st .addresses) i []) ≡ true → deprecates allowance now (getD (st .addresses) i []) ≡ true
+    → 1 + potential (withAddresses (set (st .addresses) i (deprecate (getD (st .addresses) i []))) st) ≤ potential st
+unfolding deprecates
 live-lighter allowance now st i b f e =
     let l = st .addresses in
     let a = getD l i [] in
     let rest = drop (suc i) l in
     let alive : live a ≡ true = (simp and-iff at e) .0 .1 in
-    let dead : live (faded a) ≡ false = ap not (faded-marked a f) in
+    let dead : live (deprecate a) ≡ false = ap not (deprecate-marked a f) in
     let one : count live l ≡ count live (take i l) + count live (a ∷ rest) = ap (count live) (split-at l i [] b) ∙ count-append live (take i l) (a ∷ rest) in
-    let two : count live (set l i (faded a)) ≡ count live (take i l) + count live (faded a ∷ rest) = ap (count live) (set-split l i (faded a) b) ∙ count-append live (take i l) (faded a ∷ rest) in
-    omega (arith, one, two, tick-one (live a) alive, tick-none (live (faded a)) dead, length-set l i (faded a))
+    let two : count live (set l i (deprecate a)) ≡ count live (take i l) + count live (deprecate a ∷ rest) = ap (count live) (set-split l i (deprecate a) b) ∙ count-append live (take i l) (deprecate a ∷ rest) in
+    omega (arith, one, two, tick-one (live a) alive, tick-none (live (deprecate a)) dead, length-set l i (deprecate a))
 
 pub turn-fewer : (allowance now i : ℕ) (st : State) → i < length (st .addresses) → length ((expireTurn allowance now i st) .state .addresses) ≤ length (st .addresses)
 unfolding expireTurn
@@ -295,4 +295,4 @@ turn-fewer allowance now i st b =
     let a = getD (st .addresses) i [] in
     cond-case (λ (o : Out). length (o .state .addresses) ≤ length (st .addresses)) (due allowance now a)
     (λ d. omega (arith, removed-fewer a st (any-here (eqRow a) (st .addresses) i [] b (eqRow-refl a))))
-    (λ d. cond-case (λ (o : Out). length (o .state .addresses) ≤ length (st .addresses)) (fades allowance now a) (λ e. omega (arith, length-set (st .addresses) i (faded a))) (λ e. omega arith))
+    (λ d. cond-case (λ (o : Out). length (o .state .addresses) ≤ length (st .addresses)) (deprecates allowance now a) (λ e. omega (arith, length-set (st .addresses) i (deprecate a))) (λ e. omega arith))

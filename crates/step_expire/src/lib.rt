@@ -9,10 +9,10 @@ ghost use Rattle.layout.specs.Address.{fitAddress};
 ghost use Rattle.layout.specs.Event.{newAddr4};
 ghost use Rattle.definition.specs.State.{State, withAddresses};
 ghost use Rattle.definition.specs.Words.{addressCount};
-ghost use Rattle.definition.specs.Reference.Removal.{due, fades, faded, expire};
-ghost use Rattle.definition.specs.Kept.Shrinking.{weight};
-ghost use Rattle.state.specs.Holds.{Holds, Valid};
-ghost use Rattle.step_events.specs.Step.{Fits, Ready, Step};
+ghost use Rattle.definition.specs.Reference.Removal.{due, deprecates, deprecate, expire};
+ghost use Rattle.definition.specs.Preservation.Shrinking.{potential};
+ghost use Rattle.state.specs.Represents.{Represents, Valid};
+ghost use Rattle.step_events.specs.EmitsWithin.{Fits, Ready, EmitsWithin};
 ghost use Rattle.step_expire.specs.Turn.{expireTurn, nextPlace};
 
 // Its valid lifetime is reached; a permanent address never runs out.
@@ -28,9 +28,9 @@ fn due(a: &[u32], allowance: Nanoseconds, clock: Nanoseconds) -> bool
 }
 
 // Its preferred lifetime is reached, and that isn't marked yet.
-fn fades(a: &[u32], allowance: Nanoseconds, clock: Nanoseconds) -> bool
+fn deprecates(a: &[u32], allowance: Nanoseconds, clock: Nanoseconds) -> bool
     requires { ⌜ length (now a) ≡ 20 ⌝ }
-    ensures { λ r. ⌜ r ≡ fades (allowance .0) (clock .0) (now (a .entry)) ⌝ }
+    ensures { λ r. ⌜ r ≡ deprecates (allowance .0) (clock .0) (now (a .entry)) ⌝ }
 {
     let lasting = a[6] & row_address::PERMANENT != 0;
     let marked = a[6] & row_address::DEPRECATED != 0;
@@ -44,11 +44,11 @@ fn fades(a: &[u32], allowance: Nanoseconds, clock: Nanoseconds) -> bool
 fn mark(s: &mut [u32], ev: &mut [u32], i: usize, a: &[u32])
     requires { ⌜ Valid (now s) ⌝ }
     requires { ⌜ (i < addressCount (now s)) × (34 ≤ length (now ev)) × (fitAddress (now a) ≡ true) ⌝ }
-    ensures { λ _. ⌜ now (ev .exit) ≡ put 0 (newAddr4 (faded (now (a .entry)))) (now (ev .entry)) ⌝ }
-    ensures { λ _. ⌜ ((st : State) → Holds (now (s .entry)) st → Holds (now (s .exit)) (withAddresses (set (st .addresses) i (faded (now (a .entry)))) st)) ⌝ }
+    ensures { λ _. ⌜ now (ev .exit) ≡ put 0 (newAddr4 (deprecate (now (a .entry)))) (now (ev .entry)) ⌝ }
+    ensures { λ _. ⌜ ((st : State) → Represents (now (s .entry)) st → Represents (now (s .exit)) (withAddresses (set (st .addresses) i (deprecate (now (a .entry)))) st)) ⌝ }
 {
     let mut row = [0u32; 20];
-    row_update::faded(a, &mut row);
+    row_update::deprecate(a, &mut row);
     step_events::new_addr4(ev, &row);
     state::replace_address(s, i, &row);
 }
@@ -61,9 +61,9 @@ fn turn(
     allowance: Nanoseconds,
     clock: Nanoseconds,
 ) -> usize
-    requires { ⌜ Ready weight (now s) (now ev) ⌝ }
+    requires { ⌜ Ready potential (now s) (now ev) ⌝ }
     requires { ⌜ i < addressCount (now s) ⌝ }
-    ensures { λ r. ⌜ ((st : State) → Fits weight st (now (s .entry)) (now (ev .entry)) → Step weight st (expireTurn (allowance .0) (clock .0) i st) (now (s .exit)) (now (ev .entry)) (now (ev .exit)) r) ⌝ }
+    ensures { λ r. ⌜ ((st : State) → Fits potential st (now (s .entry)) (now (ev .entry)) → EmitsWithin potential st (expireTurn (allowance .0) (clock .0) i st) (now (s .exit)) (now (ev .entry)) (now (ev .exit)) r) ⌝ }
 {
     let at = 3 + 20 * i;
     let end = at + 20;
@@ -72,7 +72,7 @@ fn turn(
     if due(&row, allowance, clock) {
         return step_remove_v4::remove_v4(s, ev, &row);
     }
-    if fades(&row, allowance, clock) {
+    if deprecates(&row, allowance, clock) {
         mark(s, ev, i, &row);
         return 1;
     }
@@ -92,8 +92,8 @@ fn next(i: usize, was: usize, left: usize) -> usize
 
 // Every address that is due goes, each that fades is marked; the number of rows told.
 pub fn expire(s: &mut [u32], ev: &mut [u32], allowance: Nanoseconds, clock: Nanoseconds) -> usize
-    requires { ⌜ Ready weight (now s) (now ev) ⌝ }
-    ensures { λ r. ⌜ ((st : State) → Fits weight st (now (s .entry)) (now (ev .entry)) → Step weight st (expire (allowance .0) (clock .0) st) (now (s .exit)) (now (ev .entry)) (now (ev .exit)) r) ⌝ }
+    requires { ⌜ Ready potential (now s) (now ev) ⌝ }
+    ensures { λ r. ⌜ ((st : State) → Fits potential st (now (s .entry)) (now (ev .entry)) → EmitsWithin potential st (expire (allowance .0) (clock .0) st) (now (s .exit)) (now (ev .entry)) (now (ev .exit)) r) ⌝ }
 {
     let mut i = 0usize;
     let mut k = 0usize;

@@ -16,8 +16,8 @@ use Rattle.lists.specs.Laid.{Laid, laid-part}
 use Rattle.lists.specs.Pass.{part, laid-rows}
 use Rattle.layout.specs.Route.{before, dst, fitRoute}
 use Rattle.definition.specs.Words.{ordered}
-use Rattle.definition.specs.Kept.Order.{before-never}
-use Rattle.step_insert.specs.Run.{Sofar, Run, sofar-next, sofar-stop, sofar-end}
+use Rattle.definition.specs.Preservation.Order.{before-never}
+use Rattle.step_insert.specs.Run.{LoopInvariant, Run, sofar-next, sofar-stop, sofar-end}
 
 -- rows with different destinations differ
 pub not-same : (a b : Row) → (dst a ≡ dst b → ⊥) → false ≡ eqRow a b
@@ -31,17 +31,17 @@ module _ (w : List ℕ) (n : ℕ) (long : length w ≡ 32 * n) where
   pub part-row : (l : List Row) → Laid 32 fitRoute w l → (i : ℕ) → i < n → part 32 w i ≡ getD l i []
   part-row l h i b = laid-part h i (omega (arith, laid-rows w n (lit< tt) long l h))
 
-  module _ (new : Row) (l : List Row) (h : Laid 32 fitRoute w l) (i start : ℕ) (there : Bool) (s : Sofar new l i start there) where
-    pub pass-next : i < n → before new (part 32 w i) ≡ false → Sofar new l (i + 1) (start + tick (before (part 32 w i) new)) (there || eqRow new (part 32 w i))
+  module _ (new : Row) (l : List Row) (h : Laid 32 fitRoute w l) (i start : ℕ) (there : Bool) (s : LoopInvariant new l i start there) where
+    pub pass-next : i < n → before new (part 32 w i) ≡ false → LoopInvariant new l (i + 1) (start + tick (before (part 32 w i) new)) (there || eqRow new (part 32 w i))
     pass-next b e =
         rw (part-row l h i b) (sofar-next new l i start there s (omega (arith, laid-rows w n (lit< tt) long l h)) (rw (part-row l h i b) at e))
 
     -- a row to a lower destination
-    pub pass-lower : i < n → dst (part 32 w i) < dst new → start ≡ i → there ≡ false → Sofar new l (i + 1) (i + 1) false
+    pub pass-lower : i < n → dst (part 32 w i) < dst new → start ≡ i → there ≡ false → LoopInvariant new l (i + 1) (i + 1) false
     pass-lower b d e f =
         let r : Row = part 32 w i in
         let front : before r new ≡ true = lower-before r new d in
-        let m : Sofar new l (i + 1) (start + tick (before r new)) (there || eqRow new r) = pass-next b (fails (before new r) (λ k. before-never r new front k)) in
+        let m : LoopInvariant new l (i + 1) (start + tick (before r new)) (there || eqRow new r) = pass-next b (fails (before new r) (λ k. before-never r new front k)) in
         rw (front, f, ← (not-same new r (λ k. omega (arith, k))), e) at m
 
     pub pass-stop : i < n → before new (part 32 w i) ≡ true → ordered l ≡ true → Run new l start i there

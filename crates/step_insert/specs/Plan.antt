@@ -18,8 +18,8 @@ use Rattle.layout.specs.Bits.{has-and}
 use Rattle.layout.specs.Route.{alike}
 use Rattle.definition.specs.State.{State, withRoutes}
 use Rattle.definition.specs.Words.{ordered, fitState}
-use Rattle.definition.specs.Kept.Fit.{fit-state}
-use Rattle.state.specs.Holds.{Holds}
+use Rattle.definition.specs.Preservation.Fit.{fit-state}
+use Rattle.state.specs.Represents.{Represents}
 use Rattle.lists.specs.Bools.{cond-case}
 use Rattle.definition.specs.Reference.Insert as Insert
 use Rattle.definition.specs.Reference.Insert.{ahead, insert4, exclFlag, replaceFlag, createFlag, appendFlag}
@@ -31,21 +31,21 @@ use Rattle.step_insert.specs.declared.Inserted.the-variants.{Put, Nothin
 
 -- what a plan comes to
 abbrev pub planned : Row → List Row → Plan → Insert.Inserted
-planned new l (Add i told) = Insert.put (insertAt i new l) told
+planned new l (Add i emitted) = Insert.put (insertAt i new l) emitted
 planned new l (Replace i) = Insert.put (set l i new) 0x100
 planned new l Keep = Insert.nothing
 planned new l (Refuse n) = Insert.refused n
 
 -- its place is one of the rows, or behind them for one more
 abbrev pub placed : ℕ → Plan → Type 0
-placed n (Add i told) = i ≤ n
+placed n (Add i emitted) = i ≤ n
 placed n (Replace i) = i < n
 placed n Keep = Unit {0}
 placed n (Refuse k) = Unit {0}
 
 -- a row more, at a place: only with CREATE
 abbrev pub created : ℕ → ℕ → ℕ → Plan
-created flags place told = cond (createFlag flags) (Add place told) (Refuse 2)
+created flags place emitted = cond (createFlag flags) (Add place emitted) (Refuse 2)
 
 -- in place of the first alike row
 abbrev pub replacing : ℕ → Bool → Bool → Plan
@@ -100,12 +100,12 @@ module _ (new : Row) (flags : ℕ) (l : List Row) where
 -- ---- the words
 -- what came of it, and the rows afterwards, by how many there may be
 abbrev pub answerOf : Insert.Inserted → Inserted
-answerOf (Insert.put rows told) = cond (leb (length rows) 256) (Put told) Full
+answerOf (Insert.put rows emitted) = cond (leb (length rows) 256) (Put emitted) Full
 answerOf Insert.nothing = Nothing
 answerOf (Insert.refused n) = Refused n
 
 abbrev pub rowsAfter : Insert.Inserted → List Row → List Row
-rowsAfter (Insert.put rows told) old = cond (leb (length rows) 256) rows old
+rowsAfter (Insert.put rows emitted) old = cond (leb (length rows) 256) rows old
 rowsAfter Insert.nothing old = old
 rowsAfter (Insert.refused n) old = old
 
@@ -114,8 +114,8 @@ pub flag-is : (k f : ℕ) (b t : Bool) → b ≡ not (eqb (bitAnd f (2 ^ k)) 0) 
 flag-is k f b t e g = sym (has-and k f) ∙ sym e ∙ g
 
 -- ---- places
-pub placed-created : (n flags place told : ℕ) → place ≤ n → placed n (created flags place told)
-placed-created n flags place told h = cond-case (placed n) (createFlag flags) (λ e. h) (λ e. tt)
+pub placed-created : (n flags place emitted : ℕ) → place ≤ n → placed n (created flags place emitted)
+placed-created n flags place emitted h = cond-case (placed n) (createFlag flags) (λ e. h) (λ e. tt)
 
 pub placed-among : (n flags start end : ℕ) (there f : Bool) → start < n → end ≤ n → placed n (among flags start end there f)
 placed-among n flags start end there f g h =
@@ -128,35 +128,35 @@ placed-among n flags start end there f g h =
 -- ---- words that hold a state, with a row put in
 pub record InsertedInto (new : Row) (flags : ℕ) (st : State) (w : List ℕ) (r : Inserted) : Type 0 where
   pub answer : r ≡ answerOf (insert4 new flags (st .routes))
-  pub holds : Holds w (withRoutes (rowsAfter (insert4 new flags (st .routes)) (st .routes)) st)
+  pub holds : Represents w (withRoutes (rowsAfter (insert4 new flags (st .routes)) (st .routes)) st)
 
 module _ (new : Row) (flags : ℕ) (st : State) (p : Plan) (e : planned new (st .routes) p ≡ insert4 new flags (st .routes)) where
-  pub into-full : {w : List ℕ} → Holds w st → (i told : ℕ) → p ≡ Add i told → i ≤ length (st .routes) → length (st .routes) ≡ 256 → InsertedInto new flags st w Full
-  into-full {w} h i told q b n =
+  pub into-full : {w : List ℕ} → Represents w st → (i emitted : ℕ) → p ≡ Add i emitted → i ≤ length (st .routes) → length (st .routes) ≡ 256 → InsertedInto new flags st w Full
+  into-full {w} h i emitted q b n =
       let long : leb (length (insertAt i new (st .routes))) 256 ≡ false = lt-leb (length (insertAt i new (st .routes))) 256 (omega (arith, length-insertAt i new (st .routes) b)) in
-      let is : insert4 new flags (st .routes) ≡ Insert.put (insertAt i new (st .routes)) told = sym e ∙ ap (planned new (st .routes)) q in
+      let is : insert4 new flags (st .routes) ≡ Insert.put (insertAt i new (st .routes)) emitted = sym e ∙ ap (planned new (st .routes)) q in
       record { answer = rw (is, long); holds = rw (is, long) h }
 
-  pub into-put : {w : List ℕ} (i told : ℕ) → p ≡ Add i told → i ≤ length (st .routes) → length (st .routes) < 256
-      → Holds w (withRoutes (insertAt i new (st .routes)) st) → InsertedInto new flags st w (Put told)
-  into-put {w} i told q b n h =
+  pub into-put : {w : List ℕ} (i emitted : ℕ) → p ≡ Add i emitted → i ≤ length (st .routes) → length (st .routes) < 256
+      → Represents w (withRoutes (insertAt i new (st .routes)) st) → InsertedInto new flags st w (Put emitted)
+  into-put {w} i emitted q b n h =
       let long : leb (length (insertAt i new (st .routes))) 256 ≡ true = le-leb (length (insertAt i new (st .routes))) 256 (omega (arith, length-insertAt i new (st .routes) b)) in
-      let is : insert4 new flags (st .routes) ≡ Insert.put (insertAt i new (st .routes)) told = sym e ∙ ap (planned new (st .routes)) q in
+      let is : insert4 new flags (st .routes) ≡ Insert.put (insertAt i new (st .routes)) emitted = sym e ∙ ap (planned new (st .routes)) q in
       record { answer = rw (is, long); holds = rw (is, long) h }
 
   pub into-replaced : {w : List ℕ} (i : ℕ) → p ≡ Replace i → length (st .routes) ≤ 256
-      → Holds w (withRoutes (set (st .routes) i new) st) → InsertedInto new flags st w (Put 0x100)
+      → Represents w (withRoutes (set (st .routes) i new) st) → InsertedInto new flags st w (Put 0x100)
   into-replaced {w} i q n h =
       let long : leb (length (set (st .routes) i new)) 256 ≡ true = le-leb (length (set (st .routes) i new)) 256 (omega (arith, length-set (st .routes) i new)) in
       let is : insert4 new flags (st .routes) ≡ Insert.put (set (st .routes) i new) 0x100 = sym e ∙ ap (planned new (st .routes)) q in
       record { answer = rw (is, long); holds = rw (is, long) h }
 
-  pub into-kept : {w : List ℕ} → Holds w st → p ≡ Keep → InsertedInto new flags st w Nothing
+  pub into-kept : {w : List ℕ} → Represents w st → p ≡ Keep → InsertedInto new flags st w Nothing
   into-kept {w} h q =
       let is : insert4 new flags (st .routes) ≡ Insert.nothing = sym e ∙ ap (planned new (st .routes)) q in
       record { answer = rw is; holds = rw is h }
 
-  pub into-refused : {w : List ℕ} → Holds w st → (n : ℕ) → p ≡ Refuse n → InsertedInto new flags st w (Refused n)
+  pub into-refused : {w : List ℕ} → Represents w st → (n : ℕ) → p ≡ Refuse n → InsertedInto new flags st w (Refused n)
   into-refused {w} h n q =
       let is : insert4 new flags (st .routes) ≡ Insert.refused n = sym e ∙ ap (planned new (st .routes)) q in
       record { answer = rw is; holds = rw is h }
@@ -165,8 +165,8 @@ module _ (new : Row) (flags : ℕ) (st : State) (p : Plan) (e : planned new (st 
 pub in-order : (st : State) → fitState st ≡ true → ordered (st .routes) ≡ true
 in-order st h = fit-state st h .ofRoutes .inOrder
 
-pub add-place : (n : ℕ) (p : Plan) (i told : ℕ) → placed n p → p ≡ Add i told → i ≤ n
-add-place n p i told h q = rw q at h
+pub add-place : (n : ℕ) (p : Plan) (i emitted : ℕ) → placed n p → p ≡ Add i emitted → i ≤ n
+add-place n p i emitted h q = rw q at h
 
 pub replace-place : (n : ℕ) (p : Plan) (i : ℕ) → placed n p → p ≡ Replace i → i < n
 replace-place n p i h q = rw q at h

@@ -18,11 +18,11 @@ use Rattle.lists.specs.Split.{any-joined, pairwise-drop, count-all, count-sum, 
 use Rattle.layout.specs.Route.{before, alike}
 use Rattle.definition.specs.Words.{ordered}
 use Rattle.definition.specs.Reference.Insert.{ahead, behind}
-use Rattle.definition.specs.Kept.Order.{before-never, alike-before, before-alike, alike-sym, alike-refl, level-alike}
-use Rattle.definition.specs.Runs.Struck.{before-between, split-ahead, split-behind}
+use Rattle.definition.specs.Preservation.Order.{before-never, alike-before, before-alike, alike-sym, alike-refl, level-alike}
+use Rattle.definition.specs.Noninterference.Struck.{before-between, split-ahead, split-behind}
 
 -- the first i rows looked at: how many are before the new one, none after it, whether it is among them
-pub record Sofar (new : Row) (l : List Row) (i start : ℕ) (there : Bool) : Type 0 where
+pub record LoopInvariant (new : Row) (l : List Row) (i start : ℕ) (there : Bool) : Type 0 where
   pub begins : start ≡ count (λ r. before r new) (take i l)
   pub goes-on : all (λ r. not (before new r)) (take i l) ≡ true
   pub is-there : there ≡ any (eqRow new) (take i l)
@@ -73,12 +73,12 @@ module _ (new : Row) where
       (λ y e. fails (before y new) (λ f. test-case (before y x) (λ g. not-both (before y x) g e) (λ g. true-false (before x new) (before-between y x new f g) h))) k
 
   -- ---- the pass
-  pub sofar-start : (l : List Row) → Sofar new l 0 0 false
+  pub sofar-start : (l : List Row) → LoopInvariant new l 0 0 false
   sofar-start l = record { begins = refl; goes-on = refl; is-there = refl }
 
-  module _ (l : List Row) (i start : ℕ) (there : Bool) (s : Sofar new l i start there) where
+  module _ (l : List Row) (i start : ℕ) (there : Bool) (s : LoopInvariant new l i start there) where
     pub sofar-next : i < length l → before new (getD l i []) ≡ false
-        → Sofar new l (i + 1) (start + tick (before (getD l i []) new)) (there || eqRow new (getD l i []))
+        → LoopInvariant new l (i + 1) (start + tick (before (getD l i []) new)) (there || eqRow new (getD l i []))
     sofar-next h e =
         record {
           begins = omega (arith, s .begins, count-more l i [] h (λ r. before r new));

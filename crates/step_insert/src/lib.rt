@@ -13,8 +13,8 @@ ghost use Rattle.layout.specs.Route.{fitRoute};
 ghost use Rattle.definition.specs.State.{State};
 ghost use Rattle.definition.specs.Words.{ordered, fitState};
 ghost use Rattle.definition.specs.Reference.Insert.{insert4};
-ghost use Rattle.state.specs.Holds.{Holds, Valid};
-ghost use Rattle.step_insert.specs.Run.{Sofar, Run};
+ghost use Rattle.state.specs.Represents.{Represents, Valid};
+ghost use Rattle.step_insert.specs.Run.{LoopInvariant, Run};
 ghost use Rattle.step_insert.specs.Plan.{planned, placed, created, replacing, among, InsertedInto};
 
 // Whether the rows are the same.
@@ -48,7 +48,7 @@ pub struct Alike {
 fn lower(rows: &[u32], n: usize, new: &[u32]) -> usize
     requires { ⌜ (length (now rows) ≡ 32 * n) × Lays 32 fitRoute (now rows) ⌝ }
     requires { ⌜ length (now new) ≡ 32 ⌝ }
-    ensures { λ r. ⌜ ((l : List Row) → Laid 32 fitRoute (now (rows .entry)) l → Sofar (now (new .entry)) l r r false) ⌝ }
+    ensures { λ r. ⌜ ((l : List Row) → Laid 32 fitRoute (now (rows .entry)) l → LoopInvariant (now (new .entry)) l r r false) ⌝ }
     ensures { λ r. ⌜ r ≤ n ⌝ }
 {
     let dst = new[1];
@@ -127,11 +127,11 @@ fn has(flags: u32, bit: u32) -> bool
     flags & bit != 0
 }
 
-fn created(flags: u32, place: usize, told: u32) -> Plan
-    ensures { λ r. ⌜ r ≡ created flags place told ⌝ }
+fn created(flags: u32, place: usize, emitted: u32) -> Plan
+    ensures { λ r. ⌜ r ≡ created flags place emitted ⌝ }
 {
     if has(flags, CREATE) {
-        return Plan::Add(place, told);
+        return Plan::Add(place, emitted);
     }
     Plan::Refuse(layout::NO_ENTRY)
 }
@@ -189,17 +189,17 @@ pub fn insert4(s: &mut [u32], new: &[u32], flags: u32) -> Inserted
     requires { ⌜ Valid (now s) ⌝ }
     requires { ⌜ fitRoute (now new) ≡ true ⌝ }
     ensures { λ r. ⌜ Valid (now (s .exit)) ⌝ }
-    ensures { λ r. ⌜ ((st : State) → Holds (now (s .entry)) st → fitState st ≡ true → InsertedInto (now (new .entry)) flags st (now (s .exit)) r) ⌝ }
+    ensures { λ r. ⌜ ((st : State) → Represents (now (s .entry)) st → fitState st ≡ true → InsertedInto (now (new .entry)) flags st (now (s .exit)) r) ⌝ }
 {
     let n = state::route_count(s);
     let plan = plan4(state_read::routes(s), n, new, flags);
     match plan {
-        Plan::Add(place, told) => {
+        Plan::Add(place, emitted) => {
             if n == 256 {
                 return Inserted::Full;
             }
             state::insert_route(s, place, new);
-            Inserted::Put(told)
+            Inserted::Put(emitted)
         }
         Plan::Replace(place) => {
             state::replace_route(s, place, new);

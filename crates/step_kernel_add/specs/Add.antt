@@ -16,16 +16,16 @@ use Rattle.definition.specs.State.{State, sizes, withRoutes}
 use Rattle.definition.specs.Words.{within, fitState}
 use Rattle.definition.specs.Reference.Insert as Insert
 use Rattle.definition.specs.Reference.Insert.{listTable, create4, insert4, inserted, kernelAdd4}
-use Rattle.definition.specs.Kept.Fit.{fit-state, state-fit}
-use Rattle.definition.specs.Kept.Addresses.{create4-fit}
-use Rattle.state.specs.Holds.{Holds, Valid}
+use Rattle.definition.specs.Preservation.Fit.{fit-state, state-fit}
+use Rattle.definition.specs.Preservation.Addresses.{create4-fit}
+use Rattle.state.specs.Represents.{Represents, Valid}
 use Rattle.state.specs.Change.{tables-at}
 use Rattle.state_tables.specs.Listed.{tablesOf}
 use Rattle.step_insert.specs.Plan.{answerOf, rowsAfter, InsertedInto}
 use Rattle.step_insert.specs.declared.Inserted.{Inserted}
 use Rattle.step_insert.specs.declared.Inserted.the-variants.{Put, Nothing, Refused, Full}
-use Rattle.step_events.specs.Does.{does-one}
-use Rattle.step_laws.specs.Adds.{Adds, holds-within, does-adds, full-adds, adds-none}
+use Rattle.step_events.specs.Emits.{does-one}
+use Rattle.step_laws.specs.EmitsOrFull.{EmitsOrFull, holds-within, does-adds, full-adds, adds-none}
 use Rattle.step_laws.specs.Through.{Covered}
 use Rattle.step_laws.specs.declared.Told.the-variants as Tell
 
@@ -48,15 +48,15 @@ length-event r flags h = omega arith
 
 -- ---- by what came of the insertion into the state with the table listed
 module _ (new : Row) (made : State) {w ev : List ℕ} where
-  after-put : (i : Insert.Inserted) (flags : ℕ) {ev′ : List ℕ} → Put flags ≡ answerOf i → Holds w (withRoutes (rowsAfter i (made .routes)) made)
-      → length new ≡ 32 → 34 ≤ length ev → ev′ ≡ put 0 (newRoute4 new flags) ev → Adds (inserted new i made) w ev ev′ (Tell.Rows 1)
-  after-put (Insert.put rows told) flags {ev′} e h n room x =
+  after-put : (i : Insert.Inserted) (flags : ℕ) {ev′ : List ℕ} → Put flags ≡ answerOf i → Represents w (withRoutes (rowsAfter i (made .routes)) made)
+      → length new ≡ 32 → 34 ≤ length ev → ev′ ≡ put 0 (newRoute4 new flags) ev → EmitsOrFull (inserted new i made) w ev ev′ (Tell.Rows 1)
+  after-put (Insert.put rows emitted) flags {ev′} e h n room x =
       test-case (leb (length rows) 256)
       (λ f.
-      let same : Put flags ≡ Put told = rw f at e in
-      let is : flags ≡ told = cc in
-      let k : Holds w (withRoutes rows made) = rw f at h in
-      does-adds (holds-within k) (does-one (withRoutes rows made) (newRoute4 new told) k (length-event new told n) room (rw is at x)))
+      let same : Put flags ≡ Put emitted = rw f at e in
+      let is : flags ≡ emitted = cc in
+      let k : Represents w (withRoutes rows made) = rw f at h in
+      does-adds (holds-within k) (does-one (withRoutes rows made) (newRoute4 new emitted) k (length-event new emitted n) room (rw is at x)))
       (λ f.
       let same : Put flags ≡ Full = rw f at e in
       let z : _≡_ {A = ℕ} 0 1 = cc in
@@ -64,11 +64,11 @@ module _ (new : Row) (made : State) {w ev : List ℕ} where
   after-put Insert.nothing flags e h n room x = let z : _≡_ {A = ℕ} 0 1 = cc in absurd (omega arith)
   after-put (Insert.refused k) flags e h n room x = let z : _≡_ {A = ℕ} 0 1 = cc in absurd (omega arith)
 
-  after-nothing : (i : Insert.Inserted) → Nothing ≡ answerOf i → Holds w (withRoutes (rowsAfter i (made .routes)) made) → Adds (inserted new i made) w ev ev (Tell.Rows 0)
-  after-nothing (Insert.put rows told) e h =
+  after-nothing : (i : Insert.Inserted) → Nothing ≡ answerOf i → Represents w (withRoutes (rowsAfter i (made .routes)) made) → EmitsOrFull (inserted new i made) w ev ev (Tell.Rows 0)
+  after-nothing (Insert.put rows emitted) e h =
       test-case (leb (length rows) 256)
       (λ f.
-      let same : Nothing ≡ Put told = rw f at e in
+      let same : Nothing ≡ Put emitted = rw f at e in
       let z : _≡_ {A = ℕ} 0 1 = cc in
       absurd (omega arith))
       (λ f.
@@ -78,11 +78,11 @@ module _ (new : Row) (made : State) {w ev : List ℕ} where
   after-nothing Insert.nothing e h = adds-none made h
   after-nothing (Insert.refused k) e h = let z : _≡_ {A = ℕ} 0 1 = cc in absurd (omega arith)
 
-  after-refused : (i : Insert.Inserted) (n : ℕ) → Refused n ≡ answerOf i → Holds w (withRoutes (rowsAfter i (made .routes)) made) → Adds (inserted new i made) w ev ev (Tell.Rows 0)
-  after-refused (Insert.put rows told) n e h =
+  after-refused : (i : Insert.Inserted) (n : ℕ) → Refused n ≡ answerOf i → Represents w (withRoutes (rowsAfter i (made .routes)) made) → EmitsOrFull (inserted new i made) w ev ev (Tell.Rows 0)
+  after-refused (Insert.put rows emitted) n e h =
       test-case (leb (length rows) 256)
       (λ f.
-      let same : Refused n ≡ Put told = rw f at e in
+      let same : Refused n ≡ Put emitted = rw f at e in
       let z : _≡_ {A = ℕ} 0 1 = cc in
       absurd (omega arith))
       (λ f.
@@ -92,19 +92,19 @@ module _ (new : Row) (made : State) {w ev : List ℕ} where
   after-refused Insert.nothing n e h = let z : _≡_ {A = ℕ} 0 1 = cc in absurd (omega arith)
   after-refused (Insert.refused k) n e h = adds-none made h
 
-  after-full : (i : Insert.Inserted) {ev′ : List ℕ} → Full ≡ answerOf i → Adds (inserted new i made) w ev ev′ Tell.Full
-  after-full (Insert.put rows told) e =
+  after-full : (i : Insert.Inserted) {ev′ : List ℕ} → Full ≡ answerOf i → EmitsOrFull (inserted new i made) w ev ev′ Tell.Full
+  after-full (Insert.put rows emitted) e =
       test-case (leb (length rows) 256)
       (λ f.
-      let same : Full ≡ Put told = rw f at e in
+      let same : Full ≡ Put emitted = rw f at e in
       let z : _≡_ {A = ℕ} 0 1 = cc in
       absurd (omega arith))
       (λ f. full-adds (routes-pass (leb (length (made .addresses)) 64) (leb (length rows) 256) (leb (length (made .tables)) 32) f))
   after-full Insert.nothing e = let z : _≡_ {A = ℕ} 0 1 = cc in absurd (omega arith)
   after-full (Insert.refused k) e = let z : _≡_ {A = ℕ} 0 1 = cc in absurd (omega arith)
 
-  tables-full : (i : Insert.Inserted) {ev′ : List ℕ} → 32 < length (made .tables) → Adds (inserted new i made) w ev ev′ Tell.Full
-  tables-full (Insert.put rows told) h =
+  tables-full : (i : Insert.Inserted) {ev′ : List ℕ} → 32 < length (made .tables) → EmitsOrFull (inserted new i made) w ev ev′ Tell.Full
+  tables-full (Insert.put rows emitted) h =
       full-adds (tables-pass (leb (length (made .addresses)) 64) (leb (length rows) 256) (leb (length (made .tables)) 32) (lt-leb (length (made .tables)) 32 h))
   tables-full Insert.nothing h =
       full-adds (tables-pass (leb (length (made .addresses)) 64) (leb (length (made .routes)) 256) (leb (length (made .tables)) 32) (lt-leb (length (made .tables)) 32 h))
@@ -113,26 +113,26 @@ module _ (new : Row) (made : State) {w ev : List ℕ} where
 
 -- ---- the whole
 module _ (new : Row) (st : State) {w ev : List ℕ} where
-  pub add-full-tables : {w₀ ev′ : List ℕ} → Holds w₀ st → 32 < length (listTable (table new) (tablesOf w₀)) → Adds (kernelAdd4 new st) w ev ev′ Tell.Full
+  pub add-full-tables : {w₀ ev′ : List ℕ} → Represents w₀ st → 32 < length (listTable (table new) (tablesOf w₀)) → EmitsOrFull (kernelAdd4 new st) w ev ev′ Tell.Full
   unfolding kernelAdd4 create4
   add-full-tables {w₀} h n =
       tables-full new (create4 (table new) st) (insert4 new 0xc00 (st .routes)) (rw (tables-at h) at n)
 
   module _ {r : Inserted} (i : InsertedInto new 0xc00 (create4 (table new) st) w r) where
-    pub add-put : (flags : ℕ) {ev′ : List ℕ} → r ≡ Put flags → length new ≡ 32 → 34 ≤ length ev → ev′ ≡ put 0 (newRoute4 new flags) ev → Adds (kernelAdd4 new st) w ev ev′ (Tell.Rows 1)
+    pub add-put : (flags : ℕ) {ev′ : List ℕ} → r ≡ Put flags → length new ≡ 32 → 34 ≤ length ev → ev′ ≡ put 0 (newRoute4 new flags) ev → EmitsOrFull (kernelAdd4 new st) w ev ev′ (Tell.Rows 1)
     unfolding kernelAdd4
     add-put flags e n room x =
         after-put new (create4 (table new) st) (insert4 new 0xc00 ((create4 (table new) st) .routes)) flags (sym e ∙ i .answer) (i .holds) n room x
 
-    pub add-nothing : r ≡ Nothing → Adds (kernelAdd4 new st) w ev ev (Tell.Rows 0)
+    pub add-nothing : r ≡ Nothing → EmitsOrFull (kernelAdd4 new st) w ev ev (Tell.Rows 0)
     unfolding kernelAdd4
     add-nothing e = after-nothing new (create4 (table new) st) (insert4 new 0xc00 ((create4 (table new) st) .routes)) (sym e ∙ i .answer) (i .holds)
 
-    pub add-refused : (n : ℕ) → r ≡ Refused n → Adds (kernelAdd4 new st) w ev ev (Tell.Rows 0)
+    pub add-refused : (n : ℕ) → r ≡ Refused n → EmitsOrFull (kernelAdd4 new st) w ev ev (Tell.Rows 0)
     unfolding kernelAdd4
     add-refused n e = after-refused new (create4 (table new) st) (insert4 new 0xc00 ((create4 (table new) st) .routes)) n (sym e ∙ i .answer) (i .holds)
 
-    pub add-full : {ev′ : List ℕ} → r ≡ Full → Adds (kernelAdd4 new st) w ev ev′ Tell.Full
+    pub add-full : {ev′ : List ℕ} → r ≡ Full → EmitsOrFull (kernelAdd4 new st) w ev ev′ Tell.Full
     unfolding kernelAdd4
     add-full e = after-full new (create4 (table new) st) (insert4 new 0xc00 ((create4 (table new) st) .routes)) (sym e ∙ i .answer)
 
@@ -143,10 +143,10 @@ kernelAdd4-covered =
     record { covers = λ new st h. go new (insert4 new 0xc00 ((create4 (table new) st) .routes)) (create4 (table new) st) h }
   where
     go : (new : Row) (i : Insert.Inserted) (made : State) → within ((inserted new i made) .peak) ≡ true → within (sizes ((inserted new i made) .state)) ≡ true
-    go new (Insert.put rows told) made h = h
+    go new (Insert.put rows emitted) made h = h
     go new Insert.nothing made h = h
     go new (Insert.refused n) made h = h
 
 -- the words hold some state still
-pub valid-created : {w : List ℕ} (t : ℕ) (st : State) → Holds w (create4 t st) → Valid w
+pub valid-created : {w : List ℕ} (t : ℕ) (st : State) → Represents w (create4 t st) → Valid w
 valid-created t st h = record { state = create4 t st; holds = h }

@@ -9,8 +9,8 @@ ghost use Rattle.layout.specs.Route.{fitRoute};
 ghost use Rattle.definition.specs.State.{State};
 ghost use Rattle.definition.specs.Words.{fitState};
 ghost use Rattle.definition.specs.Reference.Insert.{kernelAdd4};
-ghost use Rattle.state.specs.Holds.{Holds, Valid};
-ghost use Rattle.step_laws.specs.Adds.{Adds, rowsOf};
+ghost use Rattle.state.specs.Represents.{Represents, Valid};
+ghost use Rattle.step_laws.specs.EmitsOrFull.{EmitsOrFull, rowsOf};
 
 const CREATE_APPEND: u32 = 0xc00;
 
@@ -21,7 +21,7 @@ pub fn kernel_add4(s: &mut [u32], ev: &mut [u32], new: &[u32]) -> Told
     requires { ⌜ 34 ≤ length (now ev) ⌝ }
     ensures { λ r. ⌜ Valid (now (s .exit)) ⌝ }
     ensures { λ r. ⌜ rowsOf r ≤ 1 ⌝ }
-    ensures { λ r. ⌜ ((st : State) → Holds (now (s .entry)) st → fitState st ≡ true → Adds (kernelAdd4 (now (new .entry)) st) (now (s .exit)) (now (ev .entry)) (now (ev .exit)) r) ⌝ }
+    ensures { λ r. ⌜ ((st : State) → Represents (now (s .entry)) st → fitState st ≡ true → EmitsOrFull (kernelAdd4 (now (new .entry)) st) (now (s .exit)) (now (ev .entry)) (now (ev .exit)) r) ⌝ }
 {
     let table = new[0];
     if 32 < state_tables::tables_after(s, table) {

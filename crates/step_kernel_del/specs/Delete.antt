@@ -19,11 +19,11 @@ use Rattle.layout.specs.Event.{delRoute4}
 use Rattle.definition.specs.State.{State, withRoutes}
 use Rattle.definition.specs.Words.{routeCount}
 use Rattle.definition.specs.Reference.Insert.{named, kernelDel4}
-use Rattle.definition.specs.Kept.Shrinking.{weight, live, kernelDel4-away}
-use Rattle.state.specs.Holds.{Holds, sizedR, count-routes}
+use Rattle.definition.specs.Preservation.Shrinking.{potential, live, kernelDel4-away}
+use Rattle.state.specs.Represents.{Represents, sizedR, count-routes}
 use Rattle.state.specs.Change.{route-at}
-use Rattle.step_events.specs.Does.{Does, does-none, does-one}
-use Rattle.step_events.specs.Step.{Fits, Ready, Step, does-step}
+use Rattle.step_events.specs.Emits.{Emits, does-none, does-one}
+use Rattle.step_events.specs.EmitsWithin.{Fits, Ready, EmitsWithin, does-step}
 
 -- ---- the row that a deletion names
 pub named-far : (p r : Row) → (dst p ≡ dst r → ⊥) → false ≡ named p r
@@ -36,15 +36,15 @@ length-event : (r : Row) → length r ≡ 32 → length (delRoute4 r) ≡ 34
 unfolding delRoute4
 length-event r h = omega arith
 
-module _ (p : Row) (st : State) {w ev : List ℕ} (h : Holds w st) (i : ℕ) (e : i ≡ placeOf (named p) (st .routes)) where
-  pub none-named : length (st .routes) ≤ i → Does (kernelDel4 p st) w ev ev 0
+module _ (p : Row) (st : State) {w ev : List ℕ} (h : Represents w st) (i : ℕ) (e : i ≡ placeOf (named p) (st .routes)) where
+  pub none-named : length (st .routes) ≤ i → Emits (kernelDel4 p st) w ev ev 0
   unfolding kernelDel4
   none-named b =
       let missing : first (named p) (st .routes) ≡ none = first-at (named p) (st .routes) ∙ ap (getElem? (st .routes)) (sym e) ∙ nothing-from (st .routes) i b in
       rw missing (does-none st h)
 
-  pub one-named : {w′ ev′ : List ℕ} → i < length (st .routes) → 34 ≤ length ev → Holds w′ (withRoutes (removeAt i (st .routes)) st)
-      → ev′ ≡ put 0 (delRoute4 (take (1283 + 32 * i + 32 - (1283 + 32 * i)) (drop (1283 + 32 * i) w))) ev → Does (kernelDel4 p st) w′ ev ev′ 1
+  pub one-named : {w′ ev′ : List ℕ} → i < length (st .routes) → 34 ≤ length ev → Represents w′ (withRoutes (removeAt i (st .routes)) st)
+      → ev′ ≡ put 0 (delRoute4 (take (1283 + 32 * i + 32 - (1283 + 32 * i)) (drop (1283 + 32 * i) w))) ev → Emits (kernelDel4 p st) w′ ev ev′ 1
   unfolding kernelDel4 removeAt
   one-named {w′} {ev′} b room k x =
       let r = getD (st .routes) i [] in
@@ -61,10 +61,10 @@ row-wide w i h b =
     rw size (length-take-le 32 (drop (1283 + 32 * i) w) (rw length-drop (omega arith)))
 
 -- ---- among removals: it tells no more than the routes fall
-pub deletes : {st : State} {w w′ ev ev′ : List ℕ} {r : ℕ} (p : Row) → Fits weight st w ev → Does (kernelDel4 p st) w′ ev ev′ r → Step weight st (kernelDel4 p st) w′ ev ev′ r
+pub deletes : {st : State} {w w′ ev ev′ : List ℕ} {r : ℕ} (p : Row) → Fits potential st w ev → Emits (kernelDel4 p st) w′ ev ev′ r → EmitsWithin potential st (kernelDel4 p st) w′ ev ev′ r
 deletes {st} p f d =
     let away = kernelDel4-away p st in
-    does-step d weight f (omega (arith, d .count, away .shrunk, ap (λ (l : List Row). length l + count live l) (away .sameAddresses)))
+    does-step d potential f (omega (arith, d .count, away .shrunk, ap (λ (l : List Row). length l + count live l) (away .sameAddresses)))
 
-pub ready-row : {w ev : List ℕ} → Ready weight w ev → 0 < routeCount w → 34 ≤ length ev
+pub ready-row : {w ev : List ℕ} → Ready potential w ev → 0 < routeCount w → 34 ≤ length ev
 ready-row y b = omega (arith, y .fits .room, count-routes (y .fits .holds))

@@ -10,8 +10,8 @@ ghost use Rattle.layout.specs.Route.{fitRoute};
 ghost use Rattle.definition.specs.State.{State};
 ghost use Rattle.definition.specs.Words.{routeCount};
 ghost use Rattle.definition.specs.Reference.Insert.{named, kernelDel4};
-ghost use Rattle.state.specs.Holds.{Holds, Valid};
-ghost use Rattle.step_events.specs.Does.{Does};
+ghost use Rattle.state.specs.Represents.{Represents, Valid};
+ghost use Rattle.step_events.specs.Emits.{Emits};
 
 // Whether the deletion of p names r. Most rows are to other destinations, so that is asked first.
 fn named(p: &[u32], r: &[u32]) -> bool
@@ -59,7 +59,7 @@ pub fn kernel_del4(s: &mut [u32], ev: &mut [u32], p: &[u32]) -> usize
     requires { ⌜ (0 < routeCount (now s) → 34 ≤ length (now ev)) ⌝ }
     ensures { λ r. ⌜ Valid (now (s .exit)) ⌝ }
     ensures { λ r. ⌜ r ≤ 1 ⌝ }
-    ensures { λ r. ⌜ ((st : State) → Holds (now (s .entry)) st → Does (kernelDel4 (now (p .entry)) st) (now (s .exit)) (now (ev .entry)) (now (ev .exit)) r) ⌝ }
+    ensures { λ r. ⌜ ((st : State) → Represents (now (s .entry)) st → Emits (kernelDel4 (now (p .entry)) st) (now (s .exit)) (now (ev .entry)) (now (ev .exit)) r) ⌝ }
 {
     let n = state::route_count(s);
     let i = find_named(state_read::routes(s), n, p);

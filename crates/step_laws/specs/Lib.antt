@@ -1,2 +1,2 @@
-pub mod Adds
+pub mod EmitsOrFull
 pub mod Through

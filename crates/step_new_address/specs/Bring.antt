@@ -16,12 +16,12 @@ use Rattle.layout.specs.Route.{fitRoute}
 use Rattle.definition.specs.State.{through}
 use Rattle.definition.specs.Reference.Insert.{kernelAdd4}
 use Rattle.definition.specs.Reference.Addresses.{bring}
-use Rattle.definition.specs.Kept.Fit.{sized-routes}
-use Rattle.definition.specs.Kept.Keeps.{Keeps, through-keeps, keeps-fit}
-use Rattle.definition.specs.Kept.Addresses.{kernelAdd4-keeps}
-use Rattle.state.specs.Holds.{Valid, Sound, sound-valid}
-use Rattle.step_events.specs.Does.{does-length, rest}
-use Rattle.step_laws.specs.Adds.{Adds, joined, holds-within, adds-rows}
+use Rattle.definition.specs.Preservation.Fit.{sized-routes}
+use Rattle.definition.specs.Preservation.Keeps.{Keeps, through-keeps, keeps-fit}
+use Rattle.definition.specs.Preservation.Addresses.{kernelAdd4-keeps}
+use Rattle.state.specs.Represents.{Valid, Sound, sound-valid}
+use Rattle.step_events.specs.Emits.{does-length, rest}
+use Rattle.step_laws.specs.EmitsOrFull.{EmitsOrFull, joined, holds-within, adds-rows}
 use Rattle.step_laws.specs.Through.{adds-start, adds-next, adds-full-end, adds-end}
 use Rattle.step_laws.specs.declared.Told.{Told}
 use Rattle.step_laws.specs.declared.Told.the-variants.{Rows, Full}
@@ -38,16 +38,16 @@ module _ (rows : List Row) (f : all fitRoute rows ≡ true) (k : ℕ) (e : k ≡
       (laid-length block-rows ∙ ap (λ (n : ℕ). 32 * n) (sym e), record { list = rows; laid = block-rows })
 
 -- ---- the first i of them are added
-pub record Sofar (block s₀ ev₀ : List ℕ) (i : ℕ) (s ev : List ℕ) (t : ℕ) : Type 0 where
+pub record LoopInvariant (block s₀ ev₀ : List ℕ) (i : ℕ) (s ev : List ℕ) (t : ℕ) : Type 0 where
   pub adds : (rows : List Row) → Laid 32 fitRoute block rows → AddsFrom (through kernelAdd4 (take i rows)) s₀ s ev₀ ev (Rows t)
 
-pub sofar-start : (block s ev : List ℕ) → Sofar block s ev 0 s ev 0
+pub sofar-start : (block s ev : List ℕ) → LoopInvariant block s ev 0 s ev 0
 sofar-start block s ev = record { adds = λ rows h st hs f. adds-start kernelAdd4 rows st hs }
 
 first-keep : (rows : List Row) (i : ℕ) → all fitRoute rows ≡ true → Keeps (through kernelAdd4 (take i rows))
 first-keep rows i f = through-keeps kernelAdd4 fitRoute (take i rows) kernelAdd4-keeps (all-take fitRoute i rows f)
 
-module _ {block s₀ ev₀ s ev : List ℕ} {i t : ℕ} (a : Sofar block s₀ ev₀ i s ev t) where
+module _ {block s₀ ev₀ s ev : List ℕ} {i t : ℕ} (a : LoopInvariant block s₀ ev₀ i s ev t) where
   pub sofar-sound : Sound s₀ → Lays 32 fitRoute block → Sound s
   sofar-sound v y =
       adds-sound (through kernelAdd4 (take i (y .list))) (first-keep (y .list) i (y .laid .fitting)) (a .adds (y .list) (y .laid)) v
@@ -65,23 +65,23 @@ module _ {block s₀ ev₀ s ev : List ℕ} {i t : ℕ} (a : Sofar block s₀ ev
       one-more rows h st hs f =
           let b′ : i < length rows = omega (arith, laid-rows block k (lit< tt) long rows h) in
           let step = through kernelAdd4 (take i rows) in
-          let here : Adds (kernelAdd4 (getD rows i []) ((step st) .state)) w (rest t ev) x r =
+          let here : EmitsOrFull (kernelAdd4 (getD rows i []) ((step st) .state)) w (rest t ev) x r =
           rw (laid-part h i b′) at (u ((step st) .state) (adds-holds step (a .adds rows h) st hs f) (keeps-fit step (first-keep rows i (h .fitting)) st f))
           in
           adds-next kernelAdd4 rows st kernelAdd4-covered (holds-within hs) i [] b′ (a .adds rows h st hs f) here
 
-      pub sofar-next : (m : ℕ) → r ≡ Rows m → Sofar block s₀ ev₀ (i + 1) w (take (34 * t) ev ++ (x ++ drop (length ev - 34 * t) (drop (34 * t) ev))) (t + m)
+      pub sofar-next : (m : ℕ) → r ≡ Rows m → LoopInvariant block s₀ ev₀ (i + 1) w (take (34 * t) ev ++ (x ++ drop (length ev - 34 * t) (drop (34 * t) ev))) (t + m)
       sofar-next m e =
           record {
             adds = λ rows h st hs f.
-                subst (λ (q : Told). Adds (through kernelAdd4 (take (i + 1) rows) st) w ev₀ (take (34 * t) ev ++ (x ++ drop (length ev - 34 * t) (drop (34 * t) ev))) (joined t q)) e (one-more rows h st hs f);
+                subst (λ (q : Told). EmitsOrFull (through kernelAdd4 (take (i + 1) rows) st) w ev₀ (take (34 * t) ev ++ (x ++ drop (length ev - 34 * t) (drop (34 * t) ev))) (joined t q)) e (one-more rows h st hs f);
           }
 
       pub sofar-full : r ≡ Full → {w′ ev′ : List ℕ} (rows : List Row) → Laid 32 fitRoute block rows → AddsFrom (bring rows) s₀ w′ ev₀ ev′ Full
       unfolding bring
       sofar-full e rows h st hs f =
           adds-full-end kernelAdd4 rows st kernelAdd4-covered (holds-within hs) (i + 1)
-          (subst (λ (q : Told). Adds (through kernelAdd4 (take (i + 1) rows) st) w ev₀ (take (34 * t) ev ++ (x ++ drop (length ev - 34 * t) (drop (34 * t) ev))) (joined t q)) e (one-more rows h st hs f))
+          (subst (λ (q : Told). EmitsOrFull (through kernelAdd4 (take (i + 1) rows) st) w ev₀ (take (34 * t) ev ++ (x ++ drop (length ev - 34 * t) (drop (34 * t) ev))) (joined t q)) e (one-more rows h st hs f))
 
     pub sofar-end : k ≤ i → (rows : List Row) → Laid 32 fitRoute block rows → AddsFrom (bring rows) s₀ s ev₀ ev (Rows t)
     unfolding bring

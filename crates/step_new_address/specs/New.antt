@@ -18,26 +18,26 @@ use Rattle.layout.specs.Event.{newAddr4}
 use Rattle.definition.specs.State.{State, becomes, withAddresses}
 use Rattle.definition.specs.Words.{fitState, addressCount}
 use Rattle.definition.specs.Reference.Addresses.{candidates, bring, place4, newAddress}
-use Rattle.definition.specs.Kept.Fit.{fit-state, state-fit, length-address, fields-address}
-use Rattle.definition.specs.Kept.Keeps.{fit-addresses}
-use Rattle.definition.specs.Kept.Rows.{candidates-fit}
-use Rattle.definition.specs.Kept.Addresses.{place4-fit}
-use Rattle.definition.specs.Kept.Growing.{length-place4}
-use Rattle.state.specs.Holds.{Holds, count-addresses}
-use Rattle.step_events.specs.Does.{does-one, rest}
-use Rattle.step_laws.specs.Adds.{Adds, joined, holds-within, does-adds, full-adds, adds-also, adds-stop}
+use Rattle.definition.specs.Preservation.Fit.{fit-state, state-fit, length-address, fields-address}
+use Rattle.definition.specs.Preservation.Keeps.{fit-addresses}
+use Rattle.definition.specs.Preservation.Rows.{candidates-fit}
+use Rattle.definition.specs.Preservation.Addresses.{place4-fit}
+use Rattle.definition.specs.Preservation.Growing.{length-place4}
+use Rattle.state.specs.Represents.{Represents, count-addresses}
+use Rattle.step_events.specs.Emits.{does-one, rest}
+use Rattle.step_laws.specs.EmitsOrFull.{EmitsOrFull, joined, holds-within, does-adds, full-adds, adds-also, adds-stop}
 use Rattle.step_laws.specs.declared.Told.{Told}
 use Rattle.step_laws.specs.declared.Told.the-variants.{Rows, Full}
 use Rattle.step_new_address.specs.Sound.{AddsFrom}
 use Rattle.step_new_address.specs.Bring.{block-rows, block-ready}
 
-pub length-told : (a : Row) → length a ≡ 20 → length (newAddr4 a) ≡ 34
+pub length-emitted : (a : Row) → length a ≡ 20 → length (newAddr4 a) ≡ 34
 unfolding newAddr4
-length-told a h = omega (arith, length-append a (zeros 12), length-zeros 12)
+length-emitted a h = omega (arith, length-append a (zeros 12), length-zeros 12)
 
-pub told-length : (new : Row) → fitAddress new ≡ true → (ev₀ : List ℕ) {ev : List ℕ} → 34 ≤ length ev₀ → ev ≡ put 0 (newAddr4 new) ev₀ → length ev ≡ length ev₀
-told-length new fit ev₀ h e =
-    ap length e ∙ length-put 0 (newAddr4 new) ev₀ (omega (arith, length-told new (length-address new fit)))
+pub emitted-length : (new : Row) → fitAddress new ≡ true → (ev₀ : List ℕ) {ev : List ℕ} → 34 ≤ length ev₀ → ev ≡ put 0 (newAddr4 new) ev₀ → length ev ≡ length ev₀
+emitted-length new fit ev₀ h e =
+    ap length e ∙ length-put 0 (newAddr4 new) ev₀ (omega (arith, length-emitted new (length-address new fit)))
 
 -- the state with the address in its place
 abbrev pub placed : Row → State → State
@@ -48,11 +48,11 @@ too-many a b c h = rw h
 
 module _ (new : Row) (up : Bool) (st : State) where
   -- there are as many as may be
-  pub new-full : 64 ≤ length (st .addresses) → {w ev₀ ev : List ℕ} → Adds (newAddress new up st) w ev₀ ev Full
+  pub new-full : 64 ≤ length (st .addresses) → {w ev₀ ev : List ℕ} → EmitsOrFull (newAddress new up st) w ev₀ ev Full
   unfolding newAddress
   new-full h {w} {ev₀} {ev} =
       let past : leb (length (place4 new (st .addresses))) 64 ≡ false = lt-leb (length (place4 new (st .addresses))) 64 (omega (arith, length-place4 new (st .addresses))) in
-      let full : Adds (becomes (placed new st) (newAddr4 new ∷ [])) w ev₀ ev Full =
+      let full : EmitsOrFull (becomes (placed new st) (newAddr4 new ∷ [])) w ev₀ ev Full =
       full-adds (too-many (leb (length (place4 new (st .addresses))) 64) (leb (length (st .routes)) 256) (leb (length (st .tables)) 32) past)
       in
       adds-stop full (bring (candidates (place4 new (st .addresses)) up new))
@@ -62,9 +62,9 @@ module _ (new : Row) (up : Bool) (st : State) where
       let f = fit-state st h in
       state-fit (placed new st) (fit-addresses st (place4 new (st .addresses)) f (place4-fit new (st .addresses) g (f .ofAddresses)))
 
-  module _ (i : ℕ) (e : place4 new (st .addresses) ≡ insertAt i new (st .addresses)) {w : List ℕ} (h : Holds w (withAddresses (insertAt i new (st .addresses)) st)) where
-    pub placed-holds : Holds w (placed new st)
-    placed-holds = subst (λ (l : List Row). Holds w (withAddresses l st)) (sym e) h
+  module _ (i : ℕ) (e : place4 new (st .addresses) ≡ insertAt i new (st .addresses)) {w : List ℕ} (h : Represents w (withAddresses (insertAt i new (st .addresses)) st)) where
+    pub placed-holds : Represents w (placed new st)
+    placed-holds = subst (λ (l : List Row). Represents w (withAddresses l st)) (sym e) h
 
     pub placed-count : addressCount w ≡ length (st .addresses) + 1
     placed-count = count-addresses placed-holds ∙ omega (arith, length-place4 new (st .addresses))
@@ -79,11 +79,11 @@ module _ (new : Row) (up : Bool) (st : State) where
 
       pub new-done : fitState st ≡ true → {ev₀ ev : List ℕ} → 34 ≤ length ev₀ → ev ≡ put 0 (newAddr4 new) ev₀ → {w′ x′ : List ℕ} {r : Told}
           → ((rows : List Row) → Laid 32 fitRoute (take (32 * k - 0) (drop 0 x)) rows → AddsFrom (bring rows) w w′ (rest 1 ev) x′ r)
-          → (z : Told) → z ≡ joined 1 r → Adds (newAddress new up st) w′ ev₀ (take 34 ev ++ (x′ ++ drop (length ev - 34) (drop 34 ev))) z
+          → (z : Told) → z ≡ joined 1 r → EmitsOrFull (newAddress new up st) w′ ev₀ (take 34 ev ++ (x′ ++ drop (length ev - 34) (drop 34 ev))) z
       unfolding newAddress
-      new-done f {ev₀} {ev} room told {w′} {x′} {r} b z same =
+      new-done f {ev₀} {ev} room emitted {w′} {x′} {r} b z same =
           let rows = candidates (place4 new (st .addresses)) up new in
-          let first : Adds (becomes (placed new st) (newAddr4 new ∷ [])) w ev₀ ev (Rows 1) =
-          does-adds (holds-within placed-holds) (does-one (placed new st) (newAddr4 new) placed-holds (length-told new (length-address new fit)) room told)
+          let first : EmitsOrFull (becomes (placed new st) (newAddr4 new ∷ [])) w ev₀ ev (Rows 1) =
+          does-adds (holds-within placed-holds) (does-one (placed new st) (newAddr4 new) placed-holds (length-emitted new (length-address new fit)) room emitted)
           in
           rw same (adds-also first (bring rows) (b rows (block-rows rows routes-fit k (c .0) o (c .1)) (placed new st) placed-holds (placed-fit fit f)))

@@ -3,7 +3,7 @@
 use Prim.Native.Nat.{ℕ, _+_, _-_, _*_, _≤_}
 use lib.ListN.{length, drop, length-drop}
 use lib.Seq.{length-take-le}
-use Rattle.step_events.specs.Does.{rest}
+use Rattle.step_events.specs.Emits.{rest}
 use native.Mathlib.Omega.{arith}
 use mathlib.Core.Path.{_≡_, refl, _∙_}
 use mathlib.Core.Bool.{true}
@@ -13,9 +13,9 @@ use Rattle.definition.specs.State.{State, Out, stays, also, through}
 use Rattle.definition.specs.Words.{fitState}
 use Rattle.definition.specs.Reference.Insert as Insert
 use Rattle.definition.specs.Reference.Insert.{create4, insert4, inserted, kernelAdd4}
-use Rattle.definition.specs.Kept.Keeps.{Keeps, keeps-fit}
-use Rattle.state.specs.Holds.{Holds, Sound}
-use Rattle.step_laws.specs.Adds.{Adds, rowsOf, joined, adds-rows}
+use Rattle.definition.specs.Preservation.Keeps.{Keeps, keeps-fit}
+use Rattle.state.specs.Represents.{Represents, Sound}
+use Rattle.step_laws.specs.EmitsOrFull.{EmitsOrFull, rowsOf, joined, adds-rows}
 use Rattle.step_laws.specs.declared.Told.{Told}
 use Rattle.step_laws.specs.declared.Told.the-variants.{Rows, Full}
 use Rattle.layout.specs.Route.{table}
@@ -27,10 +27,10 @@ rest-room t n ev h =
     omega arith
 
 abbrev pub AddsFrom : (State → Out) → List ℕ → List ℕ → List ℕ → List ℕ → Told → Type 0
-AddsFrom f w₀ w ev₀ ev r = (st : State) → Holds w₀ st → fitState st ≡ true → Adds (f st) w ev₀ ev r
+AddsFrom f w₀ w ev₀ ev r = (st : State) → Represents w₀ st → fitState st ≡ true → EmitsOrFull (f st) w ev₀ ev r
 
 -- a step that had room leaves words that hold a fit state
-pub adds-holds : (f : State → Out) {w₀ w ev₀ ev : List ℕ} {k : ℕ} → AddsFrom f w₀ w ev₀ ev (Rows k) → (st : State) → Holds w₀ st → fitState st ≡ true → Holds w ((f st) .state)
+pub adds-holds : (f : State → Out) {w₀ w ev₀ ev : List ℕ} {k : ℕ} → AddsFrom f w₀ w ev₀ ev (Rows k) → (st : State) → Represents w₀ st → fitState st ≡ true → Represents w ((f st) .state)
 adds-holds f a st h g = (adds-rows (a st h g)) .1 .holds
 
 pub adds-sound : (f : State → Out) → Keeps f → {w₀ w ev₀ ev : List ℕ} {k : ℕ} → AddsFrom f w₀ w ev₀ ev (Rows k) → Sound w₀ → Sound w
@@ -63,7 +63,7 @@ kernelAdd4-leaves new =
     record { same = λ st. go new (insert4 new 0xc00 (st .routes)) (create4 (table new) st) }
   where
     go : (new : Row) (i : Insert.Inserted) (made : State) → (inserted new i made) .state .addresses ≡ made .addresses
-    go new (Insert.put rows told) made = refl
+    go new (Insert.put rows emitted) made = refl
     go new Insert.nothing made = refl
     go new (Insert.refused n) made = refl
 

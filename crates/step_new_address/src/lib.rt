@@ -15,16 +15,16 @@ ghost use Rattle.layout.specs.Request.{fitAddV4};
 ghost use Rattle.definition.specs.State.{State};
 ghost use Rattle.definition.specs.Words.{fitState, addressCount};
 ghost use Rattle.definition.specs.Reference.Addresses.{bring, newAddress, moved, changeV4, sameAddress};
-ghost use Rattle.state.specs.Holds.{Holds, Sound};
-ghost use Rattle.step_laws.specs.Adds.{Adds, rowsOf, joined};
+ghost use Rattle.state.specs.Represents.{Represents, Sound};
+ghost use Rattle.step_laws.specs.EmitsOrFull.{EmitsOrFull, rowsOf, joined};
 ghost use Rattle.step_new_address.specs.Sound.{AddsFrom};
 
 // The answer of one step after another that told k rows.
-pub fn joined(k: usize, told: Told) -> Told
-    requires { ⌜ k + rowsOf told ≤ 1000 ⌝ }
-    ensures { λ r. ⌜ r ≡ joined k told ⌝ }
+pub fn joined(k: usize, emitted: Told) -> Told
+    requires { ⌜ k + rowsOf emitted ≤ 1000 ⌝ }
+    ensures { λ r. ⌜ r ≡ joined k emitted ⌝ }
 {
-    match told {
+    match emitted {
         Told::Rows(m) => Told::Rows(k + m),
         Told::Full => Told::Full,
     }
@@ -38,15 +38,15 @@ pub fn bring(s: &mut [u32], ev: &mut [u32], block: &[u32], k: usize) -> Told
     ensures { λ r. ⌜ rowsOf r ≤ k ⌝ }
     ensures { λ r. ⌜ ((rows : List Row) → Laid 32 fitRoute (now (block .entry)) rows → AddsFrom (bring rows) (now (s .entry)) (now (s .exit)) (now (ev .entry)) (now (ev .exit)) r) ⌝ }
 {
-    let mut told = 0usize;
+    let mut emitted = 0usize;
     let mut i = 0usize;
     while i < k {
         let at = 32 * i;
-        let from = 34 * told;
+        let from = 34 * emitted;
         let came = step_kernel_add::kernel_add4(s, &mut ev[from..], &block[at..at + 32]);
         match came {
             Told::Rows(m) => {
-                told += m;
+                emitted += m;
             }
             Told::Full => {
                 return Told::Full;
@@ -54,7 +54,7 @@ pub fn bring(s: &mut [u32], ev: &mut [u32], block: &[u32], k: usize) -> Told
         }
         i += 1;
     }
-    Told::Rows(told)
+    Told::Rows(emitted)
 }
 
 // An address put in its place and told, then the routes that it brings.
@@ -114,7 +114,7 @@ pub fn change_v4(s: &mut [u32], ev: &mut [u32], i: usize, q: &[u32], clock: Nano
     requires { ⌜ (length (now q) ≡ 18) × (fitAddV4 (now q) ≡ true) ⌝ }
     requires { ⌜ 102 ≤ length (now ev) ⌝ }
     ensures { λ r. ⌜ rowsOf r ≤ 3 ⌝ }
-    ensures { λ r. ⌜ ((st : State) → Holds (now (s .entry)) st → fitState st ≡ true → i ≡ placeOf (sameAddress (now (q .entry))) (st .addresses) → Adds (changeV4 (now (q .entry)) (getD (st .addresses) i []) (clock .0) st) (now (s .exit)) (now (ev .entry)) (now (ev .exit)) r) ⌝ }
+    ensures { λ r. ⌜ ((st : State) → Represents (now (s .entry)) st → fitState st ≡ true → i ≡ placeOf (sameAddress (now (q .entry))) (st .addresses) → EmitsOrFull (changeV4 (now (q .entry)) (getD (st .addresses) i []) (clock .0) st) (now (s .exit)) (now (ev .entry)) (now (ev .exit)) r) ⌝ }
 {
     let at = 3 + 20 * i;
     let mut old = [0u32; 20];

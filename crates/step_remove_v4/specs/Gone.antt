@@ -16,7 +16,7 @@ use Rattle.layout.specs.Address.{secondary}
 use Rattle.definition.specs.State.{State, Out, stays, also, through}
 use Rattle.definition.specs.Reference.Addresses.{sameSubnet}
 use Rattle.definition.specs.Reference.Removal.{removeOne, goneWith, removeV4}
-use Rattle.definition.specs.Kept.Shrinking.{removeOne-removes}
+use Rattle.definition.specs.Preservation.Shrinking.{removeOne-removes}
 use Rattle.step_events.specs.Turns.{Like, like-refl, like-sym, like-trans, like-eq, stays-also, also-like, through-one, through-append}
 use Rattle.lists.specs.Front.{remove-front, front-more, keep-here, keep-past, take-removed, drop-removed}
 

@@ -16,13 +16,13 @@ use Rattle.layout.specs.Request.{nlmFlags, fitAddRoute4}
 use Rattle.layout.specs.Event.{newRoute4}
 use Rattle.definition.specs.State.{State, sizes, withRoutes}
 use Rattle.definition.specs.Words.{within}
-use Rattle.definition.specs.Kept.Rows.{askedRoute-fit}
-use Rattle.definition.specs.Kept.Fit.{length-route}
+use Rattle.definition.specs.Preservation.Rows.{askedRoute-fit}
+use Rattle.definition.specs.Preservation.Fit.{length-route}
 use Rattle.definition.specs.Reference.Insert as Insert
 use Rattle.definition.specs.Reference.Insert.{listTable, create4, insert4}
 use Rattle.definition.specs.Reference.Routes as Routes
 use Rattle.definition.specs.Reference.Routes.{by, tableNamed, formCheck, insertedAs, askedRoute, addRoute4}
-use Rattle.state.specs.Holds.{Holds}
+use Rattle.state.specs.Represents.{Represents}
 use Rattle.state.specs.Change.{tables-at}
 use Rattle.state_tables.specs.Listed.{tablesOf}
 use Rattle.step_insert.specs.Plan.{answerOf, rowsAfter, InsertedInto}
@@ -39,26 +39,26 @@ use Rattle.step_route_request.specs.declared.Done.the-variants as Done
 
 -- ---- what is told of an insertion
 abbrev pub fullOf : Inserted → Bool
-fullOf (Put told) = false
+fullOf (Put emitted) = false
 fullOf Nothing = false
 fullOf (Refused n) = false
 fullOf Full = true
 
 abbrev pub tellOf : Inserted → Result.Done
-tellOf (Put told) = Done.Rows 1
+tellOf (Put emitted) = Done.Rows 1
 tellOf Nothing = Done.Rows 0
 tellOf (Refused n) = Done.Refused n
 tellOf Full = Done.Full
 
-abbrev pub toldOf : Row → Inserted → List Row
-toldOf new (Put told) = newRoute4 new told ∷ []
-toldOf new Nothing = []
-toldOf new (Refused n) = []
-toldOf new Full = []
+abbrev pub emittedOf : Row → Inserted → List Row
+emittedOf new (Put emitted) = newRoute4 new emitted ∷ []
+emittedOf new Nothing = []
+emittedOf new (Refused n) = []
+emittedOf new Full = []
 
 pub record Tells (new : Row) (i : Inserted) (ev₀ ev : List ℕ) (r : Result.Done) : Type 0 where
   pub answer : r ≡ tellOf i
-  pub events : ev ≡ put 0 (flat (toldOf new i)) ev₀
+  pub events : ev ≡ put 0 (flat (emittedOf new i)) ev₀
 
 not-full : (i : Inserted) → i ≡ Full → fullOf i ≡ false → ⊥
 not-full i e f =
@@ -69,30 +69,30 @@ not-full i e f =
 -- ---- an insertion, then its table listed
 module _ (new : Row) (t : ℕ) (st : State) {w : List ℕ} (ev : List ℕ) where
   pub added : (d : Insert.Inserted) (i : Inserted) {ev′ : List ℕ} {r : Result.Done} → i ≡ answerOf d → fullOf i ≡ false
-      → Holds w (create4 t (withRoutes (rowsAfter d (st .routes)) st)) → Tells new i ev ev′ r → Requested (insertedAs new d (create4 t st)) st w ev ev′ r
+      → Represents w (create4 t (withRoutes (rowsAfter d (st .routes)) st)) → Tells new i ev ev′ r → Requested (insertedAs new d (create4 t st)) st w ev ev′ r
   unfolding create4
-  added (Insert.put rows told) i {ev′} {r} a n h k =
+  added (Insert.put rows emitted) i {ev′} {r} a n h k =
       test-case (leb (length rows) 256)
       (λ e.
-      let is : i ≡ Put told = rw e at a in
+      let is : i ≡ Put emitted = rw e at a in
       let says : r ≡ Done.Rows 1 = k .answer ∙ ap tellOf is in
-      let row : ev′ ≡ put 0 (flat (newRoute4 new told ∷ [])) ev = k .events ∙ ap (λ (x : Inserted). put 0 (flat (toldOf new x)) ev) is in
-      rw says (request-goes st ev (withRoutes rows (create4 t st)) (newRoute4 new told ∷ []) (rw e at h) row))
+      let row : ev′ ≡ put 0 (flat (newRoute4 new emitted ∷ [])) ev = k .events ∙ ap (λ (x : Inserted). put 0 (flat (emittedOf new x)) ev) is in
+      rw says (request-goes st ev (withRoutes rows (create4 t st)) (newRoute4 new emitted ∷ []) (rw e at h) row))
       (λ e. absurd (not-full i (rw e at a) n))
   added Insert.nothing i {ev′} {r} a n h k =
       let says : r ≡ Done.Rows 0 = k .answer ∙ ap tellOf a in
-      let row : ev′ ≡ put 0 (flat []) ev = k .events ∙ ap (λ (x : Inserted). put 0 (flat (toldOf new x)) ev) a in
+      let row : ev′ ≡ put 0 (flat []) ev = k .events ∙ ap (λ (x : Inserted). put 0 (flat (emittedOf new x)) ev) a in
       rw says (request-goes st ev (create4 t st) [] h row)
   added (Insert.refused m) i {ev′} {r} a n h k =
       let says : r ≡ Done.Refused m = k .answer ∙ ap tellOf a in
-      let row : ev′ ≡ ev = k .events ∙ ap (λ (x : Inserted). put 0 (flat (toldOf new x)) ev) a ∙ sym (put-no-rows ev) in
+      let row : ev′ ≡ ev = k .events ∙ ap (λ (x : Inserted). put 0 (flat (emittedOf new x)) ev) a ∙ sym (put-no-rows ev) in
       rw (says, row) (request-refused st ev m (create4 t st) h)
 
   -- no room for the row
   pub row-full : (d : Insert.Inserted) (i : Inserted) → i ≡ answerOf d → fullOf i ≡ true
-      → Holds w (withRoutes (rowsAfter d (st .routes)) st) → Requested (insertedAs new d (create4 t st)) st w ev ev Done.Full
+      → Represents w (withRoutes (rowsAfter d (st .routes)) st) → Requested (insertedAs new d (create4 t st)) st w ev ev Done.Full
   unfolding create4
-  row-full (Insert.put rows told) i a n h =
+  row-full (Insert.put rows emitted) i a n h =
       test-case (leb (length rows) 256)
       (λ e.
       let g : false ≡ true = sym (ap fullOf (rw e at a)) ∙ n in
@@ -100,7 +100,7 @@ module _ (new : Row) (t : ℕ) (st : State) {w : List ℕ} (ev : List ℕ) where
       absurd (omega arith))
       (λ e.
       let past : within (sizes (withRoutes rows (create4 t st))) ≡ false = rw (e, and-false (leb (length (st .addresses)) 64)) in
-      request-full st ev (insertedAs new (Insert.put rows told) (create4 t st)) (rw past) (rw e at h))
+      request-full st ev (insertedAs new (Insert.put rows emitted) (create4 t st)) (rw past) (rw e at h))
   row-full Insert.nothing i a n h =
       let g : false ≡ true = sym (ap fullOf a) ∙ n in
       let z : _≡_ {A = ℕ} 0 1 = cc in
@@ -118,7 +118,7 @@ module _ (q : Row) (t : ℕ) (st : State) (long : 32 < length (listTable t (st .
 
   inserted-full : (new : Row) (i : Insert.Inserted) → doneOf (insertedAs new i (create4 t st)) ≡ Done.Full
   unfolding create4
-  inserted-full new (Insert.put rows told) = rw (over-tables rows)
+  inserted-full new (Insert.put rows emitted) = rw (over-tables rows)
   inserted-full new Insert.nothing = rw (over-tables (st .routes))
   inserted-full new (Insert.refused n) = rw (over-tables (st .routes))
 
@@ -127,7 +127,7 @@ module _ (q : Row) (t : ℕ) (st : State) (long : 32 < length (listTable t (st .
   goes-full (Routes.refused n) = rw (over-tables (st .routes))
   goes-full (by linked) = inserted-full (askedRoute q linked) (insert4 (askedRoute q linked) (nlmFlags q) (st .routes))
 
-pub table-full : (q : Row) (t : ℕ) {w : List ℕ} {st : State} (ev : List ℕ) → t ≡ tableNamed q → Holds w st → 32 < length (listTable t (tablesOf w))
+pub table-full : (q : Row) (t : ℕ) {w : List ℕ} {st : State} (ev : List ℕ) → t ≡ tableNamed q → Represents w st → 32 < length (listTable t (tablesOf w))
     → Requested (addRoute4 q st) st w ev ev Done.Full
 table-full q t {w} {st} ev e h long =
     let past : 32 < length (listTable (tableNamed q) (st .tables)) = rw (tables-at h, e) at long in
@@ -135,8 +135,8 @@ table-full q t {w} {st} ev e h long =
 
 -- ---- telling
 module _ (new : Row) (i : Inserted) (ev : List ℕ) where
-  pub tells-put : {ev′ : List ℕ} (told : ℕ) → i ≡ Put told → ev′ ≡ put 0 (newRoute4 new told) ev → Tells new i ev ev′ (Done.Rows 1)
-  tells-put told e k = record { answer = rw e; events = rw e (k ∙ one-event (newRoute4 new told) ev) }
+  pub tells-put : {ev′ : List ℕ} (emitted : ℕ) → i ≡ Put emitted → ev′ ≡ put 0 (newRoute4 new emitted) ev → Tells new i ev ev′ (Done.Rows 1)
+  tells-put emitted e k = record { answer = rw e; events = rw e (k ∙ one-event (newRoute4 new emitted) ev) }
 
   pub tells-nothing : i ≡ Nothing → Tells new i ev ev (Done.Rows 0)
   tells-nothing e = record { answer = rw e; events = rw e (put-no-rows ev) }
@@ -160,7 +160,7 @@ check-formed q made linked e =
 pub asked-fits : (q : Row) (made : State) (linked : Bool) → by linked ≡ checkAll q made → length q ≡ 34 → fitAddRoute4 q ≡ true → fitRoute (askedRoute q linked) ≡ true
 asked-fits q made linked e long fit = askedRoute-fit q linked long fit (check-formed q made linked e)
 
-pub room-kept : {w x : List ℕ} {st : State} (t : ℕ) (rows : List Row) → Holds w st → Holds x (withRoutes rows st) → length (listTable t (tablesOf w)) ≤ 32 → length (listTable t (tablesOf x)) ≤ 32
+pub room-kept : {w x : List ℕ} {st : State} (t : ℕ) (rows : List Row) → Represents w st → Represents x (withRoutes rows st) → length (listTable t (tablesOf w)) ≤ 32 → length (listTable t (tablesOf x)) ≤ 32
 room-kept t rows h k room = rw (tables-at k) (rw (tables-at h) at room)
 
 pub asked-new : (x r init : List ℕ) → x ≡ put 0 r init → fitRoute r ≡ true → length init ≡ 32 → x ≡ r
@@ -179,12 +179,12 @@ module _ (q : Row) (linked : Bool) (t : ℕ) (st : State) {w : List ℕ} (ev x :
   way-full f = row-full (askedRoute q linked) t st ev (insert4 (askedRoute q linked) (nlmFlags q) (st .routes)) i (into .answer) f (into .holds)
 
   pub way-on : {y ev′ : List ℕ} {r : Result.Done} → fullOf i ≡ false
-      → Holds y (create4 t (withRoutes (rowsAfter (insert4 x (nlmFlags q) (st .routes)) (st .routes)) st)) → Tells x i ev ev′ r
+      → Represents y (create4 t (withRoutes (rowsAfter (insert4 x (nlmFlags q) (st .routes)) (st .routes)) st)) → Tells x i ev ev′ r
       → Requested (insertedAs (askedRoute q linked) (insert4 (askedRoute q linked) (nlmFlags q) (st .routes)) (create4 t st)) st y ev ev′ r
   way-on f h g = added (askedRoute q linked) t st ev (insert4 (askedRoute q linked) (nlmFlags q) (st .routes)) i (into .answer) f (rw new at h) (rw new at g)
 
 module _ (q : Row) (t : ℕ) (st : State) {w : List ℕ} (ev : List ℕ) (x : Reached) (named : t ≡ tableNamed q) (e : reachedOf x ≡ checkAll q (create4 (tableNamed q) st)) where
-  pub way-refused : (n : ℕ) → x ≡ Reached.Refused n → Holds w (create4 t st) → Requested (addRoute4 q st) st w ev ev (Done.Refused n)
+  pub way-refused : (n : ℕ) → x ≡ Reached.Refused n → Represents w (create4 t st) → Requested (addRoute4 q st) st w ev ev (Done.Refused n)
   way-refused n f h =
       let is : checkAll q (create4 (tableNamed q) st) ≡ Routes.refused n = sym e ∙ ap reachedOf f in
       rw (add-goes q st, is) (request-refused st ev n (create4 (tableNamed q) st) (rw named at h))

@@ -17,7 +17,7 @@ use Rattle.definition.specs.Reference.Insert.{addTable, listTable, create4, ins
 use Rattle.definition.specs.Reference.Addresses.{Outcome}
 use Rattle.definition.specs.Reference.Routes as Routes
 use Rattle.definition.specs.Reference.Routes.{by, refused, tableNamed, formCheck, reachCheck, validPrefsrc4, routed, insertedAs, askedRoute, addRoute4}
-use Rattle.state.specs.Holds.{Holds}
+use Rattle.state.specs.Represents.{Represents}
 use Rattle.state_tables.specs.Listed.{tablesOf}
 use Rattle.state_read.specs.Parts.{listed-there}
 use Rattle.request_prefsrc.specs.Rows.{prefsrcTable, prefsrcRows, prefsrc-rows}
@@ -78,10 +78,10 @@ listed-made u t st other =
     (λ e. rw e (among-add u t (st .tables)))
 
 -- as the code asks for it
-pub or-listed : {w : List ℕ} {st : State} → Holds w st → (u t : ℕ) (b : Bool) → b ≡ among u (tablesOf w) → (b || eqb u t) ≡ (listed u st || eqb u t)
+pub or-listed : {w : List ℕ} {st : State} → Represents w st → (u t : ℕ) (b : Bool) → b ≡ among u (tablesOf w) → (b || eqb u t) ≡ (listed u st || eqb u t)
 or-listed h u t b e = ap (λ (x : Bool). x || eqb u t) (e ∙ listed-there h u)
 
-pub own-listed : {w : List ℕ} {st : State} → Holds w st → (u t : ℕ) (b : Bool) → u ≡ prefsrcTable t → b ≡ among u (tablesOf w)
+pub own-listed : {w : List ℕ} {st : State} → Represents w st → (u t : ℕ) (b : Bool) → u ≡ prefsrcTable t → b ≡ among u (tablesOf w)
     → (b || eqb u t) ≡ (listed (prefsrcTable t) st || eqb (prefsrcTable t) t)
 own-listed {w} {st} h u t b e f = or-listed h u t b f ∙ ap (λ (x : ℕ). listed x st || eqb x t) e
 

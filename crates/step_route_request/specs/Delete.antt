@@ -14,21 +14,21 @@ use Rattle.layout.specs.Route.{fitRoute}
 use Rattle.layout.specs.Event.{delRoute4}
 use Rattle.definition.specs.State.{State, withRoutes}
 use Rattle.definition.specs.Words.{routeCount}
-use Rattle.definition.specs.Kept.Fit.{length-route}
+use Rattle.definition.specs.Preservation.Fit.{length-route}
 use Rattle.definition.specs.Reference.Lookup.{listed}
 use Rattle.definition.specs.Reference.Routes.{tableNamed, badPrefix, selects, delRoute4Request}
-use Rattle.state.specs.Holds.{Holds, Valid, count-routes, sizes-valid}
+use Rattle.state.specs.Represents.{Represents, Valid, count-routes, sizes-valid}
 use Rattle.state.specs.Change.{route-at, fit-route-at}
 use Rattle.state_tables.specs.Listed.{tablesOf}
 use Rattle.state_read.specs.Parts.{listed-there}
-use Rattle.step_route_request.specs.Done.{Requested, request-refused, request-told}
+use Rattle.step_route_request.specs.Done.{Requested, request-refused, request-emitted}
 use Rattle.step_route_request.specs.declared.Done.the-variants.{Rows, Refused}
 
 -- row i, as it is lent
 abbrev pub routeRow : List ℕ → ℕ → Row
 routeRow w i = take (1283 + 32 * i + 32 - (1283 + 32 * i)) (drop (1283 + 32 * i) w)
 
-module _ {w : List ℕ} {st : State} (h : Holds w st) (i : ℕ) (b : i < routeCount w) where
+module _ {w : List ℕ} {st : State} (h : Represents w st) (i : ℕ) (b : i < routeCount w) where
   row-there : routeRow w i ≡ getD (st .routes) i []
   unfolding span
   row-there =
@@ -48,7 +48,7 @@ row-long {w} v i b = length-route (routeRow w i) (row-fit (v .holds) i b)
 pub row-end : {w : List ℕ} → Valid w → (i : ℕ) → i < routeCount w → 1283 + 32 * i + 32 ≤ length w
 row-end {w} v i b = omega (arith, sizes-valid v)
 
-module _ (q : Row) {w : List ℕ} {st : State} (h : Holds w st) (ev : List ℕ) where
+module _ (q : Row) {w : List ℕ} {st : State} (h : Represents w st) (ev : List ℕ) where
   pub del-unlisted : (t : ℕ) (b : Bool) → t ≡ tableNamed q → b ≡ among t (tablesOf w) → b ≡ false → Requested (delRoute4Request q st) st w ev ev (Refused 3)
   unfolding delRoute4Request
   del-unlisted t b e f g =
@@ -78,14 +78,14 @@ module _ (q : Row) {w : List ℕ} {st : State} (h : Holds w st) (ev : List ℕ) 
           let none-there : first (selects q) (st .routes) ≡ none = found ∙ nothing-from (st .routes) i (omega (arith, count-routes h)) in
           rw (on, good, none-there) (request-refused st ev 3 st h)
 
-      pub del-row : {w′ ev′ : List ℕ} → i < routeCount w → Holds w′ (withRoutes (removeAt i (st .routes)) st) → ev′ ≡ put 0 (delRoute4 (routeRow w i)) ev
+      pub del-row : {w′ ev′ : List ℕ} → i < routeCount w → Represents w′ (withRoutes (removeAt i (st .routes)) st) → ev′ ≡ put 0 (delRoute4 (routeRow w i)) ev
           → Requested (delRoute4Request q st) st w′ ev ev′ (Rows 1)
       unfolding delRoute4Request removeAt
-      del-row {w′} {ev′} r after told =
+      del-row {w′} {ev′} r after emitted =
           let there : first (selects q) (st .routes) ≡ some (getD (st .routes) i []) = found ∙ something-at (st .routes) i [] (omega (arith, count-routes h)) in
           let rest : removeAt i (st .routes) ≡ removeFirst (selects q) (st .routes) =
           ap (λ (n : ℕ). removeAt n (st .routes)) place ∙ sym (remove-at (selects q) (st .routes))
           in
-          let row : ev′ ≡ put 0 (delRoute4 (getD (st .routes) i [])) ev = rw (row-there h i r) at told in
+          let row : ev′ ≡ put 0 (delRoute4 (getD (st .routes) i [])) ev = rw (row-there h i r) at emitted in
           rw (on, good, there)
-          (request-told st ev (withRoutes (removeFirst (selects q) (st .routes)) st) (delRoute4 (getD (st .routes) i [])) (rw rest at after) row)
+          (request-emitted st ev (withRoutes (removeFirst (selects q) (st .routes)) st) (delRoute4 (getD (st .routes) i [])) (rw rest at after) row)

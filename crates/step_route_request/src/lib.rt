@@ -11,7 +11,7 @@ ghost use Rattle.definition.specs.State.{State};
 ghost use Rattle.definition.specs.Reference.Routes.{by, tableNamed, insertedAs, askedRoute, addRoute4, delRoute4Request};
 ghost use Rattle.definition.specs.Reference.Lookup.{listed};
 ghost use Rattle.definition.specs.Reference.Insert.{listTable, create4, insert4};
-ghost use Rattle.state.specs.Holds.{Holds, Valid, Sound};
+ghost use Rattle.state.specs.Represents.{Represents, Valid, Sound};
 ghost use Rattle.state_tables.specs.Listed.{tablesOf};
 ghost use Rattle.request_gateway.specs.Rows.{reachedOf};
 ghost use Rattle.layout.specs.Route.{fitRoute};
@@ -32,7 +32,7 @@ pub fn del_route4(s: &mut [u32], ev: &mut [u32], q: &[u32]) -> Done
     requires { ⌜ Valid (now s) ⌝ }
     requires { ⌜ (length (now q) ≡ 49) × (fitDelRoute4 (now q) ≡ true) ⌝ }
     requires { ⌜ 34 ≤ length (now ev) ⌝ }
-    ensures { λ r. ⌜ ((st : State) → Holds (now (s .entry)) st → Requested (delRoute4Request (now (q .entry)) st) st (now (s .exit)) (now (ev .entry)) (now (ev .exit)) r) ⌝ }
+    ensures { λ r. ⌜ ((st : State) → Represents (now (s .entry)) st → Requested (delRoute4Request (now (q .entry)) st) st (now (s .exit)) (now (ev .entry)) (now (ev .exit)) r) ⌝ }
 {
     let t = request_route::table_named(q);
     if !state_tables::listed(s, t) {
@@ -56,7 +56,7 @@ pub fn del_route4(s: &mut [u32], ev: &mut [u32], q: &[u32]) -> Done
 fn prefsrc_check(s: &[u32], q: &[u32], t: u32, local: bool, linked: bool) -> Reached
     requires { ⌜ Valid (now s) ⌝ }
     requires { ⌜ (length (now q) ≡ 34) × (t ≡ tableNamed (now q)) ⌝ }
-    ensures { λ r. ⌜ ((st : State) → Holds (now (s .entry)) st → local ≡ (listed 255 st || eqb 255 t) → reachedOf r ≡ prefsrcCheck (now (q .entry)) (by linked) (create4 (tableNamed (now (q .entry))) st)) ⌝ }
+    ensures { λ r. ⌜ ((st : State) → Represents (now (s .entry)) st → local ≡ (listed 255 st || eqb 255 t) → reachedOf r ≡ prefsrcCheck (now (q .entry)) (by linked) (create4 (tableNamed (now (q .entry))) st)) ⌝ }
 {
     if q[8] != 1 {
         return Reached::By(linked);
@@ -74,7 +74,7 @@ fn prefsrc_check(s: &[u32], q: &[u32], t: u32, local: bool, linked: bool) -> Rea
 fn check(s: &[u32], q: &[u32]) -> Reached
     requires { ⌜ Valid (now s) ⌝ }
     requires { ⌜ (length (now q) ≡ 34) × (fitAddRoute4 (now q) ≡ true) ⌝ }
-    ensures { λ r. ⌜ ((st : State) → Holds (now (s .entry)) st → reachedOf r ≡ checkAll (now (q .entry)) (create4 (tableNamed (now (q .entry))) st)) ⌝ }
+    ensures { λ r. ⌜ ((st : State) → Represents (now (s .entry)) st → reachedOf r ≡ checkAll (now (q .entry)) (create4 (tableNamed (now (q .entry))) st)) ⌝ }
 {
     let number = request_route::form_check(q);
     if number != 0 {
@@ -124,7 +124,7 @@ fn add_checked(s: &mut [u32], ev: &mut [u32], q: &[u32], t: u32, linked: bool) -
     requires { ⌜ length (listTable t (tablesOf (now s))) ≤ 32 ⌝ }
     requires { ⌜ (length (now q) ≡ 34) × (fitRoute (askedRoute (now q) linked) ≡ true) ⌝ }
     requires { ⌜ 34 ≤ length (now ev) ⌝ }
-    ensures { λ r. ⌜ ((st : State) → Holds (now (s .entry)) st → fitState st ≡ true → Requested (insertedAs (askedRoute (now (q .entry)) linked) (insert4 (askedRoute (now (q .entry)) linked) (nlmFlags (now (q .entry))) (st .routes)) (create4 t st)) st (now (s .exit)) (now (ev .entry)) (now (ev .exit)) r) ⌝ }
+    ensures { λ r. ⌜ ((st : State) → Represents (now (s .entry)) st → fitState st ≡ true → Requested (insertedAs (askedRoute (now (q .entry)) linked) (insert4 (askedRoute (now (q .entry)) linked) (nlmFlags (now (q .entry))) (st .routes)) (create4 t st)) st (now (s .exit)) (now (ev .entry)) (now (ev .exit)) r) ⌝ }
 {
     let mut new = [0u32; 32];
     request_route::asked_route(q, linked, &mut new);
@@ -141,7 +141,7 @@ pub fn add_route4(s: &mut [u32], ev: &mut [u32], q: &[u32]) -> Done
     requires { ⌜ Sound (now s) ⌝ }
     requires { ⌜ (length (now q) ≡ 34) × (fitAddRoute4 (now q) ≡ true) ⌝ }
     requires { ⌜ 34 ≤ length (now ev) ⌝ }
-    ensures { λ r. ⌜ ((st : State) → Holds (now (s .entry)) st → fitState st ≡ true → Requested (addRoute4 (now (q .entry)) st) st (now (s .exit)) (now (ev .entry)) (now (ev .exit)) r) ⌝ }
+    ensures { λ r. ⌜ ((st : State) → Represents (now (s .entry)) st → fitState st ≡ true → Requested (addRoute4 (now (q .entry)) st) st (now (s .exit)) (now (ev .entry)) (now (ev .exit)) r) ⌝ }
 {
     let t = request_route::table_named(q);
     if 32 < state_tables::tables_after(s, t) {

@@ -5,11 +5,11 @@ use Rattle.layout.specs.Request.{addV4Size, fitAddV4}
 use Rattle.definition.specs.Words.{decode}
 use Rattle.definition.specs.Step.{addV4Call}
 use Rattle.definition.specs.Reference.Addresses.{addV4}
-use Rattle.definition.specs.Kept.Numbers.{addV4-number}
+use Rattle.definition.specs.Preservation.Numbers.{addV4-number}
 use Rattle.call_change.specs.Requests.{asked-sound, request-no, request-asked}
 use Rattle.definition.specs.Laws.Refusals.{addV4-leaves}
 use Rattle.call_add.specs.Laws.{cameOf, comes-answers}
-use Rattle.call_change.specs.Told.{add-v4-told, told-says}
+use Rattle.call_change.specs.Told.{add-v4-emitted, emitted-says}
 use borrow.Author.Needs.{needs}
 use Rattle.call_add.proofs.add_v4.Statement.{statement}
 use Rattle.call_add.proofs.add_v4.Tie as tie
@@ -31,7 +31,7 @@ returns c =
     let a = i .before .before .before .before .args in
     let x = request-no (a .q .now) (a .state .now) (a .events .now) (k .checked .result) addV4Size (fitAddV4 (a .q .now)) (i .fit-add-v4 .result) (addV4 (a .q .now) (a .clock)) (i .fit-add-v4 .ensures) (k .checked .ensures) (c .if1 .taken) in
     let e = x .answer in
-    (told-says (add-v4-told (a .state .now) (length (a .events .now)) (a .q .now) (a .clock)) e, (e, (x .words, x .events)))
+    (emitted-says (add-v4-emitted (a .state .now) (length (a .events .now)) (a .q .now) (a .clock)) e, (e, (x .words, x .events)))
 
 add-v4-requires : tie.Need-add-v4-requires
 add-v4-requires c κs =
@@ -72,7 +72,7 @@ returns-2 c =
     (addV4-number (a .q .now) (a .clock) (decode (a .state .now))) (p .good) (p .same)
     (addV4-leaves (a .q .now) (a .clock) (decode (a .state .now))) d (y .add-v4 .ensures .1 .0) in
     let e = ap cameOf (sym (c .before .came .given .1)) ∙ x .answer in
-    (told-says (add-v4-told (a .state .now) (length (a .events .now)) (a .q .now) (a .clock)) e, (e, (x .words, x .events)))
+    (emitted-says (add-v4-emitted (a .state .now) (length (a .events .now)) (a .q .now) (a .clock)) e, (e, (x .words, x .events)))
 
 same-length-4 : tie.Need-same-length-4
 same-length-4 c = search needs
@@ -95,7 +95,7 @@ returns-3 c =
     (addV4-number (a .q .now) (a .clock) (decode (a .state .now))) (p .good) (p .same)
     (addV4-leaves (a .q .now) (a .clock) (decode (a .state .now))) d (y .add-v4 .ensures .1 .0) in
     let e = ap cameOf (sym (c .before .came2 .given .1)) ∙ x .answer in
-    (told-says (add-v4-told (a .state .now) (length (a .events .now)) (a .q .now) (a .clock)) e, (e, (x .words, x .events)))
+    (emitted-says (add-v4-emitted (a .state .now) (length (a .events .now)) (a .q .now) (a .clock)) e, (e, (x .words, x .events)))
 
 same-length-6 : tie.Need-same-length-6
 same-length-6 c = search needs
@@ -118,7 +118,7 @@ returns-4 c =
     (addV4-number (a .q .now) (a .clock) (decode (a .state .now))) (p .good) (p .same)
     (addV4-leaves (a .q .now) (a .clock) (decode (a .state .now))) d (y .add-v4 .ensures .1 .0) in
     let e = ap cameOf (sym (c .enum-told .given .1)) ∙ x .answer in
-    (told-says (add-v4-told (a .state .now) (length (a .events .now)) (a .q .now) (a .clock)) e, (e, (x .words, x .events)))
+    (emitted-says (add-v4-emitted (a .state .now) (length (a .events .now)) (a .q .now) (a .clock)) e, (e, (x .words, x .events)))
 
 pub add-v4-spec : {M : Type 1} → statement M
 add-v4-spec =

@@ -5,8 +5,8 @@ use borrow.Author.Tests.{leb-true}
 use Rattle.definition.specs.Words.{decode}
 use Rattle.definition.specs.Step.{eventsFit}
 use Rattle.call_read.specs.Laws.{passed, held}
-use Rattle.call_add.specs.Laws.{toldOf, up-no, up-yes, good-passed}
-use Rattle.call_change.specs.Told.{up-told, told-says}
+use Rattle.call_add.specs.Laws.{emittedOf, up-no, up-yes, good-passed}
+use Rattle.call_change.specs.Told.{up-emitted, emitted-says}
 use borrow.Author.Needs.{needs}
 use Rattle.call_add.proofs.up.Statement.{statement}
 use Rattle.call_add.proofs.up.Tie as tie
@@ -24,7 +24,7 @@ returns c =
     let a = k .before .before .before .before .args in
     let x = up-no (a .state .now) (a .events .now) (k .checked .result) (a .clock) (k .checked .ensures) (c .if1 .taken) in
     let e = x .answer in
-    (told-says (up-told (a .state .now) (length (a .events .now)) (a .clock)) e, (e, (x .words, x .events)))
+    (emitted-says (up-emitted (a .state .now) (length (a .events .now)) (a .clock)) e, (e, (x .words, x .events)))
 
 up-requires : tie.Need-up-requires
 up-requires c κs =
@@ -34,8 +34,8 @@ up-requires c κs =
     let p = passed (eventsFit (length (a .events .now))) true true (a .state .now) (k .checked .result) (k .checked .ensures) (e .if1 .left) in
     (sound (eventsFit (length (a .events .now))) true (a .state .now) (k .checked .result) (k .checked .ensures) (e .if1 .left), leb-true 13056 (length (a .events .now)) (p .room))
 
-enum-known-told : tie.Need-enum-known-told
-enum-known-told c = search needs
+enum-known-emitted : tie.Need-enum-known-emitted
+enum-known-emitted c = search needs
 
 enum-told : tie.Need-enum-told
 enum-told c = search needs
@@ -55,8 +55,8 @@ returns-2 c =
     let g = good-passed (eventsFit (length (a .events .now))) true (a .state .now) (k .checked .result) (k .checked .ensures) (e .if1 .left) in
     let d = y .up .ensures .1 .1 (decode (a .state .now)) (held (eventsFit (length (a .events .now))) true true (a .state .now) (k .checked .result) (k .checked .ensures) (e .if1 .left)) (g .fits) in
     let x = up-yes (a .state .now) (a .events .now) (k .checked .result) (a .clock) (k .checked .ensures) _ _ (y .up .result) (e .if1 .left) d (y .up .ensures .1 .0) in
-    let e = ap toldOf (sym (c .before .told .given .1)) ∙ x .answer in
-    (told-says (up-told (a .state .now) (length (a .events .now)) (a .clock)) e, (e, (x .words, x .events)))
+    let e = ap emittedOf (sym (c .before .emitted .given .1)) ∙ x .answer in
+    (emitted-says (up-emitted (a .state .now) (length (a .events .now)) (a .clock)) e, (e, (x .words, x .events)))
 
 same-length-4 : tie.Need-same-length-4
 same-length-4 c = search needs
@@ -73,8 +73,8 @@ returns-3 c =
     let g = good-passed (eventsFit (length (a .events .now))) true (a .state .now) (k .checked .result) (k .checked .ensures) (e .if1 .left) in
     let d = y .up .ensures .1 .1 (decode (a .state .now)) (held (eventsFit (length (a .events .now))) true true (a .state .now) (k .checked .result) (k .checked .ensures) (e .if1 .left)) (g .fits) in
     let x = up-yes (a .state .now) (a .events .now) (k .checked .result) (a .clock) (k .checked .ensures) _ _ (y .up .result) (e .if1 .left) d (y .up .ensures .1 .0) in
-    let e = ap toldOf (sym (c .enum-told .given .1)) ∙ x .answer in
-    (told-says (up-told (a .state .now) (length (a .events .now)) (a .clock)) e, (e, (x .words, x .events)))
+    let e = ap emittedOf (sym (c .enum-told .given .1)) ∙ x .answer in
+    (emitted-says (up-emitted (a .state .now) (length (a .events .now)) (a .clock)) e, (e, (x .words, x .events)))
 
 pub up-spec : {M : Type 1} → statement M
 up-spec =
@@ -84,7 +84,7 @@ up-spec =
     same-length
     returns
     up-requires
-    enum-known-told
+    enum-known-emitted
     enum-told
     same-length-2
     same-length-3

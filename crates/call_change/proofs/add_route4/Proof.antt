@@ -5,9 +5,9 @@ use Rattle.layout.specs.Request.{addRoute4Size, fitAddRoute4}
 use Rattle.definition.specs.Words.{decode}
 use Rattle.definition.specs.Step.{addRoute4Call}
 use Rattle.definition.specs.Reference.Routes.{addRoute4}
-use Rattle.definition.specs.Kept.Numbers.{addRoute4-number}
+use Rattle.definition.specs.Preservation.Numbers.{addRoute4-number}
 use Rattle.call_change.specs.Requests.{asked-sound, request-no, request-asked, request-yes}
-use Rattle.call_change.specs.Told.{add-route4-told, told-says}
+use Rattle.call_change.specs.Told.{add-route4-emitted, emitted-says}
 use borrow.Author.Needs.{needs}
 use Rattle.call_change.proofs.add_route4.Statement.{statement}
 use Rattle.call_change.proofs.add_route4.Tie as tie
@@ -29,7 +29,7 @@ returns c =
     let a = i .before .before .before .before .args in
     let x = request-no (a .q .now) (a .state .now) (a .events .now) (k .checked .result) addRoute4Size (fitAddRoute4 (a .q .now)) (i .fit-add-route4 .result) (addRoute4 (a .q .now)) (i .fit-add-route4 .ensures) (k .checked .ensures) (c .if1 .taken) in
     let e = x .answer in
-    (told-says (add-route4-told (a .state .now) (length (a .events .now)) (a .q .now)) e, (e, (x .words, x .events)))
+    (emitted-says (add-route4-emitted (a .state .now) (length (a .events .now)) (a .q .now)) e, (e, (x .words, x .events)))
 
 add-route4-requires : tie.Need-add-route4-requires
 add-route4-requires c κs =
@@ -61,7 +61,7 @@ returns-2 c =
     let d = y .add-route4 .ensures (decode (a .state .now)) (p .holds) (p .good .fits) in
     let x = request-yes p _ _ (y .add-route4 .result) (addRoute4-number (a .q .now) (decode (a .state .now)) (p .fit)) d in
     let e = c .public-of .ensures ∙ x .answer in
-    (told-says (add-route4-told (a .state .now) (length (a .events .now)) (a .q .now)) e, (e, (x .words, x .events)))
+    (emitted-says (add-route4-emitted (a .state .now) (length (a .events .now)) (a .q .now)) e, (e, (x .words, x .events)))
 
 pub add-route4-spec : {M : Type 1} → statement M
 add-route4-spec =

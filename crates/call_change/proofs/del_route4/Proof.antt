@@ -5,10 +5,10 @@ use Rattle.layout.specs.Request.{delRoute4Size, fitDelRoute4}
 use Rattle.definition.specs.Words.{decode}
 use Rattle.definition.specs.Step.{delRoute4Call}
 use Rattle.definition.specs.Reference.Routes.{delRoute4Request}
-use Rattle.definition.specs.Kept.Numbers.{delRoute4-number}
-use Rattle.state.specs.Holds.{sound-valid}
+use Rattle.definition.specs.Preservation.Numbers.{delRoute4-number}
+use Rattle.state.specs.Represents.{sound-valid}
 use Rattle.call_change.specs.Requests.{asked-sound, request-no, request-asked, request-yes}
-use Rattle.call_change.specs.Told.{del-route4-told, told-says}
+use Rattle.call_change.specs.Told.{del-route4-emitted, emitted-says}
 use borrow.Author.Needs.{needs}
 use Rattle.call_change.proofs.del_route4.Statement.{statement}
 use Rattle.call_change.proofs.del_route4.Tie as tie
@@ -30,7 +30,7 @@ returns c =
     let a = i .before .before .before .before .args in
     let x = request-no (a .q .now) (a .state .now) (a .events .now) (k .checked .result) delRoute4Size (fitDelRoute4 (a .q .now)) (i .fit-del-route4 .result) (delRoute4Request (a .q .now)) (i .fit-del-route4 .ensures) (k .checked .ensures) (c .if1 .taken) in
     let e = x .answer in
-    (told-says (del-route4-told (a .state .now) (length (a .events .now)) (a .q .now)) e, (e, (x .words, x .events)))
+    (emitted-says (del-route4-emitted (a .state .now) (length (a .events .now)) (a .q .now)) e, (e, (x .words, x .events)))
 
 del-route4-requires : tie.Need-del-route4-requires
 del-route4-requires c κs =
@@ -62,7 +62,7 @@ returns-2 c =
     let d = y .del-route4 .ensures (decode (a .state .now)) (p .holds) in
     let x = request-yes p _ _ (y .del-route4 .result) (delRoute4-number (a .q .now) (decode (a .state .now))) d in
     let e = c .public-of .ensures ∙ x .answer in
-    (told-says (del-route4-told (a .state .now) (length (a .events .now)) (a .q .now)) e, (e, (x .words, x .events)))
+    (emitted-says (del-route4-emitted (a .state .now) (length (a .events .now)) (a .q .now)) e, (e, (x .words, x .events)))
 
 pub del-route4-spec : {M : Type 1} → statement M
 del-route4-spec =

@@ -7,7 +7,7 @@ use Rattle.definition.specs.Reference.Removal.{delV4}
 use Rattle.call_change.specs.Answer.{deletedOf}
 use Rattle.call_change.specs.Requests.{request-no, request-asked}
 use Rattle.call_change.specs.Steps.{roomy-held, deletes-answers}
-use Rattle.call_change.specs.Told.{del-v4-told, told-says}
+use Rattle.call_change.specs.Told.{del-v4-emitted, emitted-says}
 use borrow.Author.Needs.{needs}
 use Rattle.call_change.proofs.del_v4.Statement.{statement}
 use Rattle.call_change.proofs.del_v4.Tie as tie
@@ -29,7 +29,7 @@ returns c =
     let a = i .before .before .before .before .args in
     let x = request-no (a .q .now) (a .state .now) (a .events .now) (k .checked .result) delV4Size (fitDelV4 (a .q .now)) (i .fit-del-v4 .result) (delV4 (a .q .now)) (i .fit-del-v4 .ensures) (k .checked .ensures) (c .if1 .taken) in
     let e = x .answer in
-    (told-says (del-v4-told (a .state .now) (length (a .events .now)) (a .q .now)) e, (e, (x .words, x .events)))
+    (emitted-says (del-v4-emitted (a .state .now) (length (a .events .now)) (a .q .now)) e, (e, (x .words, x .events)))
 
 del-v4-requires : tie.Need-del-v4-requires
 del-v4-requires c κs =
@@ -64,7 +64,7 @@ returns-2 c =
     let d = y .del-v4 .ensures (decode (a .state .now)) (roomy-held (a .state .now) (a .events .now) (p .good) (p .holds) (p .room)) in
     let x = deletes-answers (a .q .now) (a .state .now) (a .events .now) p _ _ (y .del-v4 .result) d in
     let e = ap deletedOf (sym (c .before .deleted .given .1)) ∙ x .answer in
-    (told-says (del-v4-told (a .state .now) (length (a .events .now)) (a .q .now)) e, (e, (x .words, x .events)))
+    (emitted-says (del-v4-emitted (a .state .now) (length (a .events .now)) (a .q .now)) e, (e, (x .words, x .events)))
 
 same-length-4 : tie.Need-same-length-4
 same-length-4 c = search needs
@@ -84,7 +84,7 @@ returns-3 c =
     let d = y .del-v4 .ensures (decode (a .state .now)) (roomy-held (a .state .now) (a .events .now) (p .good) (p .holds) (p .room)) in
     let x = deletes-answers (a .q .now) (a .state .now) (a .events .now) p _ _ (y .del-v4 .result) d in
     let e = ap deletedOf (sym (c .enum-told .given .1)) ∙ x .answer in
-    (told-says (del-v4-told (a .state .now) (length (a .events .now)) (a .q .now)) e, (e, (x .words, x .events)))
+    (emitted-says (del-v4-emitted (a .state .now) (length (a .events .now)) (a .q .now)) e, (e, (x .words, x .events)))
 
 pub del-v4-spec : {M : Type 1} → statement M
 del-v4-spec =

@@ -4,7 +4,7 @@ use Rattle.definition.specs.Words.{decode}
 use Rattle.definition.specs.Step.{eventsFit}
 use Rattle.call_read.specs.Laws.{valid, held}
 use Rattle.call_change.specs.Laws.{down-no, down-yes}
-use Rattle.call_change.specs.Told.{down-told, told-says}
+use Rattle.call_change.specs.Told.{down-emitted, emitted-says}
 use borrow.Author.Needs.{needs}
 use Rattle.call_change.proofs.down.Statement.{statement}
 use Rattle.call_change.proofs.down.Tie as tie
@@ -21,7 +21,7 @@ returns c =
     let a = k .before .before .before .before .args in
     let x = down-no (a .state .now) (a .events .now) (k .checked .result) (k .checked .ensures) (c .if1 .taken) in
     let e = x .answer in
-    (told-says (down-told (a .state .now) (length (a .events .now))) e, (e, (x .words, x .events)))
+    (emitted-says (down-emitted (a .state .now) (length (a .events .now))) e, (e, (x .words, x .events)))
 
 down-requires : tie.Need-down-requires
 down-requires c κs =
@@ -42,7 +42,7 @@ returns-2 c =
     let h = held (eventsFit (length (a .events .now))) true true (a .state .now) (k .checked .result) (k .checked .ensures) (e .if1 .left) in
     let x = down-yes (a .state .now) (a .events .now) (k .checked .result) (k .checked .ensures) _ (e .if1 .left) (y .down .ensures (decode (a .state .now)) h) in
     let e = x .answer in
-    (told-says (down-told (a .state .now) (length (a .events .now))) e, (e, (x .words, x .events)))
+    (emitted-says (down-emitted (a .state .now) (length (a .events .now))) e, (e, (x .words, x .events)))
 
 pub down-spec : {M : Type 1} → statement M
 down-spec =

@@ -3,7 +3,7 @@ use lib.ListN.{length}
 use Rattle.definition.specs.Words.{decode}
 use Rattle.definition.specs.Step.{eventsFit, clockLimit}
 use Rattle.call_change.specs.Steps.{expire-no, expire-room, expire-yes, roomy-buffer}
-use Rattle.call_change.specs.Told.{expire-told, told-says}
+use Rattle.call_change.specs.Told.{expire-emitted, emitted-says}
 use borrow.Author.Needs.{needs}
 use Rattle.call_change.proofs.expire.Statement.{statement}
 use Rattle.call_change.proofs.expire.Tie as tie
@@ -20,7 +20,7 @@ returns c =
     let a = k .before .before .before .before .args in
     let x = expire-no (a .state .now) (a .events .now) (k .checked .result) (a .clock) (k .checked .ensures) (c .if1 .taken) in
     let e = x .answer in
-    (told-says (expire-told (a .state .now) (length (a .events .now)) (a .clock)) e, (e, (x .words, x .events)))
+    (emitted-says (expire-emitted (a .state .now) (length (a .events .now)) (a .clock)) e, (e, (x .words, x .events)))
 
 expire-requires : tie.Need-expire-requires
 expire-requires c κs =
@@ -44,7 +44,7 @@ returns-2 c =
     let t = y .expire .ensures (decode (a .state .now)) (roomy-buffer (eventsFit (length (a .events .now))) (leb (a .clock) clockLimit) (a .state .now) (a .events .now) (k .checked .result) (k .checked .ensures) (e .if1 .left) (expire-room (a .state .now) (a .events .now) (k .checked .result) (a .clock) (k .checked .ensures) (e .if1 .left))) in
     let x = expire-yes (a .state .now) (a .events .now) (k .checked .result) (a .clock) (k .checked .ensures) _ _ (y .expire .result) (e .if1 .left) t in
     let e = x .answer in
-    (told-says (expire-told (a .state .now) (length (a .events .now)) (a .clock)) e, (e, (x .words, x .events)))
+    (emitted-says (expire-emitted (a .state .now) (length (a .events .now)) (a .clock)) e, (e, (x .words, x .events)))
 
 pub expire-spec : {M : Type 1} → statement M
 expire-spec =

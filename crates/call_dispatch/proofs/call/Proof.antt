@@ -5,7 +5,7 @@ use lib.ListN.{length}
 use borrow.Author.Tests.{le-leb, lt-leb}
 use Rattle.call_change.specs.Told.{small}
 use Rattle.call_dispatch.specs.Numbered.{changeBy}
-use Rattle.call_dispatch.specs.Laws.{change-told, called-change, called-read}
+use Rattle.call_dispatch.specs.Laws.{change-emitted, called-change, called-read}
 use borrow.Author.Needs.{needs}
 use Rattle.call_dispatch.proofs.call.Statement.{statement}
 use Rattle.call_dispatch.proofs.call.Tie as tie
@@ -24,7 +24,7 @@ done-requires c κs =
     let q = now (a .lent) in
     let n = length (now (a .buffer)) in
     let w = now (a .state) in
-    small (k .change .result) (changeBy (a .code) q t n w .reply) (k .change .ensures .answer) (change-told (a .code) q t n w)
+    small (k .change .result) (changeBy (a .code) q t n w .reply) (k .change .ensures .answer) (change-emitted (a .code) q t n w)
 
 same-length : tie.Need-same-length
 same-length c = search needs

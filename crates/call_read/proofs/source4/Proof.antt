@@ -1,7 +1,7 @@
 use mathlib.Core.Path.{sym, ap, _∙_}
 use mathlib.Core.Bool.{true}
 use Rattle.definition.specs.Words.{decode}
-use Rattle.definition.specs.Kept.Fit.{length-route}
+use Rattle.definition.specs.Preservation.Fit.{length-route}
 use Rattle.call_read.specs.Answer.{chosenFor}
 use Rattle.call_read.specs.Laws.{valid, held, passed, source4-no, source4-yes}
 use Rattle.call_read.specs.Numbers.{source4-says}

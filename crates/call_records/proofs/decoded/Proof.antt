@@ -5,7 +5,7 @@ use mathlib.Core.Path.{sym, ap, _∙_}
 use mathlib.Core.List.{map}
 use lib.ListN.{take}
 use Rattle.row_address.specs.Words.{rowOf}
-use Rattle.state.specs.Holds.{sizes-valid}
+use Rattle.state.specs.Represents.{sizes-valid}
 use Rattle.state_read.specs.Parts.{ready-addresses, of-addresses}
 use Rattle.call_records.specs.Laws.{few}
 use borrow.Author.Needs.{needs}

@@ -7,7 +7,7 @@ use lib.ListN.{take}
 use Rattle.lists.specs.Lists.{Row}
 use Rattle.row_address.specs.Words.{rowOf}
 use Rattle.definition.specs.Reference.Addresses.{primaryOf}
-use Rattle.state.specs.Holds.{sizes-valid}
+use Rattle.state.specs.Represents.{sizes-valid}
 use Rattle.call_records.specs.Laws.{few}
 use borrow.Author.Needs.{needs}
 use Rattle.call_records.proofs.primary_of_in.Statement.{statement}

@@ -8,7 +8,7 @@ use Rattle.lists.specs.Lists.{Row}
 use Rattle.row_address.specs.Words.{rowOf}
 use Rattle.definition.specs.Reference.Source.{select4}
 use Rattle.rows_source.specs.Selected.{wanted}
-use Rattle.state.specs.Holds.{sizes-valid}
+use Rattle.state.specs.Represents.{sizes-valid}
 use Rattle.call_records.specs.Laws.{few}
 use borrow.Author.Needs.{needs}
 use Rattle.call_records.proofs.select4_in.Statement.{statement}

@@ -12,8 +12,8 @@ use Rattle.lists.specs.Count.{Within, within-first, within-rest, length-removeF
 use Rattle.layout.specs.Address.{secondary}
 use Rattle.definition.specs.State.{State, Out, also, through, withAddresses}
 use Rattle.definition.specs.Reference.Addresses.{sameSubnet}
-use Rattle.definition.specs.Reference.Removal.{removeOne, removeV4, goneWith, due, fades, faded, marked, fade, passes, expire}
-use Rattle.definition.specs.Kept.Shrinking.{removeOne-removes, goneWith-within}
+use Rattle.definition.specs.Reference.Removal.{removeOne, removeV4, goneWith, due, deprecates, deprecate, marked, deprecateDue, passes, expire}
+use Rattle.definition.specs.Preservation.Shrinking.{removeOne-removes, goneWith-within}
 
 -- ---- what a removal does to the addresses
 -- several go, of which each is there: as many addresses fewer
@@ -44,28 +44,28 @@ also-at o f g e = rw e
 
 -- ---- a pass
 module _ (allowance now : ℕ) where
-  fade-length : (st : State) → length (fade allowance now st .state .addresses) ≡ length (st .addresses)
-  unfolding fade
-  fade-length st =
+  deprecateDue-length : (st : State) → length (deprecateDue allowance now st .state .addresses) ≡ length (st .addresses)
+  unfolding deprecateDue
+  deprecateDue-length st =
       simp (length-append, length-map)
       (sym (length-append (until (due allowance now) (st .addresses)) (onward (due allowance now) (st .addresses))) ∙ ap length (until-onward (due allowance now) (st .addresses)))
 
-  fade-there : (st : State) (a : Row) → first (due allowance now) (st .addresses) ≡ some a → any (eqRow a) (fade allowance now st .state .addresses) ≡ true
-  unfolding fade
-  fade-there st a e =
+  deprecateDue-there : (st : State) (a : Row) → first (due allowance now) (st .addresses) ≡ some a → any (eqRow a) (deprecateDue allowance now st .state .addresses) ≡ true
+  unfolding deprecateDue
+  deprecateDue-there st a e =
       any-back (eqRow a) (map (marked allowance now) (until (due allowance now) (st .addresses))) (onward (due allowance now) (st .addresses)) (onward-first (due allowance now) (st .addresses) a e)
 
   -- each pass but the last removes an address
-  pass-fewer : (st : State) (a : Row) → first (due allowance now) (st .addresses) ≡ some a → length (removeV4 a (fade allowance now st .state) .state .addresses) < length (st .addresses)
+  pass-fewer : (st : State) (a : Row) → first (due allowance now) (st .addresses) ≡ some a → length (removeV4 a (deprecateDue allowance now st .state) .state .addresses) < length (st .addresses)
   pass-fewer st a e =
-      let fewer = remove-fewer a (fade allowance now st .state) (fade-there st a e) in
-      omega (arith, fade-length st)
+      let fewer = remove-fewer a (deprecateDue allowance now st .state) (deprecateDue-there st a e) in
+      omega (arith, deprecateDue-length st)
 
-  pass : (n : ℕ) (st : State) (a : Row) → first (due allowance now) (st .addresses) ≡ some a → passes (suc n) allowance now st ≡ also (also (fade allowance now st) (removeV4 a)) (passes n allowance now)
+  pass : (n : ℕ) (st : State) (a : Row) → first (due allowance now) (st .addresses) ≡ some a → passes (suc n) allowance now st ≡ also (also (deprecateDue allowance now st) (removeV4 a)) (passes n allowance now)
   unfolding passes
   pass n st a e = rw (e, passes)
 
-  last : (n : ℕ) (st : State) → first (due allowance now) (st .addresses) ≡ none → passes n allowance now st ≡ fade allowance now st
+  last : (n : ℕ) (st : State) → first (due allowance now) (st .addresses) ≡ none → passes n allowance now st ≡ deprecateDue allowance now st
   unfolding passes
   last zero st e = refl
   last (suc n) st e = rw (e, passes)
@@ -90,27 +90,27 @@ module _ (allowance now : ℕ) where
       go : (o : Option Row) → first (due allowance now) (st .addresses) ≡ o → ((s : State) → length (s .addresses) ≤ n → length (s .addresses) ≤ m → passes n allowance now s ≡ passes m allowance now s) → passes (suc n) allowance now st ≡ passes (suc m) allowance now st
       go none e ih = last (suc n) st e ∙ sym (last (suc m) st e)
       go (some a) e ih =
-          let marked-and-gone = also (fade allowance now st) (removeV4 a) in
+          let marked-and-gone = also (deprecateDue allowance now st) (removeV4 a) in
           let fewer : length (marked-and-gone .state .addresses) < length (st .addresses) = unfold also in pass-fewer st a e in
           pass n st a e
           ∙ also-at marked-and-gone (passes n allowance now) (passes m allowance now) (ih (marked-and-gone .state) (omega arith) (omega arith))
           ∙ sym (pass m st a e)
 
   -- the equation of expire
-  pub expire-last : (st : State) → first (due allowance now) (st .addresses) ≡ none → expire allowance now st ≡ fade allowance now st
+  pub expire-last : (st : State) → first (due allowance now) (st .addresses) ≡ none → expire allowance now st ≡ deprecateDue allowance now st
   unfolding expire
   expire-last st e = last (length (st .addresses)) st e
 
-  pub expire-again : (st : State) (a : Row) → first (due allowance now) (st .addresses) ≡ some a → expire allowance now st ≡ also (also (fade allowance now st) (removeV4 a)) (expire allowance now)
+  pub expire-again : (st : State) (a : Row) → first (due allowance now) (st .addresses) ≡ some a → expire allowance now st ≡ also (also (deprecateDue allowance now st) (removeV4 a)) (expire allowance now)
   unfolding expire also
   expire-again st a e = go (length (st .addresses)) refl
     where
-      go : (n : ℕ) → length (st .addresses) ≡ n → passes n allowance now st ≡ also (also (fade allowance now st) (removeV4 a)) (λ s. passes (length (s .addresses)) allowance now s)
+      go : (n : ℕ) → length (st .addresses) ≡ n → passes n allowance now st ≡ also (also (deprecateDue allowance now st) (removeV4 a)) (λ s. passes (length (s .addresses)) allowance now s)
       go zero h =
           let some-there = any-count (due allowance now) (st .addresses) (first-any (due allowance now) (st .addresses) a e) in
           absurd (omega (arith, count-most (due allowance now) (st .addresses)))
       go (suc n) h =
-          let marked-and-gone = also (fade allowance now st) (removeV4 a) in
+          let marked-and-gone = also (deprecateDue allowance now st) (removeV4 a) in
           let fewer = pass-fewer st a e in
           pass n st a e
           ∙ also-at marked-and-gone (passes n allowance now) (λ s. passes (length (s .addresses)) allowance now s)
@@ -118,24 +118,24 @@ module _ (allowance now : ℕ) where
 
 -- ---- where nothing is told, nothing changed
 -- a removal tells
-also-told : (o : Out) (f : State → Out) → length (also o f .told) ≡ length (o .told) + length (f (o .state) .told)
+also-emitted : (o : Out) (f : State → Out) → length (also o f .emitted) ≡ length (o .emitted) + length (f (o .state) .emitted)
 unfolding also
-also-told o f = length-append (o .told) (f (o .state) .told)
+also-emitted o f = length-append (o .emitted) (f (o .state) .emitted)
 
-one-told : (a : Row) (st : State) → 0 < length (removeOne a st .told)
+one-emitted : (a : Row) (st : State) → 0 < length (removeOne a st .emitted)
 unfolding removeOne also
-one-told a st = omega arith
+one-emitted a st = omega arith
 
-last-told : (l : List Row) (a : Row) (st : State) → 0 < length (through removeOne (l ++ (a ∷ [])) st .told)
+last-emitted : (l : List Row) (a : Row) (st : State) → 0 < length (through removeOne (l ++ (a ∷ [])) st .emitted)
 unfolding through
-last-told [] a st = omega (arith, one-told a st, also-told (removeOne a st) (through removeOne []))
-last-told (b ∷ l) a st = omega (arith, one-told b st, also-told (removeOne b st) (through removeOne (l ++ (a ∷ []))))
+last-emitted [] a st = omega (arith, one-emitted a st, also-emitted (removeOne a st) (through removeOne []))
+last-emitted (b ∷ l) a st = omega (arith, one-emitted b st, also-emitted (removeOne b st) (through removeOne (l ++ (a ∷ []))))
 
-removal-told : (a : Row) (st : State) → 0 < length (removeV4 a st .told)
+removal-emitted : (a : Row) (st : State) → 0 < length (removeV4 a st .emitted)
 unfolding removeV4 goneWith
-removal-told a st =
-    cond-case (λ (l : List Row). 0 < length (through removeOne l st .told)) (secondary a) (λ e. last-told [] a st)
-    (λ e. last-told (keep (λ b. secondary b && sameSubnet a b) (st .addresses)) a st)
+removal-emitted a st =
+    cond-case (λ (l : List Row). 0 < length (through removeOne l st .emitted)) (secondary a) (λ e. last-emitted [] a st)
+    (λ e. last-emitted (keep (λ b. secondary b && sameSubnet a b) (st .addresses)) a st)
 
 -- and so does a mark
 unmarked : (p : Row → Bool) (g : Row → Row) (l : List Row) → length (keep p l) ≡ 0 → map (λ a. cond (p a) (g a) a) l ≡ l
@@ -143,22 +143,22 @@ unmarked p g [] h = refl
 unmarked p g (a ∷ l) h = test-case (p a) (λ e. absurd (omega (arith, rw e at h))) (λ e. rw (e, unmarked p g l (rw e at h)))
 
 module _ (allowance now : ℕ) where
-  fade-quiet : (st : State) → length (fade allowance now st .told) ≡ 0 → fade allowance now st .state ≡ st
-  unfolding fade
-  fade-quiet st h =
+  deprecateDue-quiet : (st : State) → length (deprecateDue allowance now st .emitted) ≡ 0 → deprecateDue allowance now st .state ≡ st
+  unfolding deprecateDue
+  deprecateDue-quiet st h =
       let spared = until (due allowance now) (st .addresses) in
       let behind = onward (due allowance now) (st .addresses) in
       ap (λ (l : List Row). withAddresses l st)
-      (ap (λ (l : List Row). l ++ behind) (unmarked (fades allowance now) faded spared (sym (length-map (keep (fades allowance now) spared) _) ∙ h)) ∙ until-onward (due allowance now) (st .addresses))
+      (ap (λ (l : List Row). l ++ behind) (unmarked (deprecates allowance now) deprecate spared (sym (length-map (keep (deprecates allowance now) spared) _) ∙ h)) ∙ until-onward (due allowance now) (st .addresses))
 
-  pub expire-quiet : (st : State) → length (expire allowance now st .told) ≡ 0 → expire allowance now st .state ≡ st
+  pub expire-quiet : (st : State) → length (expire allowance now st .emitted) ≡ 0 → expire allowance now st .state ≡ st
   expire-quiet st h = go (first (due allowance now) (st .addresses)) refl
     where
       go : (o : Option Row) → first (due allowance now) (st .addresses) ≡ o → expire allowance now st .state ≡ st
       go none e =
           let x = expire-last allowance now st e in
-          ap (λ (o : Out). o .state) x ∙ fade-quiet st (ap (λ (o : Out). length (o .told)) (sym x) ∙ h)
+          ap (λ (o : Out). o .state) x ∙ deprecateDue-quiet st (ap (λ (o : Out). length (o .emitted)) (sym x) ∙ h)
       go (some a) e =
-          let f = fade allowance now st in
-          let x = ap (λ (o : Out). length (o .told)) (expire-again allowance now st a e) in
-          absurd (omega (arith, h, x, also-told (also f (removeV4 a)) (expire allowance now), also-told f (removeV4 a), removal-told a (f .state)))
+          let f = deprecateDue allowance now st in
+          let x = ap (λ (o : Out). length (o .emitted)) (expire-again allowance now st a e) in
+          absurd (omega (arith, h, x, also-emitted (also f (removeV4 a)) (expire allowance now), also-emitted f (removeV4 a), removal-emitted a (f .state)))

@@ -13,10 +13,10 @@ use Rattle.definition.specs.State.{State}
 use Rattle.definition.specs.Words.{ordered}
 use Rattle.definition.specs.Reference.Addresses.{Outcome, goes, refused}
 use Rattle.definition.specs.Reference.Routes.{tableNamed, addRoute4, delRoute4Request}
-use Rattle.definition.specs.Runs.Statement.{Choice}
-use Rattle.definition.specs.Runs.Projection.{without, result, Tandem, both-go, both-refuse}
-use Rattle.definition.specs.Runs.Routes.{addRoute4-apart, delRoute4Request-apart}
-use Rattle.definition.specs.Runs.Struck.{addRoute4-hidden, delRoute4Request-hidden}
+use Rattle.definition.specs.Noninterference.Statement.{Choice}
+use Rattle.definition.specs.Noninterference.Projection.{without, result, Tandem, both-go, both-refuse}
+use Rattle.definition.specs.Noninterference.Routes.{addRoute4-apart, delRoute4Request-apart}
+use Rattle.definition.specs.Noninterference.Struck.{addRoute4-hidden, delRoute4Request-hidden}
 
 -- the tables that a request may use: the reference's own, and the one that it names
 abbrev pub used : Row → ℕ → Bool
@@ -43,29 +43,29 @@ abbrev pub number : Outcome → ℕ
 number (goes o) = 0
 number (refused n st) = n
 
-abbrev pub rowsTold : Outcome → List Row
-rowsTold (goes o) = o .told
-rowsTold (refused n st) = []
+abbrev pub rowsEmitted : Outcome → List Row
+rowsEmitted (goes o) = o .emitted
+rowsEmitted (refused n st) = []
 
 -- two outcomes say the same and leave the same in the tables that q may use
 pub record SameFor (q : Row) (o p : Outcome) : Type 0 where
   pub numbers : number o ≡ number p
-  pub told : rowsTold o ≡ rowsTold p
+  pub emitted : rowsEmitted o ≡ rowsEmitted p
   pub left : without (others q) (result o) ≡ without (others q) (result p)
 
 -- what a tandem shows of its second outcome, and so of two that share it
 pub record Said (q : Row) (o p : Outcome) : Type 0 where
   pub numbers : number p ≡ number o
-  pub told : rowsTold p ≡ rowsTold o
+  pub emitted : rowsEmitted p ≡ rowsEmitted o
   pub left : result p ≡ without (others q) (result o)
 
 tandem-said : (q : Row) {o p : Outcome} → Tandem (others q) o p → Said q o p
-tandem-said q (both-go m) = record { numbers = refl; told = m .told; left = m .state }
-tandem-said q (both-refuse n st) = record { numbers = refl; told = refl; left = refl }
+tandem-said q (both-go m) = record { numbers = refl; emitted = m .emitted; left = m .state }
+tandem-said q (both-refuse n st) = record { numbers = refl; emitted = refl; left = refl }
 
 same-across : (q : Row) {o o′ p : Outcome} → Said q o p → Said q o′ p → SameFor q o o′
 same-across q a b =
-    record { numbers = sym (a .numbers) ∙ b .numbers; told = sym (a .told) ∙ b .told; left = sym (a .left) ∙ b .left }
+    record { numbers = sym (a .numbers) ∙ b .numbers; emitted = sym (a .emitted) ∙ b .emitted; left = sym (a .left) ∙ b .left }
 
 module _ (q : Row) (st later : State) (agree : without (others q) st ≡ without (others q) later) where
   -- states that agree but for other tables, and their rows, get the same answer

@@ -47,20 +47,20 @@ unfoldable pub unwanted : List Row → List Row → Row → List Row
 unwanted addresses left a = keep (λ r. not (wanted left r)) (leaving addresses a)
 
 -- main rows with the preferred source
-abbrev pub straysFrom : ℕ → Row → Bool
-straysFrom ip r = eqb (table r) mainTable && eqb (Route.prefsrcPresent r) 1 && eqb (Route.prefsrc r) ip
+abbrev pub dependentOn : ℕ → Row → Bool
+dependentOn ip r = eqb (table r) mainTable && eqb (Route.prefsrcPresent r) 1 && eqb (Route.prefsrc r) ip
 
 -- a /32 of a local route went, and the address is local no more
-abbrev pub falls : Row → List Row → State → Bool
-falls a routes st = any (λ r. ofKind localKind r && eqb (len r) 32) routes && not (local4 st (local a))
+abbrev pub dependentsFall : Row → List Row → State → Bool
+dependentsFall a routes st = any (λ r. ofKind localKind r && eqb (len r) 32) routes && not (local4 st (local a))
 
 -- the main rows from it, in listed order
-abbrev pub strays : Row → State → List Row
-strays a st = cond (listed mainTable st) (keep (straysFrom (local a)) (st .routes)) []
+abbrev pub dependents : Row → State → List Row
+dependents a st = cond (listed mainTable st) (keep (dependentOn (local a)) (st .routes)) []
 
 -- then these fall
 unfoldable pub fall : Row → List Row → State → Out
-fall a routes st = cond (falls a routes st) (through kernelDel4 (strays a st) st) (stays st)
+fall a routes st = cond (dependentsFall a routes st) (through kernelDel4 (dependents a st) st) (stays st)
 
 -- the routes that go through no device
 abbrev pub deviceless : State → State
@@ -110,31 +110,31 @@ unfoldable pub due : ℕ → ℕ → Row → Bool
 due allowance now a = not (permanent a) && reached allowance (valid a) (changed a) now
 
 -- its preferred lifetime is reached, and that isn't marked yet
-unfoldable pub fades : ℕ → ℕ → Row → Bool
-fades allowance now a =
+unfoldable pub deprecates : ℕ → ℕ → Row → Bool
+deprecates allowance now a =
     not (permanent a) && not (deprecated a) && reached allowance (preferred a) (changed a) now
 
-unfoldable pub faded : Row → Row
-faded a =
+unfoldable pub deprecate : Row → Row
+deprecate a =
     rewritten a (setBit deprecatedBit (flags a)) (Address.proto a) (Address.priority a) (valid a) (preferred a) (created a) (changed a)
 
 -- the address, marked if it fades
 abbrev pub marked : ℕ → ℕ → Row → Row
-marked allowance now a = cond (fades allowance now a) (faded a) a
+marked allowance now a = cond (deprecates allowance now a) (deprecate a) a
 
 -- the addresses before the first that is due are marked, and those newly marked are told
-unfoldable pub fade : ℕ → ℕ → State → Out
-fade allowance now st =
+unfoldable pub deprecateDue : ℕ → ℕ → State → Out
+deprecateDue allowance now st =
     let spared = until (due allowance now) (st .addresses) in
     becomes (withAddresses (map (marked allowance now) spared ++ onward (due allowance now) (st .addresses)) st)
-    (map (λ a. newAddr4 (faded a)) (keep (fades allowance now) spared))
+    (map (λ a. newAddr4 (deprecate a)) (keep (deprecates allowance now) spared))
 
 -- a pass marks, removes the first address that is due, and then all begins again; each pass but the last removes an
 -- address, so as many passes as there are addresses suffice
 unfoldable pub passes : ℕ → ℕ → ℕ → State → Out
-passes zero allowance now st = fade allowance now st
+passes zero allowance now st = deprecateDue allowance now st
 passes (suc n) allowance now st =
-    elim (first (due allowance now) (st .addresses)) [ none ↦ fade allowance now st | some a ↦ also (also (fade allowance now st) (removeV4 a)) (passes n allowance now) ]
+    elim (first (due allowance now) (st .addresses)) [ none ↦ deprecateDue allowance now st | some a ↦ also (also (deprecateDue allowance now st) (removeV4 a)) (passes n allowance now) ]
 
 unfoldable pub expire : ℕ → ℕ → State → Out
 expire allowance now st = passes (length (st .addresses)) allowance now st

@@ -5,7 +5,7 @@ use borrow.Author.Needs.{needs}
 use Rattle.row_address.specs.Laws.{left-answered, left-refused}
 use Rattle.row_address.proofs.left.Statement.{statement}
 use Rattle.row_address.proofs.left.Tie as tie
-use Rattle.definition.specs.Kept.Fit.{length-address}
+use Rattle.definition.specs.Preservation.Fit.{length-address}
 
 fit-address-requires : tie.Need-fit-address-requires
 fit-address-requires c κs = search needs

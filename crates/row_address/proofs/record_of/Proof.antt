@@ -4,7 +4,7 @@ use mathlib.Core.Path.{ap, _∙_}
 use Rattle.row_address.specs.Words.{rowOf, row-again}
 use Rattle.row_address.proofs.record_of.Statement.{statement}
 use Rattle.row_address.proofs.record_of.Tie as tie
-use Rattle.definition.specs.Kept.Fit.{length-address}
+use Rattle.definition.specs.Preservation.Fit.{length-address}
 
 v4-of-requires : tie.Need-v4-of-requires
 v4-of-requires c κs = length-address (c .before .args .row .now) (c .before .pre)

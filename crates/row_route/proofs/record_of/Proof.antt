@@ -1,7 +1,7 @@
 -- `row_route::record_of` meets its contract.
 -- Assumes nothing.
 use mathlib.Core.Path.{ap, _∙_}
-use Rattle.definition.specs.Kept.Fit.{length-route}
+use Rattle.definition.specs.Preservation.Fit.{length-route}
 use Rattle.row_route.specs.Route4.{rowOf, row-again}
 use Rattle.row_route.proofs.record_of.Statement.{statement}
 use Rattle.row_route.proofs.record_of.Tie as tie

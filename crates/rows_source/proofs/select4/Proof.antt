@@ -8,7 +8,7 @@ use Rattle.layout.specs.Address.{fitAddress}
 use lib.ListN.{length}
 use mathlib.Core.Path.{_≡_}
 use Rattle.rows_source.specs.Selected.{wanted}
-use Rattle.rows_source.specs.Pass.{Sofar, part-fits, select-start, select-found, select-kept, select-stays, select-none, select-end}
+use Rattle.rows_source.specs.Pass.{LoopInvariant, part-fits, select-start, select-found, select-kept, select-stays, select-none, select-end}
 use borrow.Author.Needs.{needs}
 use Rattle.rows_source.proofs.select4.Statement.{statement}
 use Rattle.rows_source.proofs.select4.Tie as tie
@@ -17,7 +17,7 @@ abbrev Inv-loop : tie.InvT-loop
 Inv-loop addresses n dst-present dst scope kept₀ i₀ kept i =
     (i ≤ n)
     × (kept ≤ n)
-    × ((long : length addresses ≡ 20 * n) (l : List Row) (h : Laid 20 fitAddress addresses l) → Sofar addresses n long (wanted dst-present dst) scope l h i kept)
+    × ((long : length addresses ≡ 20 * n) (l : List Row) (h : Laid 20 fitAddress addresses l) → LoopInvariant addresses n long (wanted dst-present dst) scope l h i kept)
 
 abbrev μ-loop : tie.MeasureT-loop
 μ-loop addresses n dst-present dst scope kept₀ i₀ kept i = n - i

@@ -8,8 +8,8 @@ use lib.ListN.{set}
 use denote.Ref.{now}
 use Rattle.lists.specs.Lists.{put, span}
 use Rattle.definition.specs.Words.{addressCount}
-use Rattle.definition.specs.Kept.Fit.{length-address}
-use Rattle.state.specs.Holds.{sizes-valid, count-addresses}
+use Rattle.definition.specs.Preservation.Fit.{length-address}
+use Rattle.state.specs.Represents.{sizes-valid, count-addresses}
 use Rattle.state.specs.Change.{insert-address}
 use borrow.Author.Needs.{needs}
 use Rattle.state.proofs.insert_address.Statement.{statement}

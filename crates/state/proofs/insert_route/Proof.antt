@@ -8,8 +8,8 @@ use lib.ListN.{set}
 use denote.Ref.{now}
 use Rattle.lists.specs.Lists.{put, span}
 use Rattle.definition.specs.Words.{routeCount}
-use Rattle.definition.specs.Kept.Fit.{length-route}
-use Rattle.state.specs.Holds.{sizes-valid, count-routes}
+use Rattle.definition.specs.Preservation.Fit.{length-route}
+use Rattle.state.specs.Represents.{sizes-valid, count-routes}
 use Rattle.state.specs.Change.{insert-route}
 use borrow.Author.Needs.{needs}
 use Rattle.state.proofs.insert_route.Statement.{statement}

@@ -8,7 +8,7 @@ use lib.ListN.{set}
 use denote.Ref.{now}
 use Rattle.lists.specs.Lists.{put, span, zeros}
 use Rattle.definition.specs.Words.{addressCount}
-use Rattle.state.specs.Holds.{sizes-valid, count-addresses}
+use Rattle.state.specs.Represents.{sizes-valid, count-addresses}
 use Rattle.state.specs.Change.{remove-address}
 use borrow.Author.Needs.{needs}
 use Rattle.state.proofs.remove_address.Statement.{statement}

@@ -8,7 +8,7 @@ use lib.ListN.{set}
 use denote.Ref.{now}
 use Rattle.lists.specs.Lists.{put, span, zeros}
 use Rattle.definition.specs.Words.{routeCount}
-use Rattle.state.specs.Holds.{sizes-valid, count-routes}
+use Rattle.state.specs.Represents.{sizes-valid, count-routes}
 use Rattle.state.specs.Change.{remove-route}
 use borrow.Author.Needs.{needs}
 use Rattle.state.proofs.remove_route.Statement.{statement}

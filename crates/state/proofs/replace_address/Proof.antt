@@ -3,8 +3,8 @@
 use Prim.Native.Nat.{_-_}
 use native.Mathlib.Omega.{arith}
 use denote.Ref.{now}
-use Rattle.definition.specs.Kept.Fit.{length-address}
-use Rattle.state.specs.Holds.{sizes-valid, count-addresses}
+use Rattle.definition.specs.Preservation.Fit.{length-address}
+use Rattle.state.specs.Represents.{sizes-valid, count-addresses}
 use Rattle.state.specs.Change.{replace-address}
 use borrow.Author.Needs.{needs}
 use Rattle.state.proofs.replace_address.Statement.{statement}

@@ -3,8 +3,8 @@
 use Prim.Native.Nat.{_-_}
 use native.Mathlib.Omega.{arith}
 use denote.Ref.{now}
-use Rattle.definition.specs.Kept.Fit.{length-route}
-use Rattle.state.specs.Holds.{sizes-valid, count-routes}
+use Rattle.definition.specs.Preservation.Fit.{length-route}
+use Rattle.state.specs.Represents.{sizes-valid, count-routes}
 use Rattle.state.specs.Change.{replace-route}
 use borrow.Author.Needs.{needs}
 use Rattle.state.proofs.replace_route.Statement.{statement}

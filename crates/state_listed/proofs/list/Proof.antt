@@ -8,7 +8,7 @@ use denote.Ref.{now}
 use lib.ListN.{length}
 use Rattle.lists.specs.Lists.{Row, flat, put}
 use Rattle.definition.specs.Words.{decode}
-use Rattle.state.specs.Holds.{holds-decode, sizes-valid}
+use Rattle.state.specs.Represents.{holds-decode, sizes-valid}
 use Rattle.state_read.specs.Parts.{of-routes}
 use Rattle.state_listed.specs.Listing.{valid, dump-ready, dumped}
 use borrow.Author.Needs.{needs}

@@ -1,6 +1,6 @@
 use mathlib.Core.Path.{sym, ap, _∙_}
 use mathlib.Core.Bool.{Bool}
-use Rattle.state.specs.Holds.{sizes-valid}
+use Rattle.state.specs.Represents.{sizes-valid}
 use Rattle.rows_lookup.specs.AddrType.{localRows, local-rows}
 use Rattle.state_read.specs.Parts.{ready-routes, of-routes, listed-there}
 use Rattle.state_read.proofs.local4.Statement.{statement}

@@ -1,7 +1,7 @@
 use Prim.Native.Nat.{ℕ}
 use mathlib.Core.Path.{sym, ap, subst, _∙_}
 use mathlib.Core.Bool.{Bool}
-use Rattle.state.specs.Holds.{sizes-valid}
+use Rattle.state.specs.Represents.{sizes-valid}
 use Rattle.rows_lookup.specs.Flow.{flowOf}
 use Rattle.rows_lookup.specs.Answer.{placed, lookupRows, lookup-rows}
 use Rattle.state_read.specs.Parts.{ready-routes, of-routes, listed-there}

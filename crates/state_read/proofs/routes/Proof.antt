@@ -2,7 +2,7 @@ use Prim.Native.Nat.{ℕ, _+_, _*_, _-_}
 use mathlib.Core.Path.{ap}
 use lib.ListN.{take, drop}
 use native.Mathlib.Omega.{arith}
-use Rattle.state.specs.Holds.{sizes-valid}
+use Rattle.state.specs.Represents.{sizes-valid}
 use Rattle.state_read.specs.Parts.{route-end}
 use borrow.Author.Needs.{needs}
 use Rattle.state_read.proofs.routes.Statement.{statement}

@@ -1,7 +1,7 @@
 use mathlib.Core.Path.{sym, ap, _∙_}
 use mathlib.Core.Bool.{Bool}
 use Rattle.rows_source.specs.Selected.{sourceRows, source-rows}
-use Rattle.state.specs.Holds.{sizes-valid}
+use Rattle.state.specs.Represents.{sizes-valid}
 use Rattle.state_read.specs.Parts.{ready-addresses, ready-routes, of-addresses, of-routes, listed-there}
 use Rattle.state_read.proofs.source.Statement.{statement}
 use Rattle.state_read.proofs.source.Tie as tie

@@ -2,7 +2,7 @@
 -- Assumes nothing.
 use mathlib.Core.Path.{sym, _∙_}
 use native.Mathlib.Omega.{arith}
-use Rattle.state.specs.Holds.{sizes-valid, count-addresses}
+use Rattle.state.specs.Represents.{sizes-valid, count-addresses}
 use Rattle.state_retain.specs.Retain.{is-disable, no-disable}
 use borrow.Author.Needs.{needs}
 use Rattle.state_retain.proofs.disable.Statement.{statement}

@@ -4,7 +4,7 @@ use mathlib.Core.Path.{_≡_, _∙_}
 use Prim.Native.Nat.{_-_, _≤_}
 use native.Mathlib.Omega.{arith}
 use denote.Ref.{now}
-use Rattle.state.specs.Holds.{sizes-valid}
+use Rattle.state.specs.Represents.{sizes-valid}
 use Rattle.state_retain.specs.Retain.{remains, Keeping, keeping-start, keeping-few, keeping-turn, keeping-end}
 use borrow.Author.Needs.{needs}
 use Rattle.state_retain.proofs.retain.Statement.{statement}

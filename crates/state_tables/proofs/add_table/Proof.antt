@@ -6,7 +6,7 @@ use native.Mathlib.Omega.{arith}
 use lib.ListN.{set, length-set}
 use denote.Ref.{now}
 use Rattle.definition.specs.Words.{tableCount}
-use Rattle.state.specs.Holds.{sizes-valid}
+use Rattle.state.specs.Represents.{sizes-valid}
 use Rattle.state_tables.specs.Listed.{tablesOf, add-there, add-new, length-new, length-listed}
 use borrow.Author.Needs.{needs}
 use Rattle.state_tables.proofs.add_table.Statement.{statement}

@@ -6,7 +6,7 @@ use native.Mathlib.Omega.{arith}
 use lib.ListN.{take, drop}
 use denote.Ref.{now}
 use Rattle.lists.specs.Lists.{span, among}
-use Rattle.state.specs.Holds.{sizes-valid}
+use Rattle.state.specs.Represents.{sizes-valid}
 use borrow.Author.Needs.{needs}
 use Rattle.state_tables.proofs.listed.Statement.{statement}
 use Rattle.state_tables.proofs.listed.Tie as tie

@@ -4,7 +4,7 @@ use mathlib.Core.Path.{sym, ap, _∙_}
 use Prim.Native.Nat.{ℕ, _+_, _-_}
 use native.Mathlib.Omega.{arith}
 use denote.Ref.{now}
-use Rattle.state.specs.Holds.{sizes-valid}
+use Rattle.state.specs.Represents.{sizes-valid}
 use Rattle.state_tables.specs.Listed.{tablesOf, length-there, length-new, length-listed}
 use borrow.Author.Needs.{needs}
 use Rattle.state_tables.proofs.with_table.Statement.{statement}

@@ -1,6 +1,6 @@
 use mathlib.Core.Path.{refl}
 use native.Mathlib.Omega.{arith}
-use Rattle.state.specs.Holds.{count-addresses, sound-valid, sound-long}
+use Rattle.state.specs.Represents.{count-addresses, sound-valid, sound-long}
 use Rattle.state_read.specs.Parts.{ready-addresses, of-addresses}
 use Rattle.step_add_v4.specs.Comes.{done-few}
 use Rattle.step_add_v4.specs.Added.{added-change, added-refused, added-new}

@@ -2,19 +2,19 @@ use Prim.Native.Nat.{_-_, _≤_}
 use mathlib.Core.Path.{_≡_, refl, sym, _∙_}
 use native.Mathlib.Omega.{arith}
 use lib.ListN.{length}
-use Rattle.state.specs.Holds.{sound-long}
+use Rattle.state.specs.Represents.{sound-long}
 use Rattle.step_new_address.specs.Sound.{rest-room, rows-are}
-use Rattle.step_add_v4.specs.Every.{Sofar, sofar-start, sofar-sound, sofar-few, sofar-length, sofar-count, sofar-next, sofar-full, sofar-end}
+use Rattle.step_add_v4.specs.Every.{LoopInvariant, sofar-start, sofar-sound, sofar-few, sofar-length, sofar-count, sofar-next, sofar-full, sofar-end}
 use borrow.Author.Needs.{needs}
 use Rattle.step_add_v4.proofs.bring_all.Statement.{statement}
 use Rattle.step_add_v4.proofs.bring_all.Tie as tie
 
 abbrev Inv-loop : tie.InvT-loop
-Inv-loop s₀ ev₀ n told₀ i₀ s ev told i =
-    (i ≤ n) × ((told ≤ 320) × ((length s ≡ length s₀) × ((length ev ≡ length ev₀) × Sofar s₀ ev₀ i s ev told)))
+Inv-loop s₀ ev₀ n emitted₀ i₀ s ev emitted i =
+    (i ≤ n) × ((emitted ≤ 320) × ((length s ≡ length s₀) × ((length ev ≡ length ev₀) × LoopInvariant s₀ ev₀ i s ev emitted)))
 
 abbrev μ-loop : tie.MeasureT-loop
-μ-loop s₀ ev₀ n told₀ i₀ s ev told i =
+μ-loop s₀ ev₀ n emitted₀ i₀ s ev emitted i =
     n - i
 
 address-count-requires : tie.Need-address-count-requires Inv-loop μ-loop
@@ -63,15 +63,15 @@ bring-at-requires c κs =
       sofar-sound (inv .1 .1 .1 .1) v,
       (
         omega (arith, sofar-count (inv .1 .1 .1 .1) v, n .address-count .ensures, c .before .before .loop-test .taken),
-        rest-room (k .loop .told) 136 (k .loop .ev) (omega (arith, inv .1 .0, inv .1 .1 .1 .0, s .pre .1)),
+        rest-room (k .loop .emitted) 136 (k .loop .ev) (omega (arith, inv .1 .0, inv .1 .1 .1 .0, s .pre .1)),
       ),
     )
 
 enum-known-came : tie.Need-enum-known-came Inv-loop μ-loop
 enum-known-came c = search needs
 
-add-told : tie.Need-add-told Inv-loop μ-loop
-add-told c =
+add-emitted : tie.Need-add-emitted Inv-loop μ-loop
+add-emitted c =
     let t = c .before in
     let w = t .before .before .before .before .before .before in
     let k = w .before .before .before .before in
@@ -148,7 +148,7 @@ bring-all-spec =
     part-bring-at-end
     bring-at-requires
     enum-known-came
-    add-told
+    add-emitted
     enum-told
     same-length
     same-length-2

@@ -1,5 +1,5 @@
 use native.Mathlib.Omega.{arith}
-use Rattle.state.specs.Holds.{sound-valid, sound-long, sound-few}
+use Rattle.state.specs.Represents.{sound-valid, sound-long, sound-few}
 use Rattle.state_read.specs.Parts.{ready-addresses, of-addresses}
 use Rattle.row_subnet.specs.Laws.{part-short}
 use Rattle.step_add_v4.specs.Every.{turn-ready, turn-done}

@@ -1,9 +1,9 @@
 use mathlib.Core.Path.{refl}
 use native.Mathlib.Omega.{arith}
 use Rattle.definition.specs.Reference.Addresses.{loopback}
-use Rattle.definition.specs.Kept.Addresses.{loopback-fit}
+use Rattle.definition.specs.Preservation.Addresses.{loopback-fit}
 use Rattle.step_new_address.specs.Sound.{rest-room, rows-are, joined-few}
-use Rattle.step_add_v4.specs.Comes.{told-few}
+use Rattle.step_add_v4.specs.Comes.{emitted-few}
 use Rattle.step_add_v4.specs.Added.{added-step}
 use Rattle.step_add_v4.specs.Every.{up-full, up-sound, up-length, up-done}
 use borrow.Author.Needs.{needs}
@@ -32,7 +32,7 @@ mul-from c =
     let clock = s .args .clock .0 in
     let e = c .before in
     let k = e .first .given .0 .0 in
-    let five = rows-are 5 (t .step-of .result) k (e .first .given .1) (told-few 5 (d .add-v4 .result) (t .step-of .result) (t .step-of .ensures) (d .add-v4 .ensures .0)) in
+    let five = rows-are 5 (t .step-of .result) k (e .first .given .1) (emitted-few 5 (d .add-v4 .result) (t .step-of .result) (t .step-of .ensures) (d .add-v4 .ensures .0)) in
     omega (arith, five)
 
 mul-bring-all : tie.Need-mul-bring-all
@@ -43,7 +43,7 @@ mul-bring-all c =
     let clock = s .args .clock .0 in
     let e = c .before .before in
     let k = e .first .given .0 .0 in
-    let five = rows-are 5 (t .step-of .result) k (e .first .given .1) (told-few 5 (d .add-v4 .result) (t .step-of .result) (t .step-of .ensures) (d .add-v4 .ensures .0)) in
+    let five = rows-are 5 (t .step-of .result) k (e .first .given .1) (emitted-few 5 (d .add-v4 .result) (t .step-of .result) (t .step-of .ensures) (d .add-v4 .ensures .0)) in
     omega (arith, five)
 
 sub-bring-all : tie.Need-sub-bring-all
@@ -54,7 +54,7 @@ sub-bring-all c =
     let clock = s .args .clock .0 in
     let e = c .before .before in
     let k = e .first .given .0 .0 in
-    let five = rows-are 5 (t .step-of .result) k (e .first .given .1) (told-few 5 (d .add-v4 .result) (t .step-of .result) (t .step-of .ensures) (d .add-v4 .ensures .0)) in
+    let five = rows-are 5 (t .step-of .result) k (e .first .given .1) (emitted-few 5 (d .add-v4 .result) (t .step-of .result) (t .step-of .ensures) (d .add-v4 .ensures .0)) in
     omega (arith, five, s .pre .1)
 
 part-bring-all-start : tie.Need-part-bring-all-start
@@ -65,7 +65,7 @@ part-bring-all-start c =
     let clock = s .args .clock .0 in
     let e = c .before .before in
     let k = e .first .given .0 .0 in
-    let five = rows-are 5 (t .step-of .result) k (e .first .given .1) (told-few 5 (d .add-v4 .result) (t .step-of .result) (t .step-of .ensures) (d .add-v4 .ensures .0)) in
+    let five = rows-are 5 (t .step-of .result) k (e .first .given .1) (emitted-few 5 (d .add-v4 .result) (t .step-of .result) (t .step-of .ensures) (d .add-v4 .ensures .0)) in
     omega (arith, five, s .pre .1)
 
 part-bring-all-end : tie.Need-part-bring-all-end
@@ -79,7 +79,7 @@ bring-all-requires c κs =
     let clock = s .args .clock .0 in
     let e = c .before .before .before in
     let k = e .first .given .0 .0 in
-    let five = rows-are 5 (t .step-of .result) k (e .first .given .1) (told-few 5 (d .add-v4 .result) (t .step-of .result) (t .step-of .ensures) (d .add-v4 .ensures .0)) in (
+    let five = rows-are 5 (t .step-of .result) k (e .first .given .1) (emitted-few 5 (d .add-v4 .result) (t .step-of .result) (t .step-of .ensures) (d .add-v4 .ensures .0)) in (
       up-sound clock (λ st h g. added-step loopback clock st (t .step-of .result) (t .step-of .ensures) h (d .add-v4 .ensures .1 st h g)) k (e .first .given .1) (s .pre .0),
       rest-room k 11016 (d .add-v4 .last .1 .0) (omega (arith, five, s .pre .1, up-length clock (λ st h g. added-step loopback clock st (t .step-of .result) (t .step-of .ensures) h (d .add-v4 .ensures .1 st h g)) k (e .first .given .1) (s .pre .0))),
     )
@@ -92,7 +92,7 @@ joined-requires c κs =
     let clock = s .args .clock .0 in
     let e = c .before .before .before .before .before .before .before .before in
     let k = e .first .given .0 .0 in
-    let five = rows-are 5 (t .step-of .result) k (e .first .given .1) (told-few 5 (d .add-v4 .result) (t .step-of .result) (t .step-of .ensures) (d .add-v4 .ensures .0)) in
+    let five = rows-are 5 (t .step-of .result) k (e .first .given .1) (emitted-few 5 (d .add-v4 .result) (t .step-of .result) (t .step-of .ensures) (d .add-v4 .ensures .0)) in
     omega (arith, five, c .before .before .before .before .bring-all .ensures .0)
 
 enum-told : tie.Need-enum-told
@@ -112,7 +112,7 @@ returns c =
     let clock = s .args .clock .0 in
     let e = c .before .before .before .before .before .before .before .before .before in
     let k = e .first .given .0 .0 in
-    let five = rows-are 5 (t .step-of .result) k (e .first .given .1) (told-few 5 (d .add-v4 .result) (t .step-of .result) (t .step-of .ensures) (d .add-v4 .ensures .0)) in
+    let five = rows-are 5 (t .step-of .result) k (e .first .given .1) (emitted-few 5 (d .add-v4 .result) (t .step-of .result) (t .step-of .ensures) (d .add-v4 .ensures .0)) in
     let b = c .before .before .before .before .before in (
       omega (arith, five, joined-few k 320 (b .bring-all .result) (c .joined .result) (c .joined .ensures) (b .bring-all .ensures .0)),
       up-done clock (λ st h g. added-step loopback clock st (t .step-of .result) (t .step-of .ensures) h (d .add-v4 .ensures .1 st h g)) k (e .first .given .1) (b .bring-all .ensures .1) (c .joined .result) (c .joined .ensures),

@@ -1,7 +1,7 @@
 use mathlib.Core.Path.{refl}
 use native.Mathlib.Omega.{arith}
 use Rattle.definition.specs.Reference.Addresses.{addV4}
-use Rattle.state.specs.Holds.{sizes-of, sound-long}
+use Rattle.state.specs.Represents.{sizes-of, sound-long}
 use Rattle.step_add_v4_atomic.specs.Copy.{comes-roomy}
 use Rattle.step_add_v4_atomic.specs.Room.{add-certain}
 use borrow.Author.Needs.{needs}

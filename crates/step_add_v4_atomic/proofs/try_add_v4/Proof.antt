@@ -1,7 +1,7 @@
 use mathlib.Core.Path.{refl, sym, _∙_}
 use native.Mathlib.Omega.{arith}
 use Rattle.definition.specs.Reference.Addresses.{addV4}
-use Rattle.state.specs.Holds.{sound-long}
+use Rattle.state.specs.Represents.{sound-long}
 use Rattle.step_add_v4_atomic.specs.Copy.{copy-sound, copy-holds, take-room, call-few, tried-comes, comes-back, refused-left, full-left, rows-full, refused-full}
 use Prim.Native.Nat.{_*_}
 use borrow.Author.Needs.{needs}

@@ -1,9 +1,9 @@
 use mathlib.Core.Path.{refl, sym, _∙_}
 use native.Mathlib.Omega.{arith}
 use Rattle.definition.specs.Reference.Addresses.{up}
-use Rattle.state.specs.Holds.{sound-long}
+use Rattle.state.specs.Represents.{sound-long}
 use Rattle.step_new_address.specs.Sound.{rows-are}
-use Rattle.step_add_v4_atomic.specs.Copy.{copy-sound, copy-holds, take-room, tried-adds, adds-back, adds-left, told-full}
+use Rattle.step_add_v4_atomic.specs.Copy.{copy-sound, copy-holds, take-room, tried-adds, adds-back, adds-left, emitted-full}
 use Prim.Native.Nat.{_*_}
 use borrow.Author.Needs.{needs}
 use Rattle.step_add_v4_atomic.proofs.try_up.Statement.{statement}
@@ -114,7 +114,7 @@ returns c =
     let x = tried-adds (up (a .clock .0) (v .state)) (d .up .result) k (e .came .given .1) (d .up .ensures .1 (v .state) (copy-holds _ (a .s .now) (sym (sound-long v)) (w .store .ensures) (v .state) (v .holds)) (v .fits)) in (
       few,
       (
-        λ r. absurd (told-full k r),
+        λ r. absurd (emitted-full k r),
         λ st h g. adds-back (d .up .last .0) _ (d .up .last .1 .0) (a .s .now) (a .ev .now) k (x .long ∙ sym (sound-long v)) (omega (arith, few, s .pre .1)) (c .before .before .before .before .before .before .before .before .store2 .ensures) (c .before .before .store3 .ensures)
             (up (a .clock .0) st) (d .up .result) (e .came .given .1) (d .up .ensures .1 st (copy-holds _ (a .s .now) (sym (sound-long v)) (w .store .ensures) st h) g),
       ),

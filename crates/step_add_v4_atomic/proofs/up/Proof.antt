@@ -2,7 +2,7 @@ use Prim.Native.Nat.{ℕ, _+_, _*_}
 use mathlib.Core.Path.{ap}
 use native.Mathlib.Omega.{arith}
 use Rattle.definition.specs.Reference.Addresses.{up}
-use Rattle.state.specs.Holds.{sizes-of, sound-long, sound-few}
+use Rattle.state.specs.Represents.{sizes-of, sound-long, sound-few}
 use Rattle.step_add_v4_atomic.specs.Copy.{adds-roomy}
 use Rattle.step_add_v4_atomic.specs.Room.{up-certain}
 use borrow.Author.Needs.{needs}

@@ -2,7 +2,7 @@ use Rattle.step_del_v4.specs.Asked.{deleted-none, deleted-there, deleted
 use Rattle.step_remove_v4.specs.One.{addressRow, address-end, put-row, row-present}
 use Rattle.step_drop_prefsrc.specs.Delete.{ready-valid}
 use Rattle.state_read.specs.Parts.{length-addresses, lays-addresses, laid-addresses}
-use Rattle.state.specs.Holds.{sizes-valid}
+use Rattle.state.specs.Represents.{sizes-valid}
 use Rattle.layout.specs.Address.{fitAddress}
 use Rattle.lists.specs.Laid.{Laid, Lays}
 use lib.ListN.{length}

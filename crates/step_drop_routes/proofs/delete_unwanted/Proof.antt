@@ -1,9 +1,9 @@
 use Rattle.step_drop_routes.specs.Turns.{anyRow, Leaving, leaving-start, leaving-facts, leaving-next, leaving-last}
 use Rattle.step_drop_prefsrc.specs.Delete.{ready-valid}
 use Rattle.step_events.specs.Turns.{going-ready}
-use Rattle.step_events.specs.Step.{Fits}
-use Rattle.state.specs.Holds.{sizes-valid}
-use Rattle.definition.specs.Kept.Shrinking.{weight}
+use Rattle.step_events.specs.EmitsWithin.{Fits}
+use Rattle.state.specs.Represents.{sizes-valid}
+use Rattle.definition.specs.Preservation.Shrinking.{potential}
 use Rattle.definition.specs.State.{State}
 use Rattle.lists.specs.Pass.{part-width}
 use Rattle.lists.specs.Laid.{Laid}
@@ -22,7 +22,7 @@ abbrev Inv-loop : tie.InvT-loop
 Inv-loop s₀ ev₀ rows m j₀ k₀ s ev j k =
     (j ≤ m)
     × ((34 * k ≤ length ev) × (length s ≡ 9507) × (length ev ≡ length ev₀) × (k ≤ 384))
-    × ((st : State) → Fits weight st s₀ ev₀ → (l : List Row) → Laid 32 anyRow rows l → Leaving st l j k s ev₀ ev)
+    × ((st : State) → Fits potential st s₀ ev₀ → (l : List Row) → Laid 32 anyRow rows l → Leaving st l j k s ev₀ ev)
 
 abbrev μ-loop : tie.MeasureT-loop
 μ-loop s₀ ev₀ rows m j₀ k₀ s ev j k = m - j
@@ -73,7 +73,7 @@ unless-wanted-requires c κs =
     let s = k .before .before .before .before in
     let y = s .pre .0 in
     let z = s .pre .1 .1 in (
-      going-ready weight (k .loop .inv .2 (y .state) (y .fits) (z .list) (z .laid)),
+      going-ready potential (k .loop .inv .2 (y .state) (y .fits) (z .list) (z .laid)),
       part-width (s .args .rows .now) (s .args .m) (lit< tt) (s .pre .1 .0) z (k .loop .j) (c .before .before .before .loop-test .taken),
     )
 

@@ -12,8 +12,8 @@ returns c =
     let a = c .before .before .before .args in
     λ st f. fall-kept (a .ip) f (a .lost) (not-true (a .lost) (c .if1 .taken))
 
-some-stray-requires : tie.Need-some-stray-requires
-some-stray-requires c κs = ready-valid (c .before .before .before .before .pre)
+some-dependent-requires : tie.Need-some-dependent-requires
+some-dependent-requires c κs = ready-valid (c .before .before .before .before .pre)
 
 same-length : tie.Need-same-length
 same-length c = search needs
@@ -22,7 +22,7 @@ returns-2 : tie.Need-returns-2
 returns-2 c =
     let a = c .before .before .before .before .before .before .args in
     let q = c .before in
-    λ st f. fall-strayless (a .ip) f (a .lost) (q .some-stray .result) (q .some-stray .ensures st (f .holds)) (not-true (q .some-stray .result) (c .if2 .taken))
+    λ st f. fall-strayless (a .ip) f (a .lost) (q .some-dependent .result) (q .some-dependent .ensures st (f .holds)) (not-true (q .some-dependent .result) (c .if2 .taken))
 
 local4-requires : tie.Need-local4-requires
 local4-requires c κs = ready-valid (c .before .before .before .before .before .before .before .pre)
@@ -51,8 +51,8 @@ returns-4 c =
     fall-unlisted (a .ip) f (a .lost) (n .local4 .result) (d .listed .result) (not-false (a .lost) (e .if1 .left))
     (n .local4 .ensures st (f .holds)) (c .before .before .before .if3 .left) (d .listed .ensures ∙ listed-there (f .holds) 254) (not-true (d .listed .result) (c .if4 .taken))
 
-drop-strays-requires : tie.Need-drop-strays-requires
-drop-strays-requires c κs = c .before .before .before .before .before .before .before .before .before .before .before .before .before .before .pre
+drop-dependents-requires : tie.Need-drop-dependents-requires
+drop-dependents-requires c κs = c .before .before .before .before .before .before .before .before .before .before .before .before .before .before .pre
 
 same-length-4 : tie.Need-same-length-4
 same-length-4 c = search needs
@@ -69,14 +69,14 @@ returns-5 c =
     λ st f.
     fall-listed (a .ip) f (a .lost) (n .local4 .result) (d .listed .result) (not-false (a .lost) (e .if1 .left))
     (n .local4 .ensures st (f .holds)) (c .before .before .before .before .before .before .before .before .before .before .if3 .left) (d .listed .ensures ∙ listed-there (f .holds) 254) (not-false (d .listed .result) (c .before .before .before .before .before .before .before .if4 .left))
-    (c .before .before .before .before .drop-strays .ensures st f)
+    (c .before .before .before .before .drop-dependents .ensures st f)
 
 pub fall-spec : {M : Type 1} → statement M
 fall-spec =
     tie.close
     (tie.spec
     returns
-    some-stray-requires
+    some-dependent-requires
     same-length
     returns-2
     local4-requires
@@ -85,7 +85,7 @@ fall-spec =
     listed-requires
     same-length-3
     returns-4
-    drop-strays-requires
+    drop-dependents-requires
     same-length-4
     same-length-5
     returns-5)

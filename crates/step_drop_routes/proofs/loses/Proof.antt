@@ -1,6 +1,6 @@
 use Rattle.step_drop_routes.specs.Turns.{anyRow}
 use Rattle.step_drop_routes.specs.One.{loses}
-use Rattle.state.specs.Holds.{Holds}
+use Rattle.state.specs.Represents.{Represents}
 use Rattle.definition.specs.State.{State}
 use Rattle.lists.specs.Pass.{part-width, some-here, some-past, some-end}
 use Rattle.lists.specs.Laid.{Laid}
@@ -17,7 +17,7 @@ use Rattle.step_drop_routes.proofs.loses.Tie as tie
 
 abbrev Inv-loop : tie.InvT-loop
 Inv-loop s rows m j₀ j =
-    (j ≤ m) × ((st : State) → Holds s st → (l : List Row) → Laid 32 anyRow rows l → any (loses (st .addresses)) l ≡ any (loses (st .addresses)) (drop j l))
+    (j ≤ m) × ((st : State) → Represents s st → (l : List Row) → Laid 32 anyRow rows l → any (loses (st .addresses)) l ≡ any (loses (st .addresses)) (drop j l))
 
 abbrev μ-loop : tie.MeasureT-loop
 μ-loop s rows m j₀ j = m - j

@@ -1,5 +1,5 @@
-use Rattle.step_events.specs.Step.{rest-fits}
-use Rattle.definition.specs.Kept.Shrinking.{weight}
+use Rattle.step_events.specs.EmitsWithin.{rest-fits}
+use Rattle.definition.specs.Preservation.Shrinking.{potential}
 use Rattle.step_drop_routes.specs.One.{unlessWanted}
 use Rattle.definition.specs.State.{through}
 use Rattle.step_drop_routes.specs.Turns.{step-facts, step-valid, step-ready, routes-gone}
@@ -93,7 +93,7 @@ returns c =
     λ st f l h.
     let t = d .delete-unwanted .ensures st f l h in
     let m = (through unlessWanted l st) .state in
-    routes-gone (s .args .ip) l (c .before .before .before .before .before .before .before .before .before .before .before .loses .result) t (c .before .before .before .before .before .before .before .before .before .before .before .loses .ensures m (t .holds) l h) (c .before .before .before .before .before .before .before .before .fall .ensures m (rest-fits weight t)) (λ m w. c .before .before .disable .ensures m w)
+    routes-gone (s .args .ip) l (c .before .before .before .before .before .before .before .before .before .before .before .loses .result) t (c .before .before .before .before .before .before .before .before .before .before .before .loses .ensures m (t .holds) l h) (c .before .before .before .before .before .before .before .before .fall .ensures m (rest-fits potential t)) (λ m w. c .before .before .disable .ensures m w)
 
 pub take-routes-spec : {M : Type 1} → statement M
 take-routes-spec =

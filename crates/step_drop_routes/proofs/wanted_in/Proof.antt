@@ -1,5 +1,5 @@
 use Rattle.state_read.specs.Parts.{length-addresses, lays-addresses, laid-addresses}
-use Rattle.state.specs.Holds.{sizes-valid}
+use Rattle.state.specs.Represents.{sizes-valid}
 use Rattle.layout.specs.Address.{fitAddress}
 use Rattle.lists.specs.Laid.{Laid, Lays}
 use lib.ListN.{length}

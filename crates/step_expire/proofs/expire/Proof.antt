@@ -2,9 +2,9 @@ use Rattle.step_expire.specs.Loop.{Expiring, next-less, expiring-start, 
 use Rattle.step_drop_routes.specs.Turns.{step-facts}
 use Rattle.step_drop_prefsrc.specs.Delete.{ready-valid}
 use Rattle.step_events.specs.Turns.{going-ready, going-fits}
-use Rattle.step_events.specs.Step.{Fits}
-use Rattle.state.specs.Holds.{sizes-valid}
-use Rattle.definition.specs.Kept.Shrinking.{weight}
+use Rattle.step_events.specs.EmitsWithin.{Fits}
+use Rattle.state.specs.Represents.{sizes-valid}
+use Rattle.definition.specs.Preservation.Shrinking.{potential}
 use Rattle.definition.specs.Words.{addressCount}
 use Rattle.definition.specs.State.{State}
 use lib.ListN.{length}
@@ -19,7 +19,7 @@ abbrev Inv-loop : tie.InvT-loop
 Inv-loop s₀ ev₀ allowance clock i₀ k₀ n₀ s ev i k n =
     (n ≡ addressCount s)
     × (((34 * k ≤ length ev) × (length s ≡ 9507) × (length ev ≡ length ev₀) × (k ≤ 384)) × ((i ≤ addressCount s) × (addressCount s ≤ 64)))
-    × ((st : State) → Fits weight st s₀ ev₀ → Expiring (allowance .0) (clock .0) st i k s ev₀ ev)
+    × ((st : State) → Fits potential st s₀ ev₀ → Expiring (allowance .0) (clock .0) st i k s ev₀ ev)
 
 abbrev μ-loop : tie.MeasureT-loop
 μ-loop s₀ ev₀ allowance clock i₀ k₀ n₀ s ev i k n = 66 * n - i
@@ -55,7 +55,7 @@ turn-requires c κs =
     let k = c .before .before .before in
     let s = k .before .before .before .before .before in
     let y = s .pre in
-    (going-ready weight (k .loop .inv .2 (y .state) (y .fits)), omega (arith, c .before .before .loop-test .taken, k .loop .inv .0))
+    (going-ready potential (k .loop .inv .2 (y .state) (y .fits)), omega (arith, c .before .before .loop-test .taken, k .loop .inv .0))
 
 add-k : tie.Need-add-k Inv-loop μ-loop
 add-k c =
@@ -67,7 +67,7 @@ add-k c =
     let taken = c .before .before .before .before .before .before .before .loop-test .taken in
     let turn = c .before .before .before .before .turn .ensures in
     let g = k .loop .inv .2 (y .state) (y .fits) in
-    record { fits = omega (arith, k .loop .inv .1 .0 .3, (step-facts (going-fits weight g) (turn _ (going-fits weight g))) .3) }
+    record { fits = omega (arith, k .loop .inv .1 .0 .3, (step-facts (going-fits potential g) (turn _ (going-fits potential g))) .3) }
 
 address-count-requires-2 : tie.Need-address-count-requires-2 Inv-loop μ-loop
 address-count-requires-2 c κs =
@@ -79,7 +79,7 @@ address-count-requires-2 c κs =
     let taken = c .before .before .before .before .before .before .before .before .loop-test .taken in
     let turn = c .before .before .before .before .before .turn .ensures in
     let g = k .loop .inv .2 (y .state) (y .fits) in
-    (step-facts (going-fits weight g) (turn _ (going-fits weight g))) .1
+    (step-facts (going-fits potential g) (turn _ (going-fits potential g))) .1
 
 next-requires : tie.Need-next-requires Inv-loop μ-loop
 next-requires c κs = let k = c .before .before .before .before .before .before .before .before .before .before in omega (arith, c .before .before .before .before .before .before .before .before .before .loop-test .taken, k .loop .inv .0, k .loop .inv .1 .1)

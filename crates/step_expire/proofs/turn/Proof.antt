@@ -1,4 +1,4 @@
-use Rattle.step_expire.specs.Loop.{some-room, turn-there, turn-due, turn-stays, turn-fades}
+use Rattle.step_expire.specs.Loop.{some-room, turn-there, turn-due, turn-stays, turn-deprecates}
 use Rattle.step_remove_v4.specs.One.{addressRow, address-end, put-row, row-present}
 use Rattle.step_drop_prefsrc.specs.Delete.{ready-valid}
 use Rattle.layout.specs.Address.{fitAddress}
@@ -71,11 +71,11 @@ returns c =
     turn-due (s .args .allowance .0) (s .args .clock .0) row (s .args .i) (s .pre .1) f q (sym (c .before .before .before .before .before .before .before .before .before .due .ensures) ∙ c .before .before .before .before .before .before .before .before .if1 .taken)
     (c .before .before .before .before .remove-v4 .ensures st f (turn-there (s .args .allowance .0) (s .args .clock .0) row (s .args .i) (s .pre .1) f q))
 
-slice-aggregate-fades : tie.Need-slice-aggregate-fades
-slice-aggregate-fades c = search needs
+slice-aggregate-deprecates : tie.Need-slice-aggregate-deprecates
+slice-aggregate-deprecates c = search needs
 
-fades-requires : tie.Need-fades-requires
-fades-requires c κs = search needs
+deprecates-requires : tie.Need-deprecates-requires
+deprecates-requires c κs = search needs
 
 slice-aggregate-mark : tie.Need-slice-aggregate-mark
 slice-aggregate-mark c = search needs
@@ -103,8 +103,8 @@ returns-2 c =
     let q = w .store .ensures ∙ put-row (addressRow (s .args .s .now) (s .args .i)) _ (z .3) refl in
     let row = w .store .last .0 in
     λ st f.
-    turn-fades (s .args .allowance .0) (s .args .clock .0) row (s .args .i) (s .pre .1) f q (sym (c .before .before .before .before .before .before .before .before .before .before .before .before .due .ensures) ∙ c .before .before .before .before .before .before .before .before .before .before .before .if1 .left)
-    (sym (c .before .before .before .before .before .before .before .before .before .fades .ensures) ∙ c .before .before .before .before .before .before .before .before .if2 .taken) (c .before .before .before .before .mark .ensures .1 st (f .holds)) (c .before .before .before .before .mark .ensures .0)
+    turn-deprecates (s .args .allowance .0) (s .args .clock .0) row (s .args .i) (s .pre .1) f q (sym (c .before .before .before .before .before .before .before .before .before .before .before .before .due .ensures) ∙ c .before .before .before .before .before .before .before .before .before .before .before .if1 .left)
+    (sym (c .before .before .before .before .before .before .before .before .before .deprecates .ensures) ∙ c .before .before .before .before .before .before .before .before .if2 .taken) (c .before .before .before .before .mark .ensures .1 st (f .holds)) (c .before .before .before .before .mark .ensures .0)
 
 same-length-5 : tie.Need-same-length-5
 same-length-5 c = search needs
@@ -118,7 +118,7 @@ returns-3 c =
     let row = w .store .last .0 in
     λ st f.
     turn-stays (s .args .allowance .0) (s .args .clock .0) row (s .args .i) (s .pre .1) f q (sym (c .before .before .before .before .due .ensures) ∙ c .before .before .before .if1 .left)
-    (sym (c .before .fades .ensures) ∙ c .if2 .left)
+    (sym (c .before .deprecates .ensures) ∙ c .if2 .left)
 
 pub turn-spec : {M : Type 1} → statement M
 turn-spec =
@@ -140,8 +140,8 @@ turn-spec =
     same-length
     same-length-2
     returns
-    slice-aggregate-fades
-    fades-requires
+    slice-aggregate-deprecates
+    deprecates-requires
     slice-aggregate-mark
     mark-requires
     same-length-3

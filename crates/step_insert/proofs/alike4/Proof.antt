@@ -7,7 +7,7 @@ use Rattle.lists.specs.Laid.{Laid}
 use Rattle.lists.specs.Count.{tick-most}
 use Rattle.lists.specs.Pass.{part-width}
 use Rattle.layout.specs.Route.{fitRoute}
-use Rattle.step_insert.specs.Run.{Sofar}
+use Rattle.step_insert.specs.Run.{LoopInvariant}
 use Rattle.step_insert.specs.Pass.{pass-next, pass-stop, pass-end}
 use borrow.Author.Needs.{needs}
 use Rattle.step_insert.proofs.alike4.Statement.{statement}
@@ -18,7 +18,7 @@ abbrev Inv-loop : tie.InvT-loop
 Inv-loop rows n new front start₀ there₀ i₀ start there i =
     (i ≤ n)
     × (start ≤ i)
-    × ((l : List Row) → Laid 32 fitRoute rows l → Sofar new l i start there)
+    × ((l : List Row) → Laid 32 fitRoute rows l → LoopInvariant new l i start there)
 
 abbrev μ-loop : tie.MeasureT-loop
 μ-loop rows n new front start₀ there₀ i₀ start there i = n - i

@@ -1,6 +1,6 @@
 use Rattle.step_insert.specs.Plan.{in-order, add-place, replace-place, into-full, into-put, into-replaced, into-kept, into-refused}
-use Rattle.state.specs.Holds.{sizes-valid, count-routes}
-use Rattle.definition.specs.Kept.Fit.{length-route}
+use Rattle.state.specs.Represents.{sizes-valid, count-routes}
+use Rattle.definition.specs.Preservation.Fit.{length-route}
 use native.Mathlib.Omega.{arith}
 use borrow.Author.Needs.{needs}
 use Rattle.step_insert.proofs.insert4.Statement.{statement}

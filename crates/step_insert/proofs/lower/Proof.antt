@@ -7,7 +7,7 @@ use Rattle.lists.specs.Lists.{Row}
 use Rattle.lists.specs.Laid.{Laid}
 use Rattle.lists.specs.Pass.{part-width}
 use Rattle.layout.specs.Route.{fitRoute}
-use Rattle.step_insert.specs.Run.{Sofar, sofar-start}
+use Rattle.step_insert.specs.Run.{LoopInvariant, sofar-start}
 use Rattle.step_insert.specs.Pass.{pass-lower}
 use borrow.Author.Needs.{needs}
 use Rattle.step_insert.proofs.lower.Statement.{statement}
@@ -15,7 +15,7 @@ use Rattle.step_insert.proofs.lower.Tie as tie
 use lib.Dec.{lit<}
 
 abbrev Inv-loop : tie.InvT-loop
-Inv-loop rows n new dst i₀ i = (i ≤ n) × ((l : List Row) → Laid 32 fitRoute rows l → Sofar new l i i false)
+Inv-loop rows n new dst i₀ i = (i ≤ n) × ((l : List Row) → Laid 32 fitRoute rows l → LoopInvariant new l i i false)
 
 abbrev μ-loop : tie.MeasureT-loop
 μ-loop rows n new dst i₀ i = n - i

@@ -1,5 +1,5 @@
 use Rattle.step_kernel_add.specs.Add.{created-fit, valid-created, add-full-tables, add-put, add-nothing, add-refused, add-full}
-use Rattle.definition.specs.Kept.Fit.{length-route}
+use Rattle.definition.specs.Preservation.Fit.{length-route}
 use Rattle.definition.specs.Reference.Insert.{create4}
 use Rattle.layout.specs.Route.{table}
 use native.Mathlib.Omega.{arith}

@@ -8,7 +8,7 @@ use Rattle.lists.specs.Laid.{Laid, Lays}
 use Rattle.layout.specs.Route.{fitRoute}
 use Rattle.step_kernel_del.specs.Delete.{none-named, one-named, row-wide}
 use Rattle.state_read.specs.Parts.{length-routes, lays-routes, laid-routes}
-use Rattle.state.specs.Holds.{sizes-valid, count-routes}
+use Rattle.state.specs.Represents.{sizes-valid, count-routes}
 use native.Mathlib.Omega.{arith}
 use borrow.Author.Needs.{needs}
 use Rattle.step_kernel_del.proofs.kernel_del4.Statement.{statement}

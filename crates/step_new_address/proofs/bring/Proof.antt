@@ -1,22 +1,22 @@
 use lib.Dec.{lit<}
 use Rattle.lists.specs.Pass.{part-fit}
-use Rattle.state.specs.Holds.{sound-long}
+use Rattle.state.specs.Represents.{sound-long}
 use Rattle.step_new_address.specs.Sound.{rest-room, rows-are}
 use Prim.Native.Nat.{_-_, _≤_}
 use mathlib.Core.Path.{_≡_, refl, sym, _∙_}
 use native.Mathlib.Omega.{arith}
 use lib.ListN.{length}
-use Rattle.step_new_address.specs.Bring.{Sofar, sofar-start, sofar-sound, sofar-valid, sofar-length, sofar-next, sofar-full, sofar-end}
+use Rattle.step_new_address.specs.Bring.{LoopInvariant, sofar-start, sofar-sound, sofar-valid, sofar-length, sofar-next, sofar-full, sofar-end}
 use borrow.Author.Needs.{needs}
 use Rattle.step_new_address.proofs.bring.Statement.{statement}
 use Rattle.step_new_address.proofs.bring.Tie as tie
 
 abbrev Inv-loop : tie.InvT-loop
-Inv-loop s₀ ev₀ block k told₀ i₀ s ev told i =
-    (i ≤ k) × ((told ≤ i) × ((length s ≡ length s₀) × ((length ev ≡ length ev₀) × Sofar block s₀ ev₀ i s ev told)))
+Inv-loop s₀ ev₀ block k emitted₀ i₀ s ev emitted i =
+    (i ≤ k) × ((emitted ≤ i) × ((length s ≡ length s₀) × ((length ev ≡ length ev₀) × LoopInvariant block s₀ ev₀ i s ev emitted)))
 
 abbrev μ-loop : tie.MeasureT-loop
-μ-loop s₀ ev₀ block k told₀ i₀ s ev told i = k - i
+μ-loop s₀ ev₀ block k emitted₀ i₀ s ev emitted i = k - i
 
 loop-holds : tie.Need-loop-holds Inv-loop μ-loop
 loop-holds c =
@@ -71,15 +71,15 @@ kernel-add4-requires c κs =
       sofar-valid (inv .1 .1 .1 .1) (s .pre .0) (y .1),
       (
         part-fit (s .args .block .now) (s .args .k) (lit< tt) (y .0) (y .1) (k .loop .i) (c .before .before .before .loop-test .taken),
-        rest-room (k .loop .told) 34 (k .loop .ev) (omega (arith, s .pre .1 .1 .0, inv .0, inv .1 .0, inv .1 .1 .1 .0, c .before .before .before .loop-test .taken)),
+        rest-room (k .loop .emitted) 34 (k .loop .ev) (omega (arith, s .pre .1 .1 .0, inv .0, inv .1 .0, inv .1 .1 .1 .0, c .before .before .before .loop-test .taken)),
       ),
     )
 
 enum-known-came : tie.Need-enum-known-came Inv-loop μ-loop
 enum-known-came c = search needs
 
-add-told : tie.Need-add-told Inv-loop μ-loop
-add-told c =
+add-emitted : tie.Need-add-emitted Inv-loop μ-loop
+add-emitted c =
     let t = c .before in
     let w = t .before .before .before .before .before .before in
     let k = w .before .before .before .before .before in
@@ -157,7 +157,7 @@ bring-spec =
     part-kernel-add4-end-2
     kernel-add4-requires
     enum-known-came
-    add-told
+    add-emitted
     enum-told
     same-length
     same-length-2

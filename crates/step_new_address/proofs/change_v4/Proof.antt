@@ -3,10 +3,10 @@ use mathlib.Core.Path.{refl}
 use native.Mathlib.Omega.{arith}
 use lib.ListN.{getD}
 use mathlib.Core.List.{[]}
-use Rattle.state.specs.Holds.{sound-valid, sound-few, sound-long}
+use Rattle.state.specs.Represents.{sound-valid, sound-few, sound-long}
 use Rattle.step_new_address.specs.Sound.{rest-room, rows-are}
 use Rattle.step_new_address.specs.Change.{old-row, old-fit, old-long, row-room, changed-fit, change-full, change-sound, change-count, change-done}
-use Rattle.definition.specs.Kept.Fit.{length-address}
+use Rattle.definition.specs.Preservation.Fit.{length-address}
 use borrow.Author.Needs.{needs}
 use Rattle.step_new_address.proofs.change_v4.Statement.{statement}
 use Rattle.step_new_address.proofs.change_v4.Tie as tie

@@ -3,7 +3,7 @@ use native.Mathlib.Omega.{arith}
 use borrow.Author.Tests.{not-true, not-false}
 use lib.ListN.{getD}
 use Rattle.row_subnet.specs.Laws.{fit-short}
-use Rattle.state.specs.Holds.{sound-valid}
+use Rattle.state.specs.Represents.{sound-valid}
 use Rattle.step_new_address.specs.Sound.{rest-room, rows-are}
 use Rattle.step_new_address.specs.Change.{moved-none, moved-full, moved-both, route-row, row-fits, row-wide}
 use borrow.Author.Needs.{needs}

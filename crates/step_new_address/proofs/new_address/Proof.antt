@@ -1,11 +1,11 @@
 use native.Mathlib.Omega.{arith}
-use Rattle.state.specs.Holds.{count-addresses, sound-valid, sound-long}
+use Rattle.state.specs.Represents.{count-addresses, sound-valid, sound-long}
 use Rattle.state_read.specs.Parts.{ready-addresses, of-addresses}
-use Rattle.definition.specs.Kept.Fit.{length-address}
+use Rattle.definition.specs.Preservation.Fit.{length-address}
 use Prim.Native.Nat.{_+_, _*_}
 use Rattle.row_subnet.specs.Laws.{fit-short}
 use Rattle.step_new_address.specs.Sound.{rest-room, joined-few}
-use Rattle.step_new_address.specs.New.{placed, told-length, new-full, placed-fit, placed-holds, placed-count, new-ready, new-done}
+use Rattle.step_new_address.specs.New.{placed, emitted-length, new-full, placed-fit, placed-holds, placed-count, new-ready, new-done}
 use borrow.Author.Needs.{needs}
 use Rattle.step_new_address.proofs.new_address.Statement.{statement}
 use Rattle.step_new_address.proofs.new_address.Tie as tie
@@ -121,7 +121,7 @@ bring-requires c κs =
       record { state = placed new (v .state); holds = there; fits = placed-fit new (a .up) (v .state) fit (v .fits) },
       (
         new-ready new (a .up) (v .state) (p .place4 .result) place put fit (d .candidates .result) _ _ rows,
-        (rest-room 1 (34 * d .candidates .result) (c .before .before .before .before .before .before .before .before .before .before .before .new-addr4 .last .0) (omega (arith, few, s .pre .1 .1, told-length new fit (a .ev .now) (omega (arith, s .pre .1 .1)) (c .before .before .before .before .before .before .before .before .before .before .before .new-addr4 .ensures))), omega (arith, few)),
+        (rest-room 1 (34 * d .candidates .result) (c .before .before .before .before .before .before .before .before .before .before .before .new-addr4 .last .0) (omega (arith, few, s .pre .1 .1, emitted-length new fit (a .ev .now) (omega (arith, s .pre .1 .1)) (c .before .before .before .before .before .before .before .before .before .before .before .new-addr4 .ensures))), omega (arith, few)),
       ),
     )
 

@@ -1,13 +1,13 @@
 use Rattle.step_remove_v4.specs.One.{present-fit, present-room, present-ready, goneFrom, leaving-sized, block-laid, one-step}
-use Rattle.step_events.specs.Step.{rest-fits}
+use Rattle.step_events.specs.EmitsWithin.{rest-fits}
 use Rattle.definition.specs.Reference.Removal.{leaving}
 use Rattle.row_subnet.specs.Laws.{fit-short}
 use Rattle.lists.specs.Laid.{laid-length}
 use Rattle.step_drop_routes.specs.Turns.{step-facts, step-ready}
 use Rattle.step_drop_prefsrc.specs.Delete.{ready-valid}
 use Rattle.state_read.specs.Parts.{length-addresses, lays-addresses, laid-addresses}
-use Rattle.state.specs.Holds.{sizes-valid}
-use Rattle.definition.specs.Kept.Shrinking.{weight}
+use Rattle.state.specs.Represents.{sizes-valid}
+use Rattle.definition.specs.Preservation.Shrinking.{potential}
 use Rattle.layout.specs.Address.{fitAddress}
 use Rattle.lists.specs.Laid.{Laid, Lays}
 use lib.ListN.{length}
@@ -103,7 +103,7 @@ add-result c =
     let e = g .leaving .ensures .1 (st .addresses) (subst (λ (x : List ℕ). Laid 20 fitAddress x (st .addresses)) (sym (c .before .before .before .before .before .before .before .before .before .before .before .before .before .before .before .before .before .before .before .before .addresses .ensures)) (laid-addresses (y .fits .holds))) in
     let l = leaving (st .addresses) (s .args .a .now) in
     let b = block-laid l (g .leaving .result) _ (leaving-sized (st .addresses) (s .args .a .now)) (e .0) (e .1) in
-    let r = rest-fits weight t in
+    let r = rest-fits potential t in
     record { fits = omega (arith, (step-facts (y .fits) t) .3, (step-facts r (c .before .before .before .before .take-routes .ensures ((goneFrom (s .args .a .now) st) .state) r l b)) .3) }
 
 same-length : tie.Need-same-length
@@ -120,7 +120,7 @@ returns c = λ st f q.
     let e = g .leaving .ensures .1 (st .addresses) (subst (λ (x : List ℕ). Laid 20 fitAddress x (st .addresses)) (sym (c .before .before .before .before .before .before .before .before .before .before .before .before .before .before .before .before .before .before .before .before .addresses .ensures)) (laid-addresses (f .holds))) in
     let l = leaving (st .addresses) (s .args .a .now) in
     let b = block-laid l (g .leaving .result) _ (leaving-sized (st .addresses) (s .args .a .now)) (e .0) (e .1) in
-    one-step (s .args .a .now) t (c .before .before .before .before .take-routes .ensures ((goneFrom (s .args .a .now) st) .state) (rest-fits weight t) l b)
+    one-step (s .args .a .now) t (c .before .before .before .before .take-routes .ensures ((goneFrom (s .args .a .now) st) .state) (rest-fits potential t) l b)
 
 pub remove-one-spec : {M : Type 1} → statement M
 remove-one-spec =

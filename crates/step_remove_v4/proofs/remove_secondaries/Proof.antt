@@ -1,11 +1,11 @@
 use Rattle.step_remove_v4.specs.One.{Going1, gone-start, gone-facts, gone-next, gone-last}
 use Rattle.step_events.specs.Turns.{going-ready}
-use Rattle.step_events.specs.Step.{Fits}
+use Rattle.step_events.specs.EmitsWithin.{Fits}
 use Rattle.definition.specs.Words.{addressCount}
 use Rattle.definition.specs.State.{State}
 use Rattle.step_drop_prefsrc.specs.Delete.{ready-valid}
-use Rattle.state.specs.Holds.{sizes-valid}
-use Rattle.definition.specs.Kept.Shrinking.{weight}
+use Rattle.state.specs.Represents.{sizes-valid}
+use Rattle.definition.specs.Preservation.Shrinking.{potential}
 use lib.ListN.{length}
 use native.Mathlib.Omega.{arith}
 use mathlib.Core.Path.{_≡_, sym, _∙_}
@@ -19,7 +19,7 @@ Inv-loop s₀ ev₀ a n j₀ k₀ s ev j k =
     (j ≤ n)
     × (n ≤ 64)
     × (((34 * k ≤ length ev) × (length s ≡ 9507) × (length ev ≡ length ev₀) × (k ≤ 384)) × ((addressCount s ≤ n) × (n ≤ j + addressCount s)))
-    × ((st : State) → Fits weight st s₀ ev₀ → Going1 a st n j k s ev₀ ev)
+    × ((st : State) → Fits potential st s₀ ev₀ → Going1 a st n j k s ev₀ ev)
 
 abbrev μ-loop : tie.MeasureT-loop
 μ-loop s₀ ev₀ a n j₀ k₀ s ev j k = n - j
@@ -68,7 +68,7 @@ gone-turn-requires c κs =
     let k = c .before .before .before .before .before in
     let s = k .before .before .before .before .before .before in
     let y = s .pre .0 in
-    (going-ready weight (k .loop .inv .3 (y .state) (y .fits)), (omega (arith, c .before .before .before .before .loop-test .taken, c .before .before .address-count2 .ensures, k .loop .inv .2 .1), s .pre .1))
+    (going-ready potential (k .loop .inv .3 (y .state) (y .fits)), (omega (arith, c .before .before .before .before .loop-test .taken, c .before .before .address-count2 .ensures, k .loop .inv .2 .1), s .pre .1))
 
 add-k : tie.Need-add-k Inv-loop μ-loop
 add-k c =

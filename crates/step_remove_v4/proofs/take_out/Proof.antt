@@ -1,7 +1,7 @@
 use Rattle.step_remove_v4.specs.One.{present-fit, present-room, present-place, present-ready, gone-step}
 use Rattle.step_drop_prefsrc.specs.Delete.{ready-valid}
 use Rattle.state_read.specs.Parts.{length-addresses, lays-addresses, laid-addresses}
-use Rattle.state.specs.Holds.{sizes-valid}
+use Rattle.state.specs.Represents.{sizes-valid}
 use Rattle.layout.specs.Address.{fitAddress}
 use Rattle.lists.specs.Laid.{Laid, Lays}
 use lib.ListN.{length}

@@ -1,9 +1,9 @@
 -- `step_route_request::add_checked` meets its contract.
 -- Assumes nothing.
 use Rattle.step_route_request.specs.Add.{asked-new, room-kept, way-full, way-on}
-use Rattle.state.specs.Holds.{sound-valid}
+use Rattle.state.specs.Represents.{sound-valid}
 use Rattle.definition.specs.Reference.Routes.{askedRoute}
-use Rattle.definition.specs.Kept.Fit.{length-route}
+use Rattle.definition.specs.Preservation.Fit.{length-route}
 use Rattle.layout.specs.Route.{fitRoute}
 use denote.Ref.{now}
 use lib.ListN.{length}

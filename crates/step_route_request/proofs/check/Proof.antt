@@ -3,7 +3,7 @@
 use Rattle.step_route_request.specs.Check.{or-listed, scope-fits, check-form, check-refused, check-on}
 use Rattle.request_gateway.specs.Rows.{reachedOf}
 use Rattle.definition.specs.Reference.Routes.{tableNamed}
-use Rattle.state.specs.Holds.{sizes-valid}
+use Rattle.state.specs.Represents.{sizes-valid}
 use denote.Ref.{now}
 use lib.Dec.{eqb}
 use mathlib.Core.Bool.{_||_}

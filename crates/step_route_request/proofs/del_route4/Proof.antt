@@ -1,7 +1,7 @@
 -- `step_route_request::del_route4` meets its contract.
 -- Assumes nothing.
 use Rattle.step_route_request.specs.Delete.{row-long, row-end, del-unlisted, del-bad, del-none, del-row}
-use Rattle.state.specs.Holds.{sizes-valid}
+use Rattle.state.specs.Represents.{sizes-valid}
 use denote.Ref.{now}
 use borrow.Author.Tests.{not-true, not-false}
 use native.Mathlib.Omega.{arith}

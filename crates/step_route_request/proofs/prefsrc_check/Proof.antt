@@ -1,7 +1,7 @@
 -- `step_route_request::prefsrc_check` meets its contract.
 -- Assumes nothing.
 use Rattle.step_route_request.specs.Check.{own-listed, no-prefsrc, good-prefsrc, bad-prefsrc}
-use Rattle.state.specs.Holds.{sizes-valid}
+use Rattle.state.specs.Represents.{sizes-valid}
 use denote.Ref.{now}
 use lib.Dec.{eqb}
 use native.Mathlib.Omega.{arith}

@@ -4,7 +4,7 @@ use native.Mathlib.Omega.{arith}
 use mathlib.Core.Path.{refl}
 use borrow.Author.Tests.{not-true, not-false}
 use Rattle.endian.specs.Laws.{words-whole}
-use Rattle.call_change.specs.Told.{down-told}
+use Rattle.call_change.specs.Told.{down-emitted}
 use Rattle.interface4.specs.Changed.{changed-no, changed-yes, room, as-words, value-few}
 use Rattle.interface4.specs.Stays.{down-stays, stays-from}
 use Rattle.interface4.specs.Answer.{changeFits}
@@ -56,7 +56,7 @@ give-back-requires c κs =
     let a = e .before .before .before .args in
     let r = room 52224 (a .state .now) (a .events .now) (not-false _ (e .if1 .left)) in
     let s = words-whole 9507 (a .state .now) _ _ (r .0) refl (k .words-of .ensures) in
-    ((search needs, search needs, value-few (d .interface4w-down .result) _ (d .interface4w-down .ensures .0) (down-told _ 13056), r .0, r .1), stays-from 1 (a .state .now) _ _ (downCall 13056 _) (d .interface4w-down .result) (r .0) (e .before .before .slice-known .given) s (d .interface4w-down .ensures .0) (d .interface4w-down .ensures .1 .0) (down-stays _ 13056))
+    ((search needs, search needs, value-few (d .interface4w-down .result) _ (d .interface4w-down .ensures .0) (down-emitted _ 13056), r .0, r .1), stays-from 1 (a .state .now) _ _ (downCall 13056 _) (d .interface4w-down .result) (r .0) (e .before .before .slice-known .given) s (d .interface4w-down .ensures .0) (d .interface4w-down .ensures .1 .0) (down-stays _ 13056))
 
 same-length : tie.Need-same-length
 same-length c = search needs
@@ -74,7 +74,7 @@ returns-2 c =
     let f = changeFits (a .state .now) (a .events .now) in
     let r = room 52224 (a .state .now) (a .events .now) (not-false _ (e .if1 .left)) in
     let s = words-whole 9507 (a .state .now) _ _ (r .0) refl (k .words-of .ensures) in
-    let y = changed-yes (a .state .now) (a .events .now) f (downCall 13056 _) (d .interface4w-down .result) _ _ _ _ _ (not-false _ (e .if1 .left)) (down-told _ 13056) (d .interface4w-down .ensures .0) (d .interface4w-down .ensures .1 .0) (d .interface4w-down .ensures .1 .1) (g .give-back .ensures .0) (g .give-back .ensures .1 .0) (g .give-back .ensures .1 .1) in
+    let y = changed-yes (a .state .now) (a .events .now) f (downCall 13056 _) (d .interface4w-down .result) _ _ _ _ _ (not-false _ (e .if1 .left)) (down-emitted _ 13056) (d .interface4w-down .ensures .0) (d .interface4w-down .ensures .1 .0) (d .interface4w-down .ensures .1 .1) (g .give-back .ensures .0) (g .give-back .ensures .1 .0) (g .give-back .ensures .1 .1) in
     let x = as-words (a .state .now) (a .events .now) f (downCall 13056) (d .interface4w-down .result) _ _ _ _ s y in
     (x .answer, (x .state, (x .events, x .narrow)))
 

@@ -4,7 +4,7 @@ use native.Mathlib.Omega.{arith}
 use mathlib.Core.Path.{refl}
 use borrow.Author.Tests.{not-true, not-false}
 use Rattle.endian.specs.Laws.{words-whole}
-use Rattle.call_change.specs.Told.{expire-told}
+use Rattle.call_change.specs.Told.{expire-emitted}
 use Rattle.interface4.specs.Changed.{changed-no, changed-yes, room, as-words, value-few}
 use Rattle.interface4.specs.Stays.{stays-quiet}
 use Rattle.interface4.specs.Quiet.{expire-stays}
@@ -57,7 +57,7 @@ give-back-requires c κs =
     let a = e .before .before .before .args in
     let r = room 52224 (a .state .now) (a .events .now) (not-false _ (e .if1 .left)) in
     let s = words-whole 9507 (a .state .now) _ _ (r .0) refl (k .words-of .ensures) in
-    ((search needs, search needs, value-few (d .interface4w-expire .result) _ (d .interface4w-expire .ensures .0) (expire-told _ 13056 (a .clock)), r .0, r .1), stays-quiet (a .state .now) _ _ (expireCall 13056 _ _) (d .interface4w-expire .result) (r .0) (e .before .before .slice-known .given) s (d .interface4w-expire .ensures .0) (d .interface4w-expire .ensures .1 .0) (expire-stays _ 13056 _))
+    ((search needs, search needs, value-few (d .interface4w-expire .result) _ (d .interface4w-expire .ensures .0) (expire-emitted _ 13056 (a .clock)), r .0, r .1), stays-quiet (a .state .now) _ _ (expireCall 13056 _ _) (d .interface4w-expire .result) (r .0) (e .before .before .slice-known .given) s (d .interface4w-expire .ensures .0) (d .interface4w-expire .ensures .1 .0) (expire-stays _ 13056 _))
 
 same-length : tie.Need-same-length
 same-length c = search needs
@@ -75,7 +75,7 @@ returns-2 c =
     let f = changeFits (a .state .now) (a .events .now) in
     let r = room 52224 (a .state .now) (a .events .now) (not-false _ (e .if1 .left)) in
     let s = words-whole 9507 (a .state .now) _ _ (r .0) refl (k .words-of .ensures) in
-    let y = changed-yes (a .state .now) (a .events .now) f (expireCall 13056 (a .clock) _) (d .interface4w-expire .result) _ _ _ _ _ (not-false _ (e .if1 .left)) (expire-told _ 13056 (a .clock)) (d .interface4w-expire .ensures .0) (d .interface4w-expire .ensures .1 .0) (d .interface4w-expire .ensures .1 .1) (g .give-back .ensures .0) (g .give-back .ensures .1 .0) (g .give-back .ensures .1 .1) in
+    let y = changed-yes (a .state .now) (a .events .now) f (expireCall 13056 (a .clock) _) (d .interface4w-expire .result) _ _ _ _ _ (not-false _ (e .if1 .left)) (expire-emitted _ 13056 (a .clock)) (d .interface4w-expire .ensures .0) (d .interface4w-expire .ensures .1 .0) (d .interface4w-expire .ensures .1 .1) (g .give-back .ensures .0) (g .give-back .ensures .1 .0) (g .give-back .ensures .1 .1) in
     let x = as-words (a .state .now) (a .events .now) f (expireCall 13056 (a .clock)) (d .interface4w-expire .result) _ _ _ _ s y in
     (x .answer, (x .state, (x .events, x .narrow)))
 

@@ -4,7 +4,7 @@ use native.Mathlib.Omega.{arith}
 use mathlib.Core.Path.{refl}
 use borrow.Author.Tests.{not-true, not-false}
 use Rattle.endian.specs.Laws.{words-whole}
-use Rattle.call_change.specs.Told.{up-told}
+use Rattle.call_change.specs.Told.{up-emitted}
 use Rattle.interface4.specs.Changed.{changed-no, changed-yes, room, as-words, value-few}
 use Rattle.interface4.specs.Stays.{up-stays, stays-from}
 use Rattle.interface4.specs.Answer.{changeFits}
@@ -56,7 +56,7 @@ give-back-requires c κs =
     let a = e .before .before .before .args in
     let r = room 52224 (a .state .now) (a .events .now) (not-false _ (e .if1 .left)) in
     let s = words-whole 9507 (a .state .now) _ _ (r .0) refl (k .words-of .ensures) in
-    ((search needs, search needs, value-few (d .interface4w-up .result) _ (d .interface4w-up .ensures .0) (up-told _ 13056 (a .clock)), r .0, r .1), stays-from 1 (a .state .now) _ _ (upCall 13056 _ _) (d .interface4w-up .result) (r .0) (e .before .before .slice-known .given) s (d .interface4w-up .ensures .0) (d .interface4w-up .ensures .1 .0) (up-stays _ 13056 _))
+    ((search needs, search needs, value-few (d .interface4w-up .result) _ (d .interface4w-up .ensures .0) (up-emitted _ 13056 (a .clock)), r .0, r .1), stays-from 1 (a .state .now) _ _ (upCall 13056 _ _) (d .interface4w-up .result) (r .0) (e .before .before .slice-known .given) s (d .interface4w-up .ensures .0) (d .interface4w-up .ensures .1 .0) (up-stays _ 13056 _))
 
 same-length : tie.Need-same-length
 same-length c = search needs
@@ -74,7 +74,7 @@ returns-2 c =
     let f = changeFits (a .state .now) (a .events .now) in
     let r = room 52224 (a .state .now) (a .events .now) (not-false _ (e .if1 .left)) in
     let s = words-whole 9507 (a .state .now) _ _ (r .0) refl (k .words-of .ensures) in
-    let y = changed-yes (a .state .now) (a .events .now) f (upCall 13056 (a .clock) _) (d .interface4w-up .result) _ _ _ _ _ (not-false _ (e .if1 .left)) (up-told _ 13056 (a .clock)) (d .interface4w-up .ensures .0) (d .interface4w-up .ensures .1 .0) (d .interface4w-up .ensures .1 .1) (g .give-back .ensures .0) (g .give-back .ensures .1 .0) (g .give-back .ensures .1 .1) in
+    let y = changed-yes (a .state .now) (a .events .now) f (upCall 13056 (a .clock) _) (d .interface4w-up .result) _ _ _ _ _ (not-false _ (e .if1 .left)) (up-emitted _ 13056 (a .clock)) (d .interface4w-up .ensures .0) (d .interface4w-up .ensures .1 .0) (d .interface4w-up .ensures .1 .1) (g .give-back .ensures .0) (g .give-back .ensures .1 .0) (g .give-back .ensures .1 .1) in
     let x = as-words (a .state .now) (a .events .now) f (upCall 13056 (a .clock)) (d .interface4w-up .result) _ _ _ _ s y in
     (x .answer, (x .state, (x .events, x .narrow)))
 

@@ -3,7 +3,7 @@
 use Rattle.definition.specs.Step.{delV4Call}
 use mathlib.Core.Path.{ap, _∙_}
 use Rattle.call_reply.specs.Answer.{replyFrom}
-use Rattle.call_change.specs.Told.{del-v4-told, small}
+use Rattle.call_change.specs.Told.{del-v4-emitted, small}
 use lib.ListN.{length}
 use borrow.Author.Needs.{needs}
 use Rattle.interface4.proofs.on_words.interface4w_del_v4.Statement.{statement}
@@ -16,7 +16,7 @@ done-requires : tie.Need-done-requires
 done-requires c κs =
     let k = c .before .before .before .before in
     let a = k .before .before .before .before .before .before .args in
-    small (k .del-v4 .result) (delV4Call (a .request .now) (length (a .events .now)) (a .state .now) .reply) (k .del-v4 .ensures .1 .0) (del-v4-told (a .state .now) (length (a .events .now)) (a .request .now))
+    small (k .del-v4 .result) (delV4Call (a .request .now) (length (a .events .now)) (a .state .now) .reply) (k .del-v4 .ensures .1 .0) (del-v4-emitted (a .state .now) (length (a .events .now)) (a .request .now))
 
 same-length : tie.Need-same-length
 same-length c = search needs

@@ -3,7 +3,7 @@
 use Rattle.definition.specs.Step.{downCall}
 use mathlib.Core.Path.{ap, _∙_}
 use Rattle.call_reply.specs.Answer.{replyFrom}
-use Rattle.call_change.specs.Told.{down-told, small}
+use Rattle.call_change.specs.Told.{down-emitted, small}
 use lib.ListN.{length}
 use borrow.Author.Needs.{needs}
 use Rattle.interface4.proofs.on_words.interface4w_down.Statement.{statement}
@@ -16,7 +16,7 @@ done-requires : tie.Need-done-requires
 done-requires c κs =
     let k = c .before .before .before .before in
     let a = k .before .before .before .before .before .args in
-    small (k .down .result) (downCall (length (a .events .now)) (a .state .now) .reply) (k .down .ensures .1 .0) (down-told (a .state .now) (length (a .events .now)))
+    small (k .down .result) (downCall (length (a .events .now)) (a .state .now) .reply) (k .down .ensures .1 .0) (down-emitted (a .state .now) (length (a .events .now)))
 
 same-length : tie.Need-same-length
 same-length c = search needs

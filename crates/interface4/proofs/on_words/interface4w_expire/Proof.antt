@@ -3,7 +3,7 @@
 use Rattle.definition.specs.Step.{expireCall}
 use mathlib.Core.Path.{ap, _∙_}
 use Rattle.call_reply.specs.Answer.{replyFrom}
-use Rattle.call_change.specs.Told.{expire-told, small}
+use Rattle.call_change.specs.Told.{expire-emitted, small}
 use lib.ListN.{length}
 use borrow.Author.Needs.{needs}
 use Rattle.interface4.proofs.on_words.interface4w_expire.Statement.{statement}
@@ -16,7 +16,7 @@ done-requires : tie.Need-done-requires
 done-requires c κs =
     let k = c .before .before .before .before in
     let a = k .before .before .before .before .before .args in
-    small (k .expire .result) (expireCall (length (a .events .now)) (a .clock) (a .state .now) .reply) (k .expire .ensures .1 .0) (expire-told (a .state .now) (length (a .events .now)) (a .clock))
+    small (k .expire .result) (expireCall (length (a .events .now)) (a .clock) (a .state .now) .reply) (k .expire .ensures .1 .0) (expire-emitted (a .state .now) (length (a .events .now)) (a .clock))
 
 same-length : tie.Need-same-length
 same-length c = search needs

@@ -3,7 +3,7 @@
 use Rattle.definition.specs.Step.{upCall}
 use mathlib.Core.Path.{ap, _∙_}
 use Rattle.call_reply.specs.Answer.{replyFrom}
-use Rattle.call_change.specs.Told.{up-told, small}
+use Rattle.call_change.specs.Told.{up-emitted, small}
 use lib.ListN.{length}
 use borrow.Author.Needs.{needs}
 use Rattle.interface4.proofs.on_words.interface4w_up.Statement.{statement}
@@ -16,7 +16,7 @@ done-requires : tie.Need-done-requires
 done-requires c κs =
     let k = c .before .before .before .before in
     let a = k .before .before .before .before .before .args in
-    small (k .up .result) (upCall (length (a .events .now)) (a .clock) (a .state .now) .reply) (k .up .ensures .1 .0) (up-told (a .state .now) (length (a .events .now)) (a .clock))
+    small (k .up .result) (upCall (length (a .events .now)) (a .clock) (a .state .now) .reply) (k .up .ensures .1 .0) (up-emitted (a .state .now) (length (a .events .now)) (a .clock))
 
 same-length : tie.Need-same-length
 same-length c = search needs

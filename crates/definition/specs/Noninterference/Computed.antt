@@ -1,0 +1,62 @@
+-- A run on words is a run on states, so what is computed on states holds of the words.
+use Prim.Native.Nat.{ℕ}
+use mathlib.Core.Path.{_≡_, refl, sym, _∙_, ap, ap₂}
+use mathlib.Core.Bool.{Bool, true, cond, _&&_}
+use mathlib.Core.List.{List, [], _∷_}
+use Rattle.definition.specs.State.{State, empty}
+use Rattle.definition.specs.Words.{stateOf}
+use Rattle.definition.specs.Call.{Call, Reply}
+use Rattle.definition.specs.Step.{semantics, step}
+use Rattle.definition.specs.Preservation.Encode.{good-empty, encode-empty, decode-encode}
+use Rattle.definition.specs.Preservation.Step.{Held, held-empty}
+use Rattle.definition.specs.Noninterference.Statement.{struck, emptyWords, after, spacious, compared, observed}
+use Rattle.definition.specs.Noninterference.Calls.{bounded, spaced, step-follows}
+
+unfoldable pub left : List Call → State → State
+left [] st = st
+left (c ∷ cs) st = left cs (bounded (semantics c) st .state)
+
+unfoldable pub ample : List Call → State → Bool
+ample [] st = true
+ample (c ∷ cs) st = spaced (bounded (semantics c) st .reply) && ample cs (bounded (semantics c) st .state)
+
+unfoldable pub answers : (ℕ → Bool) → List Call → State → List Reply
+answers chosen [] st = []
+answers chosen (c ∷ cs) st =
+    let rest = answers chosen cs (bounded (semantics c) st .state) in
+    cond (struck chosen c) rest (compared chosen c (bounded (semantics c) st .reply) ∷ rest)
+
+decode-empty : stateOf emptyWords ≡ empty
+decode-empty = rw (sym encode-empty) (decode-encode empty good-empty)
+
+after-left : (cs : List Call) (w : List ℕ) → Held w → stateOf (after cs w) ≡ left cs (stateOf w)
+unfolding after left
+after-left [] w h = refl
+after-left (c ∷ cs) w h =
+    let f = step-follows c w h in
+    after-left cs (step c w .words) (f .held) ∙ ap (left cs) (f .state)
+
+spacious-ample : (cs : List Call) (w : List ℕ) → Held w → spacious cs w ≡ ample cs (stateOf w)
+unfolding spacious ample
+spacious-ample [] w h = refl
+spacious-ample (c ∷ cs) w h =
+    let f = step-follows c w h in
+    ap₂ _&&_ (ap spaced (f .reply)) (spacious-ample cs (step c w .words) (f .held) ∙ ap (ample cs) (f .state))
+
+observed-answers : (chosen : ℕ → Bool) (cs : List Call) (w : List ℕ) → Held w → observed chosen cs w ≡ answers chosen cs (stateOf w)
+unfolding observed answers
+observed-answers chosen [] w h = refl
+observed-answers chosen (c ∷ cs) w h =
+    let f = step-follows c w h in
+    rw (f .reply, observed-answers chosen cs (step c w .words) (f .held), f .state)
+
+-- ---- from the empty words
+module _ (cs : List Call) where
+  pub run-left : stateOf (after cs emptyWords) ≡ left cs empty
+  run-left = after-left cs emptyWords held-empty ∙ ap (left cs) decode-empty
+
+  pub run-ample : spacious cs emptyWords ≡ ample cs empty
+  run-ample = spacious-ample cs emptyWords held-empty ∙ ap (ample cs) decode-empty
+
+  pub run-answers : (chosen : ℕ → Bool) → observed chosen cs emptyWords ≡ answers chosen cs empty
+  run-answers chosen = observed-answers chosen cs emptyWords held-empty ∙ ap (answers chosen cs) decode-empty

@@ -1,0 +1,168 @@
+-- What every call keeps, call by call: the one place where the laws of the reference meet the calls.
+-- Assumes nothing.
+use Prim.Native.Nat.{ℕ}
+use mathlib.Core.Path.{_≡_, refl}
+use mathlib.Core.Bool.{Bool, true, false, cond, _&&_}
+use mathlib.Core.Logic.{_≢_}
+use mathlib.Core.Option.{Option, none, some}
+use native.Mathlib.Omega.{arith}
+use lib.Dec.{leb, ltb}
+use lib.ListN.{length}
+use borrow.Author.Tests.{eqb-true}
+use Rattle.lists.specs.Lists.{Row}
+use Rattle.lists.specs.Bools.{and-left}
+use Rattle.life.specs.Life.{allowance}
+use Rattle.layout.specs.Address.{optional}
+use Rattle.layout.specs.Request.{fitAddV4, fitDelV4, fitAddRoute4, fitDelRoute4}
+use Rattle.definition.specs.State.{State, Out}
+use Rattle.definition.specs.Call.{Call, Reply, refusal, valued, optionally, foundRow}
+use Rattle.definition.specs.Reference.Lookup.{Found, lookup4, lookup4Flow, flowTo, lookupIn}
+use Rattle.definition.specs.Reference.Source.{source4, select4, present}
+use Rattle.definition.specs.Reference.Addresses.{Outcome, goes, up, down}
+use Rattle.definition.specs.Reference.Removal.{expire}
+use Rattle.definition.specs.Step.{Checks, Action, changes, replies, lists, Semantics, going, query, unless, eventsFit, requestIs, clockLimit, semantics}
+use Rattle.definition.specs.Preservation.Fit.{Fit, fit-state}
+use Rattle.definition.specs.Preservation.Encode.{Good}
+use Rattle.definition.specs.Preservation.Keeps.{Keeps, KeptOutcome}
+use Rattle.definition.specs.Preservation.Addresses.{addV4-keeps, up-keeps, down-keeps}
+use Rattle.definition.specs.Preservation.Removal.{delV4-keeps, expire-keeps}
+use Rattle.definition.specs.Preservation.Requests.{addRoute4-keeps, delRoute4-keeps}
+use Rattle.definition.specs.Preservation.Numbers.{Numbered, OfFound, lookup-number, addV4-number, delV4-number, addRoute4-number, delRoute4-number}
+use Rattle.definition.specs.Preservation.Refused.{Leaves, addV4-leaves, delV4-leaves, addRoute4-leaves, delRoute4-leaves}
+use Rattle.definition.specs.Preservation.Emitted.{EventBound, EventBoundOutcome, up-eventBound, down-eventBound, addV4-eventBound, delV4-eventBound, expire-eventBound, addRoute4-eventBound, delRoute4-eventBound}
+
+-- the checks are passed
+pub record Passes (k : Checks) : Type 0 where
+  pub room : k .buffers ≡ true
+  pub handed : k .row ≡ true
+  pub fit : k .request ≡ 0
+
+-- an outcome: fit, told in few rows, refused with a number of the reference, and then the state is `later`
+pub record Sound (later : State) (o : Outcome) : Type 0 where
+  pub kept : KeptOutcome o
+  pub eventBound : EventBoundOutcome o
+  pub numbered : Numbered o
+  pub leaves : Leaves later o
+
+-- a reply: with a number nothing else, and never for want of space
+pub record Proper (r : Reply) : Type 0 where
+  pub alone : r .number ≢ 0 → r ≡ refusal (r .number)
+  pub spaced : r .number ≢ 203
+
+-- ---- what all calls keep, on a good state, once the checks are passed
+pub record Changes (k : Checks) (listed : State → State) (f : State → Outcome) : Type 0 where
+  pub sound : (st : State) → Good st → Passes k → Sound (listed st) (f st)
+
+pub record Replies (f : State → Reply) : Type 0 where
+  pub proper : (st : State) → Proper (f st)
+
+abbrev pub Acts : Checks → Action → Type 0
+Acts k (changes listed f) = Changes k listed f
+Acts k (replies f) = Replies f
+Acts k (lists f) = Unit {0}
+
+pub record Lawful (s : Semantics) : Type 0 where
+  pub request : s .checks .request ≢ 203
+  pub acts : Acts (s .checks) (s .action)
+
+-- ---- helpers
+abbrev fit : (st : State) → Good st → Fit st
+fit st g = fit-state st (g .fits)
+
+none-asked : _≢_ {A = ℕ} 0 203
+none-asked e = omega arith
+
+pub unless-202 : (b : Bool) → unless b 202 ≢ 203
+unless-202 true e = omega arith
+unless-202 false e = omega arith
+
+-- a check that gives 0 is passed
+pub unless-passed : (b : Bool) → unless b 202 ≡ 0 → b ≡ true
+unless-passed true e = refl
+unless-passed false e = absurd (omega arith)
+
+-- the request has its words
+sized-request : (n events : ℕ) (q : Row) → requestIs n q && eventsFit events ≡ true → length q ≡ n
+sized-request n events q h = eqb-true (length q) n (and-left (requestIs n q) (eventsFit events) h)
+
+-- a step that always goes on
+going-lawful : (events request : ℕ) (f : State → Out) → request ≢ 203 → Keeps f → ((st : State) → Good st → EventBound (f st)) → Lawful (going events request f)
+going-lawful events request f r k b =
+    record {
+      request = r;
+      acts = record { sound = λ st g p. record { kept = k .kept st (fit st g); eventBound = b st g; numbered = tt; leaves = tt } };
+    }
+
+found-proper : (f : Found) → OfFound f → Proper (foundRow f)
+found-proper (Found.route r) o = record { alone = λ h. absurd (h refl); spaced = none-asked }
+found-proper (Found.refused n) o = record { alone = λ h. refl; spaced = λ e. omega (arith, o .most) }
+
+pub valued-proper : (v : ℕ) → Proper (valued v)
+valued-proper v = record { alone = λ h. absurd (h refl); spaced = none-asked }
+
+optionally-proper : (o : Option ℕ) → Proper (optionally o)
+optionally-proper none = record { alone = λ h. absurd (h refl); spaced = none-asked }
+optionally-proper (some v) = record { alone = λ h. absurd (h refl); spaced = none-asked }
+
+-- ---- the calls
+pub lawful : (c : Call) → Lawful (semantics c)
+unfolding lookup4 lookup4Flow
+lawful (Call.up events now) = going-lawful events 0 (up now) none-asked (up-keeps now) (λ st g. up-eventBound st g now)
+lawful (Call.down events) = going-lawful events 0 down none-asked down-keeps (λ st g. down-eventBound st g)
+lawful (Call.addV4 q events now) =
+    record {
+      request = unless-202 (fitAddV4 q);
+      acts =
+          record {
+            sound = λ st g p.
+                let long = sized-request 18 events q (p .room) in
+                let fitted = unless-passed (fitAddV4 q) (p .fit) in
+                record {
+                  kept = addV4-keeps q now long fitted .kept st (fit st g);
+                  eventBound = addV4-eventBound st g q now long fitted;
+                  numbered = addV4-number q now st;
+                  leaves = addV4-leaves q now st;
+                };
+          };
+    }
+lawful (Call.delV4 q events) =
+    record {
+      request = unless-202 (fitDelV4 q);
+      acts = record { sound = λ st g p. record { kept = delV4-keeps q .kept st (fit st g); eventBound = delV4-eventBound st g q; numbered = delV4-number q st; leaves = delV4-leaves q st } };
+    }
+lawful (Call.expire events now) =
+    going-lawful events (unless (leb now clockLimit) 202) (expire allowance now) (unless-202 (leb now clockLimit)) (expire-keeps allowance now) (λ st g. expire-eventBound st g allowance now)
+lawful (Call.addRoute4 q events) =
+    record {
+      request = unless-202 (fitAddRoute4 q);
+      acts =
+          record {
+            sound = λ st g p.
+                let fitted = unless-passed (fitAddRoute4 q) (p .fit) in
+                record {
+                  kept = addRoute4-keeps q (sized-request 34 events q (p .room)) fitted .kept st (fit st g);
+                  eventBound = addRoute4-eventBound st g q;
+                  numbered = addRoute4-number q st fitted;
+                  leaves = addRoute4-leaves q st;
+                };
+          };
+    }
+lawful (Call.delRoute4 q events) =
+    record {
+      request = unless-202 (fitDelRoute4 q);
+      acts = record { sound = λ st g p. record { kept = delRoute4-keeps q .kept st (fit st g); eventBound = delRoute4-eventBound st g q; numbered = delRoute4-number q st; leaves = delRoute4-leaves q st } };
+    }
+lawful (Call.dump4 room) = record { request = none-asked; acts = tt }
+lawful (Call.lookup4 rowRoom ip) =
+    record { request = none-asked; acts = record { proper = λ st. found-proper (lookupIn st (flowTo ip)) (lookup-number st (flowTo ip)) } }
+lawful (Call.lookup4Flow rowRoom ip tos oif) =
+    record { request = unless-202 (ltb tos 256); acts = record { proper = λ st. found-proper (lookupIn st _) (lookup-number st _) } }
+lawful (Call.local4 ip) = record { request = none-asked; acts = record { proper = λ st. valued-proper _ } }
+lawful (Call.source4 row ip) =
+    record { request = none-asked; acts = record { proper = λ st. optionally-proper (source4 (st .addresses) row ip) } }
+lawful (Call.source ip) = record { request = none-asked; acts = record { proper = λ st. valued-proper _ } }
+lawful (Call.select4 dstPresent dst scope) =
+    record {
+      request = unless-202 (optional dstPresent dst && ltb scope 256);
+      acts = record { proper = λ st. optionally-proper (select4 (st .addresses) (present dstPresent dst) scope) };
+    }
