@@ -1,6 +1,6 @@
 -- The calls on any words at all: 200, 201, the request's own number, 203 in that order, then the reference (document 01, "When a
 -- call says no").
-use Prim.Native.Nat.{ℕ}
+use Prim.Native.Nat.{ℕ, _*_}
 use mathlib.Core.Bool.{Bool, true, false, cond, _&&_}
 use mathlib.Core.List.{List, [], _∷_}
 use lib.Dec.{eqb, leb, ltb}
@@ -8,11 +8,12 @@ use lib.ListN.{length}
 use Rattle.lists.specs.Lists.{Row}
 use Rattle.life.specs.Life.{allowance}
 use Rattle.layout.specs.Address.{optional, fitAddress}
+use Rattle.layout.specs.Event as Event
 use Rattle.layout.specs.Route as Route
 use Rattle.layout.specs.Route.{fitRoute, table}
 use Rattle.layout.specs.Request.{addV4Size, fitAddV4, delV4Size, fitDelV4, addRoute4Size, fitAddRoute4, delRoute4Size, fitDelRoute4}
 use Rattle.definition.specs.State.{State, Sizes, Out, sizes}
-use Rattle.definition.specs.Words.{within, stateSize, leaves, stateOf, formed}
+use Rattle.definition.specs.Words.{within, routesSize, stateSize, leaves, stateOf, formed}
 use Rattle.definition.specs.Call.{Call, Reply, refusal, valued, written, optionally, foundRow}
 use Rattle.definition.specs.Reference.Lookup.{Found, lookup4, lookup4Flow, local4}
 use Rattle.definition.specs.Reference.Insert.{create4}
@@ -65,11 +66,14 @@ pub record Semantics : Type 0 where
 
 -- ---- the refusals, in order
 -- event rows that a call may need at most, and the words of the buffers
+abbrev pub eventLimit : ℕ
+eventLimit = 384
+
 abbrev pub eventRoom : ℕ
-eventRoom = 13056
+eventRoom = eventLimit * Event.size
 
 abbrev pub listingRoom : ℕ
-listingRoom = 8192
+listingRoom = routesSize
 
 -- the greatest clock that expire takes
 abbrev pub clockLimit : ℕ

@@ -3,7 +3,7 @@ use Prim.Native.Nat.{ℕ, _+_, _*_, _-_}
 use mathlib.Core.Bool.{Bool, not, _&&_}
 use mathlib.Core.List.{List, _∷_, _++_}
 use lib.Dec.{eqb, leb}
-use lib.ListN.{length, getD, drop}
+use lib.ListN.{length, getD, take, drop}
 use Rattle.lists.specs.Lists.{Row, all, pairwise, eqRow, allZero, flat, pad, span, chop}
 use Rattle.layout.specs.Address as Address
 use Rattle.layout.specs.Route as Route
@@ -25,18 +25,32 @@ tableLimit = 32
 abbrev pub within : Sizes → Bool
 within s = leb (s .addresses) addressLimit && leb (s .routes) routeLimit && leb (s .tables) tableLimit
 
--- ---- the layout: three counts, 64 address rows, 256 route rows, 32 table numbers
-abbrev pub stateSize : ℕ
-stateSize = 9507
-
+-- ---- the layout: three counts, 64 address rows, 256 route rows, 32 table numbers; where each part begins, and its words
 abbrev pub addressesAt : ℕ
 addressesAt = 3
 
+abbrev pub addressesSize : ℕ
+addressesSize = addressLimit * Address.size
+
 abbrev pub routesAt : ℕ
-routesAt = 1283
+routesAt = addressesAt + addressesSize
+
+abbrev pub routesSize : ℕ
+routesSize = routeLimit * Route.size
 
 abbrev pub tablesAt : ℕ
-tablesAt = 9475
+tablesAt = routesAt + routesSize
+
+-- the words of the three lists, 9,507
+abbrev pub baseSize : ℕ
+baseSize = tablesAt + tableLimit
+
+-- the words behind them, of which the lists know nothing: none in document 01
+abbrev pub behindSize : ℕ
+behindSize = 0
+
+abbrev pub stateSize : ℕ
+stateSize = baseSize + behindSize
 
 -- unused rows are zero
 unfoldable pub encode : State → List ℕ
@@ -44,7 +58,7 @@ encode st =
     length (st .addresses)
     ∷ length (st .routes)
     ∷ length (st .tables)
-    ∷ (pad 1280 (flat (st .addresses)) ++ (pad 8192 (flat (st .routes)) ++ pad 32 (st .tables)))
+    ∷ (pad addressesSize (flat (st .addresses)) ++ (pad routesSize (flat (st .routes)) ++ pad tableLimit (st .tables)))
 
 abbrev pub addressCount : List ℕ → ℕ
 addressCount w = getD w 0 0
@@ -87,9 +101,9 @@ fitState st =
 -- the words behind those in use
 unfoldable pub unusedZero : List ℕ → Bool
 unusedZero w =
-    allZero (span (addressesAt + Address.size * addressCount w) (1280 - Address.size * addressCount w) w)
-    && allZero (span (routesAt + Route.size * routeCount w) (8192 - Route.size * routeCount w) w)
-    && allZero (drop (tablesAt + tableCount w) w)
+    allZero (span (addressesAt + Address.size * addressCount w) (addressesSize - Address.size * addressCount w) w)
+    && allZero (span (routesAt + Route.size * routeCount w) (routesSize - Route.size * routeCount w) w)
+    && allZero (span (tablesAt + tableCount w) (tableLimit - tableCount w) w)
 
 -- document 01's well-formed: counts keep to their limits, rows and tables are fit, and what isn't in use is 0
 unfoldable pub wellFormed : List ℕ → Bool
@@ -101,13 +115,17 @@ wellFormed w =
     && unusedZero w
 
 -- ---- what a call sees of the words that it is lent, and what it leaves
+-- the words of the lists
+abbrev pub base : List ℕ → List ℕ
+base w = take baseSize w
+
 -- the state that they hold
 abbrev pub stateOf : List ℕ → State
-stateOf w = decode w
+stateOf w = decode (base w)
 
 abbrev pub formed : List ℕ → Bool
-formed w = wellFormed w
+formed w = wellFormed (base w)
 
 -- the words that a call on w leaves, where the state becomes st
 abbrev pub leaves : List ℕ → State → List ℕ
-leaves w st = encode st
+leaves w st = encode st ++ drop baseSize w

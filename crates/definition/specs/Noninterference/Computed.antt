@@ -7,8 +7,7 @@ use Rattle.definition.specs.State.{State, empty}
 use Rattle.definition.specs.Words.{stateOf}
 use Rattle.definition.specs.Call.{Call, Reply}
 use Rattle.definition.specs.Step.{semantics, step}
-use Rattle.definition.specs.Preservation.Encode.{good-empty, encode-empty, decode-encode}
-use Rattle.definition.specs.Preservation.Step.{Held, held-empty}
+use Rattle.definition.specs.Preservation.Step.{Held, held-empty, decode-empty}
 use Rattle.definition.specs.Noninterference.Statement.{struck, emptyWords, after, spacious, compared, observed}
 use Rattle.definition.specs.Noninterference.Calls.{bounded, spaced, step-follows}
 
@@ -25,9 +24,6 @@ answers chosen [] st = []
 answers chosen (c ∷ cs) st =
     let rest = answers chosen cs (bounded (semantics c) st .state) in
     cond (struck chosen c) rest (compared chosen c (bounded (semantics c) st .reply) ∷ rest)
-
-decode-empty : stateOf emptyWords ≡ empty
-decode-empty = rw (sym encode-empty) (decode-encode empty good-empty)
 
 after-left : (cs : List Call) (w : List ℕ) → Held w → stateOf (after cs w) ≡ left cs (stateOf w)
 unfolding after left

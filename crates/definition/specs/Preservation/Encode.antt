@@ -3,7 +3,7 @@
 use Prim.Native.Nat.{ℕ, _+_, _-_, _*_, _≤_}
 use mathlib.Core.Path.{_≡_, refl, sym, ap, _∙_}
 use mathlib.Core.Bool.{true, _&&_}
-use mathlib.Core.List.{List, [], _∷_, _++_, append-assoc}
+use mathlib.Core.List.{List, [], _∷_, _++_, append-assoc, append-nil}
 use native.Mathlib.Omega.{arith}
 use lib.Dec.{leb}
 use lib.ListN.{length, getD, take, drop, length-append, length-drop, take-append-drop}
@@ -11,10 +11,10 @@ use lib.Seq.{drop-at, take-at, drop-drop, take-all}
 use borrow.Author.Tests.{leb-true, le-leb}
 use Rattle.lists.specs.Lists.{allZero, flat, zeros, pad, span, chop}
 use Rattle.lists.specs.Bools.{and-both, and-iff}
-use Rattle.lists.specs.Rows.{length-pad, length-flat, chop-pad, allZero-pad, allZero-end, span-past, pad-chop, pad-take, length-chop, length-span, pad-nil, zeros-append, zeros-cons}
+use Rattle.lists.specs.Rows.{length-pad, length-flat, chop-pad, allZero-pad, span-past, pad-chop, pad-take, length-chop, length-span, pad-nil, zeros-append, zeros-cons}
 use Rattle.definition.specs.State.{State, sizes, empty}
 use Rattle.definition.specs.Preservation.Fit.{Fit, fit-state, sized-addresses, sized-routes}
-use Rattle.definition.specs.Words.{ordered, distinct, noneTwice, within, encode, decode, fitState, unusedZero, wellFormed}
+use Rattle.definition.specs.Words.{ordered, distinct, noneTwice, within, addressesSize, routesAt, routesSize, tablesAt, tableLimit, baseSize, encode, decode, fitState, unusedZero, wellFormed}
 
 -- the state could be that of well-formed words
 pub record Good (st : State) : Type 0 where
@@ -41,46 +41,46 @@ module _ (st : State) (g : Good st) where
   length-routes : length (flat (st .routes)) ≡ 32 * length (st .routes)
   length-routes = length-flat 32 (st .routes) (sized-routes (st .routes) (f .ofRoutes .each))
 
-  wide-addresses : length (pad 1280 (flat (st .addresses))) ≡ 1280
-  wide-addresses = length-pad 1280 (flat (st .addresses)) (omega (arith, length-addresses, counts st (g .limits)))
+  wide-addresses : length (pad addressesSize (flat (st .addresses))) ≡ addressesSize
+  wide-addresses = length-pad addressesSize (flat (st .addresses)) (omega (arith, length-addresses, counts st (g .limits)))
 
-  wide-routes : length (pad 8192 (flat (st .routes))) ≡ 8192
-  wide-routes = length-pad 8192 (flat (st .routes)) (omega (arith, length-routes, counts st (g .limits)))
+  wide-routes : length (pad routesSize (flat (st .routes))) ≡ routesSize
+  wide-routes = length-pad routesSize (flat (st .routes)) (omega (arith, length-routes, counts st (g .limits)))
 
-  wide-tables : length (pad 32 (st .tables)) ≡ 32
-  wide-tables = length-pad 32 (st .tables) (omega (arith, counts st (g .limits)))
+  wide-tables : length (pad tableLimit (st .tables)) ≡ 32
+  wide-tables = length-pad tableLimit (st .tables) (omega (arith, counts st (g .limits)))
 
-  pub length-encode : length (encode st) ≡ 9507
+  pub length-encode : length (encode st) ≡ baseSize
   unfolding encode
   length-encode =
       simp length-append (omega (arith, wide-addresses, wide-routes, wide-tables))
 
   -- the words, part by part
-  routes-behind : drop 1283 (encode st) ≡ pad 8192 (flat (st .routes)) ++ pad 32 (st .tables)
+  routes-behind : drop routesAt (encode st) ≡ pad routesSize (flat (st .routes)) ++ pad tableLimit (st .tables)
   unfolding encode
   routes-behind =
-      past-counts 1280 (length (st .addresses)) (length (st .routes)) (length (st .tables)) (pad 1280 (flat (st .addresses)))
-      (pad 8192 (flat (st .routes)) ++ pad 32 (st .tables)) wide-addresses
+      past-counts addressesSize (length (st .addresses)) (length (st .routes)) (length (st .tables)) (pad addressesSize (flat (st .addresses)))
+      (pad routesSize (flat (st .routes)) ++ pad tableLimit (st .tables)) wide-addresses
 
-  tables-behind : drop 9475 (encode st) ≡ pad 32 (st .tables)
+  tables-behind : drop tablesAt (encode st) ≡ pad tableLimit (st .tables)
   unfolding encode
   tables-behind =
-      ap (λ (l : List ℕ). drop 9475 (length (st .addresses) ∷ length (st .routes) ∷ length (st .tables) ∷ l))
-      (sym (append-assoc (pad 1280 (flat (st .addresses))) (pad 8192 (flat (st .routes))) (pad 32 (st .tables))))
-      ∙ past-counts 9472 (length (st .addresses)) (length (st .routes)) (length (st .tables))
-      (pad 1280 (flat (st .addresses)) ++ pad 8192 (flat (st .routes))) (pad 32 (st .tables))
+      ap (λ (l : List ℕ). drop tablesAt (length (st .addresses) ∷ length (st .routes) ∷ length (st .tables) ∷ l))
+      (sym (append-assoc (pad addressesSize (flat (st .addresses))) (pad routesSize (flat (st .routes))) (pad tableLimit (st .tables))))
+      ∙ past-counts (addressesSize + routesSize) (length (st .addresses)) (length (st .routes)) (length (st .tables))
+      (pad addressesSize (flat (st .addresses)) ++ pad routesSize (flat (st .routes))) (pad tableLimit (st .tables))
       (simp length-append (omega (arith, wide-addresses, wide-routes)))
 
   same-addresses : (decode (encode st)) .addresses ≡ st .addresses
   unfolding encode decode
   same-addresses =
-      chop-pad 1280 20 (st .addresses) (pad 8192 (flat (st .routes)) ++ pad 32 (st .tables)) (sized-addresses (st .addresses) (f .ofAddresses))
+      chop-pad addressesSize 20 (st .addresses) (pad routesSize (flat (st .routes)) ++ pad tableLimit (st .tables)) (sized-addresses (st .addresses) (f .ofAddresses))
 
   same-routes : (decode (encode st)) .routes ≡ st .routes
   unfolding decode encode
   same-routes =
       ap (chop 32 (length (st .routes))) routes-behind
-      ∙ chop-pad 8192 32 (st .routes) (pad 32 (st .tables)) (sized-routes (st .routes) (f .ofRoutes .each))
+      ∙ chop-pad routesSize 32 (st .routes) (pad tableLimit (st .tables)) (sized-routes (st .routes) (f .ofRoutes .each))
 
   same-tables : (decode (encode st)) .tables ≡ st .tables
   unfolding decode encode span
@@ -96,19 +96,19 @@ module _ (st : State) (g : Good st) where
       let na : ℕ = length (st .addresses) in
       let nr : ℕ = length (st .routes) in
       let nt : ℕ = length (st .tables) in
-      let a : allZero (span (3 + 20 * na) (1280 - 20 * na) (encode st)) ≡ true =
-      rw (span-past 3 (20 * na) (1280 - 20 * na) (encode st))
-      (allZero-pad 1280 (20 * na) (flat (st .addresses)) (pad 8192 (flat (st .routes)) ++ pad 32 (st .tables)) length-addresses)
+      let a : allZero (span (3 + 20 * na) (addressesSize - 20 * na) (encode st)) ≡ true =
+      rw (span-past 3 (20 * na) (addressesSize - 20 * na) (encode st))
+      (allZero-pad addressesSize (20 * na) (flat (st .addresses)) (pad routesSize (flat (st .routes)) ++ pad tableLimit (st .tables)) length-addresses)
       in
-      let b : allZero (span (1283 + 32 * nr) (8192 - 32 * nr) (encode st)) ≡ true =
-      rw (span-past 1283 (32 * nr) (8192 - 32 * nr) (encode st), routes-behind)
-      (allZero-pad 8192 (32 * nr) (flat (st .routes)) (pad 32 (st .tables)) length-routes)
+      let b : allZero (span (routesAt + 32 * nr) (routesSize - 32 * nr) (encode st)) ≡ true =
+      rw (span-past routesAt (32 * nr) (routesSize - 32 * nr) (encode st), routes-behind)
+      (allZero-pad routesSize (32 * nr) (flat (st .routes)) (pad tableLimit (st .tables)) length-routes)
       in
-      let c : allZero (drop (9475 + nt) (encode st)) ≡ true =
-      rw (← drop-drop nt 9475 (encode st), tables-behind) (allZero-end 32 nt (st .tables) refl)
+      let c : allZero (span (tablesAt + nt) (tableLimit - nt) (encode st)) ≡ true =
+      rw (span-past tablesAt nt (tableLimit - nt) (encode st), tables-behind, ← append-nil (pad tableLimit (st .tables)))
+      (allZero-pad tableLimit nt (st .tables) [] refl)
       in
-      and-both (allZero (span (3 + 20 * na) (1280 - 20 * na) (encode st)) && allZero (span (1283 + 32 * nr) (8192 - 32 * nr) (encode st))) (allZero (drop (9475 + nt) (encode st)))
-      (and-both (allZero (span (3 + 20 * na) (1280 - 20 * na) (encode st))) (allZero (span (1283 + 32 * nr) (8192 - 32 * nr) (encode st))) a b) c
+      simp and-iff ((a, b), c)
 
   pub wellFormed-encode : wellFormed (encode st) ≡ true
   unfolding wellFormed encode
@@ -148,14 +148,11 @@ rows-part at size k n w h g z =
     pad-chop size k n (drop at w) h (simp length-drop (omega arith))
     (ap allZero (sym (span-past at (k * n) (size - k * n) w)) ∙ z)
 
-numbers-part : (at size n : ℕ) (w : List ℕ) → n ≤ size → length w ≡ at + size → allZero (drop (at + n) w) ≡ true
+numbers-part : (at size n : ℕ) (w : List ℕ) → n ≤ size → at + size ≤ length w → allZero (span (at + n) (size - n) w) ≡ true
     → pad size (span at n w) ≡ take size (drop at w)
 unfolding span
 numbers-part at size n w h g z =
-    let rest : take (size - n) (drop n (drop at w)) ≡ drop (at + n) w =
-    take-all (size - n) (drop n (drop at w)) (simp length-drop (omega arith)) ∙ drop-drop n at w
-    in
-    pad-take size n (drop at w) h (simp length-drop (omega arith)) (ap allZero rest ∙ z)
+    pad-take size n (drop at w) h (simp length-drop (omega arith)) (ap (λ (l : List ℕ). allZero (take (size - n) l)) (drop-drop n at w) ∙ z)
 
 -- ---- the words of a well-formed state
 record Counts (w : List ℕ) : Type 0 where
@@ -178,37 +175,37 @@ count w h =
     }
 
 record Unused (w : List ℕ) : Type 0 where
-  addresses : allZero (span (3 + 20 * getD w 0 0) (1280 - 20 * getD w 0 0) w) ≡ true
-  routes : allZero (span (1283 + 32 * getD w 1 0) (8192 - 32 * getD w 1 0) w) ≡ true
-  tables : allZero (drop (9475 + getD w 2 0) w) ≡ true
+  addresses : allZero (span (3 + 20 * getD w 0 0) (addressesSize - 20 * getD w 0 0) w) ≡ true
+  routes : allZero (span (routesAt + 32 * getD w 1 0) (routesSize - 32 * getD w 1 0) w) ≡ true
+  tables : allZero (span (tablesAt + getD w 2 0) (tableLimit - getD w 2 0) w) ≡ true
 
 unused : (w : List ℕ) → unusedZero w ≡ true → Unused w
 unfolding unusedZero
 unused w h = let k = simp and-iff at h in record { addresses = k .0 .0; routes = k .0 .1; tables = k .1 }
 
 -- lists as long as the words count
-within-decode : (w : List ℕ) → length w ≡ 9507 → Counts w → within (sizes (decode w)) ≡ true
+within-decode : (w : List ℕ) → length w ≡ baseSize → Counts w → within (sizes (decode w)) ≡ true
 unfolding decode
 within-decode w long c =
     within-limits (getD w 0 0) (getD w 1 0) (getD w 2 0) _ _ _
-    (length-chop 20 (getD w 0 0) (drop 3 w)) (length-chop 32 (getD w 1 0) (drop 1283 w)) (length-span 9475 (getD w 2 0) w (omega (arith, c .tables)))
+    (length-chop 20 (getD w 0 0) (drop 3 w)) (length-chop 32 (getD w 1 0) (drop routesAt w)) (length-span tablesAt (getD w 2 0) w (omega (arith, c .tables)))
     (c .addresses) (c .routes) (c .tables)
   where
     within-limits : (a r t a′ r′ t′ : ℕ) → a′ ≡ a → r′ ≡ r → t′ ≡ t → a ≤ 64 → r ≤ 256 → t ≤ 32 → leb a′ 64 && leb r′ 256 && leb t′ 32 ≡ true
     within-limits a r t a′ r′ t′ e f g x y z = simp and-iff ((le-leb a′ 64 (omega arith), le-leb r′ 256 (omega arith)), le-leb t′ 32 (omega arith))
 
-module _ (w : List ℕ) (long : length w ≡ 9507) (well : wellFormed w ≡ true) where
+module _ (w : List ℕ) (long : length w ≡ baseSize) (well : wellFormed w ≡ true) where
   pub encode-decode : encode (decode w) ≡ w
   unfolding encode decode
   encode-decode =
       let c = count w well in
       let u = unused w (c .unused) in
-      (λ i. length-chop 20 (getD w 0 0) (drop 3 w) i ∷ length-chop 32 (getD w 1 0) (drop 1283 w) i ∷ length-span 9475 (getD w 2 0) w (omega arith) i ∷
-      (pad 1280 (flat (chop 20 (getD w 0 0) (drop 3 w))) ++ (pad 8192 (flat (chop 32 (getD w 1 0) (drop 1283 w))) ++ pad 32 (span 9475 (getD w 2 0) w))))
-      ∙ joined 1280 8192 32 w _ _ _ long
-      (rows-part 3 1280 20 (getD w 0 0) w (omega arith) (omega arith) (u .addresses))
-      (rows-part 1283 8192 32 (getD w 1 0) w (omega arith) (omega arith) (u .routes))
-      (numbers-part 9475 32 (getD w 2 0) w (omega arith) long (u .tables))
+      (λ i. length-chop 20 (getD w 0 0) (drop 3 w) i ∷ length-chop 32 (getD w 1 0) (drop routesAt w) i ∷ length-span tablesAt (getD w 2 0) w (omega arith) i ∷
+      (pad addressesSize (flat (chop 20 (getD w 0 0) (drop 3 w))) ++ (pad routesSize (flat (chop 32 (getD w 1 0) (drop routesAt w))) ++ pad tableLimit (span tablesAt (getD w 2 0) w))))
+      ∙ joined addressesSize routesSize tableLimit w _ _ _ long
+      (rows-part 3 addressesSize 20 (getD w 0 0) w (omega arith) (omega arith) (u .addresses))
+      (rows-part routesAt routesSize 32 (getD w 1 0) w (omega arith) (omega arith) (u .routes))
+      (numbers-part tablesAt tableLimit (getD w 2 0) w (omega arith) (omega arith) (u .tables))
 
   pub good-decode : Good (decode w)
   good-decode = let c = count w well in record { fits = c .fit; limits = within-decode w long c }
@@ -218,11 +215,11 @@ pub good-empty : Good empty
 unfolding fitState ordered distinct noneTwice
 good-empty = record { fits = refl; limits = refl }
 
-pub encode-empty : encode empty ≡ zeros 9507
+pub encode-empty : encode empty ≡ zeros baseSize
 unfolding encode flat
 encode-empty =
     ap (λ (l : List ℕ). 0 ∷ 0 ∷ 0 ∷ l)
-    ((λ i. pad-nil 1280 i ++ (pad-nil 8192 i ++ pad-nil 32 i)) ∙ ap (λ (l : List ℕ). zeros 1280 ++ l) (zeros-append 8192 32) ∙ zeros-append 1280 8224)
+    ((λ i. pad-nil addressesSize i ++ (pad-nil routesSize i ++ pad-nil tableLimit i)) ∙ ap (λ (l : List ℕ). zeros addressesSize ++ l) (zeros-append routesSize tableLimit) ∙ zeros-append addressesSize (routesSize + tableLimit))
     ∙ ap (λ (l : List ℕ). 0 ∷ 0 ∷ l) (zeros-cons 9504)
     ∙ ap (λ (l : List ℕ). 0 ∷ l) (zeros-cons 9505)
     ∙ zeros-cons 9506

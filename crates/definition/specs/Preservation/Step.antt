@@ -3,17 +3,18 @@
 use Prim.Native.Nat.{ℕ, _≤_}
 use mathlib.Core.Path.{_≡_, refl, sym, ap, _∙_}
 use mathlib.Core.Bool.{Bool, true, false, not, _&&_, false≢true}
-use mathlib.Core.List.{List, []}
+use mathlib.Core.List.{List, [], _++_}
 use mathlib.Core.Logic.{_↔_, _≢_}
 use native.Mathlib.Omega.{arith}
 use lib.Dec.{eqb}
-use lib.ListN.{length}
+use lib.ListN.{length, drop, length-append, length-take, length-drop, take-append-drop}
+use lib.Seq.{take-at}
 use borrow.Author.Tests.{eqb-true, eq-eqb, leb-true, le-leb, not-true}
 use Rattle.lists.specs.Lists.{Row, zeros}
 use Rattle.lists.specs.Bools.{and-left, and-right, and-iff, cond-case, test-case}
-use Rattle.lists.specs.Rows.{sized}
+use Rattle.lists.specs.Rows.{sized, length-zeros, zeros-append}
 use Rattle.definition.specs.State.{State, Sizes, Out, sizes, empty}
-use Rattle.definition.specs.Words.{within, stateSize, encode, stateOf, formed, leaves}
+use Rattle.definition.specs.Words.{within, baseSize, behindSize, stateSize, encode, decode, wellFormed, base, stateOf, formed, leaves}
 use Rattle.definition.specs.Call.{Call, refusal, written}
 use Rattle.definition.specs.Reference.Addresses.{Outcome, goes, refused}
 use Rattle.definition.specs.Step.{Result, refuses, Checks, Action, changes, replies, lists, alters, Semantics, checks, checked, unfit, result, roomy, outcome, changing, reading, act, perform, semantics, step}
@@ -27,21 +28,42 @@ pub record Held (w : List ℕ) : Type 0 where
   pub long : length w ≡ stateSize
   pub well : formed w ≡ true
 
+pub base-long : (w : List ℕ) → length w ≡ stateSize → length (base w) ≡ baseSize
+base-long w l = simp length-take (omega arith)
+
 pub good-held : (w : List ℕ) → Held w → Good (stateOf w)
-good-held w h = good-decode w (h .long) (h .well)
+good-held w h = good-decode (base w) (base-long w (h .long)) (h .well)
+
+-- the words of the lists, whatever is behind them
+base-encode : (st : State) (l : List ℕ) → Good st → base (encode st ++ l) ≡ encode st
+base-encode st l g = take-at (encode st) l baseSize (length-encode st g)
+
+empty-words : zeros stateSize ≡ encode empty ++ zeros behindSize
+empty-words = sym (zeros-append baseSize behindSize) ∙ ap (λ (l : List ℕ). l ++ zeros behindSize) (sym encode-empty)
+
+pub decode-empty : stateOf (zeros stateSize) ≡ empty
+decode-empty = ap stateOf empty-words ∙ ap decode (base-encode empty (zeros behindSize) good-empty) ∙ decode-encode empty good-empty
 
 pub held-empty : Held (zeros stateSize)
-held-empty = rw (← encode-empty) (record { long = length-encode empty good-empty; well = wellFormed-encode empty good-empty })
+held-empty =
+    record {
+      long = length-zeros stateSize;
+      well = ap formed empty-words ∙ ap wellFormed (base-encode empty (zeros behindSize) good-empty) ∙ wellFormed-encode empty good-empty;
+    }
 
 -- the words that a call leaves: they are well-formed, hold the state, and are the old ones where that is the old one
 pub held-leaves : (w : List ℕ) (st : State) → Held w → Good st → Held (leaves w st)
-held-leaves w st h g = record { long = length-encode st g; well = wellFormed-encode st g }
+held-leaves w st h g =
+    record {
+      long = simp (length-append, length-drop) (omega (arith, length-encode st g, h .long));
+      well = rw (base-encode st (drop baseSize w) g) (wellFormed-encode st g);
+    }
 
 pub decode-leaves : (w : List ℕ) (st : State) → Held w → Good st → stateOf (leaves w st) ≡ st
-decode-leaves w st h g = decode-encode st g
+decode-leaves w st h g = rw (base-encode st (drop baseSize w) g) (decode-encode st g)
 
 pub leaves-decode : (w : List ℕ) → Held w → leaves w (stateOf w) ≡ w
-leaves-decode w h = encode-decode w (h .long) (h .well)
+leaves-decode w h = rw (encode-decode (base w) (base-long w (h .long)) (h .well)) (take-append-drop baseSize w)
 
 -- what a peak within the limits covers is within them
 pub covered : (a b : Sizes) → Covers a b → within b ≡ true → within a ≡ true
