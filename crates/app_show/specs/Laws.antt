@@ -12,7 +12,7 @@ use borrow.Author.Tests.{eq-eqb, ne-eqb}
 use Rattle.lists.specs.Lists.{Row, flat, put, chop}
 use Rattle.lists.specs.Bools.{cond-true, cond-false}
 use Rattle.lists.specs.Rows.{sized, length-flat, length-put, chop-flat}
-use Rattle.definition.specs.Words.{decode, wellFormed}
+use Rattle.definition.specs.Words.{decode, wellFormed, stateSize}
 use Rattle.definition.specs.Reference.Source.{dump4}
 use Rattle.definition.specs.Preservation.Encode.{good-decode}
 use Rattle.definition.specs.Preservation.Reading.{dump4-listing}
@@ -20,7 +20,7 @@ use Rattle.endian.specs.Endian.{wordsOf}
 use Rattle.text.specs.Print.{render, refusedLine}
 use Rattle.app_show.specs.Show.{shownWords, shown}
 
-module _ (w : List ℕ) (l : length w ≡ 9507) (h : wellFormed w ≡ true) where
+module _ (w : List ℕ) (l : length w ≡ stateSize) (h : wellFormed w ≡ true) where
   pub listing-few : length (dump4 (decode w)) ≤ 256
   listing-few = dump4-listing (decode w) (good-decode w l h) .0
 
@@ -35,13 +35,13 @@ pub shown-ill : (w : List ℕ) → wellFormed w ≡ false → shownWords w ≡ r
 unfolding shownWords
 shown-ill w h = cond-false (wellFormed w) (render (dump4 (decode w))) (refusedLine 201) h
 
-pub shown-words : (b : List ℕ) → length b ≡ 38028 → shown b ≡ shownWords (wordsOf b)
+pub shown-words : (b : List ℕ) → length b ≡ (4 * stateSize) → shown b ≡ shownWords (wordsOf b)
 unfolding shown
-shown-words b h = cond-true (eqb (length b) 38028) (shownWords (wordsOf b)) (refusedLine 200) (eq-eqb (length b) 38028 h)
+shown-words b h = cond-true (eqb (length b) (4 * stateSize)) (shownWords (wordsOf b)) (refusedLine 200) (eq-eqb (length b) (4 * stateSize) h)
 
-pub shown-other : (b : List ℕ) → (length b ≡ 38028 → ⊥) → shown b ≡ refusedLine 200
+pub shown-other : (b : List ℕ) → (length b ≡ (4 * stateSize) → ⊥) → shown b ≡ refusedLine 200
 unfolding shown
-shown-other b h = cond-false (eqb (length b) 38028) (shownWords (wordsOf b)) (refusedLine 200) (ne-eqb (length b) 38028 h)
+shown-other b h = cond-false (eqb (length b) (4 * stateSize)) (shownWords (wordsOf b)) (refusedLine 200) (ne-eqb (length b) (4 * stateSize) h)
 
 -- the rows read back from the listing
 pub listed-rows : (rows : List Row) (buffer l : List ℕ) (n : ℕ) → sized 32 rows ≡ true → n ≡ length rows → buffer ≡ put 0 (flat rows) l

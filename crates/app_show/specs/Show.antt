@@ -1,11 +1,11 @@
 -- What the printing program prints of the bytes that it reads (document 01: "prints it in `dump4` order"; "Unfit input prints `(refused 200)`
 -- or `(refused 201)` alone").
-use Prim.Native.Nat.{ℕ}
+use Prim.Native.Nat.{ℕ, _*_}
 use mathlib.Core.Bool.{cond}
 use mathlib.Core.List.{List}
 use lib.Dec.{eqb}
 use lib.ListN.{length}
-use Rattle.definition.specs.Words.{decode, wellFormed}
+use Rattle.definition.specs.Words.{decode, wellFormed, stateSize}
 use Rattle.definition.specs.Reference.Source.{dump4}
 use Rattle.endian.specs.Endian.{wordsOf}
 use Rattle.text.specs.Print.{render, refusedLine}
@@ -16,4 +16,4 @@ shownWords w = cond (wellFormed w) (render (dump4 (decode w))) (refusedLine 201)
 
 -- of any bytes: a state is 9,507 words, 38,028 bytes
 unfoldable pub shown : List ℕ → List ℕ
-shown b = cond (eqb (length b) 38028) (shownWords (wordsOf b)) (refusedLine 200)
+shown b = cond (eqb (length b) (4 * stateSize)) (shownWords (wordsOf b)) (refusedLine 200)

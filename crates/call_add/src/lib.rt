@@ -1,6 +1,8 @@
 // The calls of the host that add addresses, on lent words. Each refuses unfit input, and a list that would pass its limit, with a
 // number and then changes nothing.
 use call_change::Done;
+use layout::ADD_V4_WORDS;
+use layout::EVENT_BUFFER;
 use life::Nanoseconds;
 ghost use mathlib.Core.Path.{_≡_};
 ghost use lib.ListN.{length};
@@ -17,7 +19,12 @@ pub fn add_v4(state: &mut [u32], q: &[u32], events: &mut [u32], clock: u64) -> D
     ensures { λ _. ⌜ now (events .exit) ≡ put 0 (flat (addV4Call (now (q .entry)) (length (now (events .entry))) clock (now (state .entry)) .reply .rows)) (now (events .entry)) ⌝ }
 {
     let fit = request_fit::fit_add_v4(q);
-    let n = call_read::checked(state, (q.len() == 18) & (13056 <= events.len()), true, fit);
+    let n = call_read::checked(
+        state,
+        (q.len() == ADD_V4_WORDS) & (EVENT_BUFFER <= events.len()),
+        true,
+        fit,
+    );
     if n != 0 {
         return Done::Refused(n);
     }
@@ -36,7 +43,7 @@ pub fn up(state: &mut [u32], events: &mut [u32], clock: u64) -> Done
     ensures { λ _. ⌜ now (state .exit) ≡ upCall (length (now (events .entry))) clock (now (state .entry)) .words ⌝ }
     ensures { λ _. ⌜ now (events .exit) ≡ put 0 (flat (upCall (length (now (events .entry))) clock (now (state .entry)) .reply .rows)) (now (events .entry)) ⌝ }
 {
-    let n = call_read::checked(state, 13056 <= events.len(), true, true);
+    let n = call_read::checked(state, EVENT_BUFFER <= events.len(), true, true);
     if n != 0 {
         return Done::Refused(n);
     }

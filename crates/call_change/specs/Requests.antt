@@ -12,7 +12,7 @@ use Rattle.lists.specs.Lists.{flat, put}
 use Rattle.definition.specs.State.{State, Out, sizes}
 use Rattle.definition.specs.Words.{within, stateSize, encode, decode, wellFormed}
 use Rattle.definition.specs.Call.{refusal, written}
-use Rattle.definition.specs.Step.{Result, checks, unless, changing, outcome, requestIs, eventsFit}
+use Rattle.definition.specs.Step.{Result, checks, unless, changing, outcome, requestIs, eventsFit, eventRoom}
 use Rattle.definition.specs.Preservation.Encode.{good-decode, encode-decode, Good}
 use Rattle.definition.specs.Reference.Addresses.{Outcome, goes, refused}
 use Rattle.definition.specs.Preservation.Numbers.{Numbered}
@@ -71,7 +71,7 @@ sound buffers request w n c z =
 pub record Asked (size : ℕ) (fitted : Bool) (f : State → Outcome) (q w ev : List ℕ) : Type 0 where
   pub long : length q ≡ size
   pub fit : fitted ≡ true
-  pub room : 13056 ≤ length ev
+  pub room : eventRoom ≤ length ev
   pub good : Good (decode w)
   pub holds : Represents w (decode w)
   pub same : encode (decode w) ≡ w
@@ -97,7 +97,7 @@ module _ (q w ev : List ℕ) (n size : ℕ) (fitted flag : Bool) (f : State → 
       record {
         long = eqb-true (length q) size (and-left (requestIs size q) (eventsFit (length ev)) (p .room));
         fit = p .asked;
-        room = leb-true 13056 (length ev) (and-right (requestIs size q) (eventsFit (length ev)) (p .room));
+        room = leb-true eventRoom (length ev) (and-right (requestIs size q) (eventsFit (length ev)) (p .room));
         good = good-decode w (p .long) (p .formed);
         holds = held (requestIs size q && eventsFit (length ev)) true fitted w n by-fit z;
         same = encode-decode w (p .long) (p .formed);

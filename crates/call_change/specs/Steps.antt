@@ -15,7 +15,7 @@ use Rattle.definition.specs.State.{State, Out}
 use Rattle.definition.specs.Words.{within, encode, decode}
 use Rattle.layout.specs.Request.{delV4Size, fitDelV4}
 use Rattle.definition.specs.Call.{written, refusal}
-use Rattle.definition.specs.Step.{Result, outcome, changing, expireCall, eventsFit, requestIs, clockLimit}
+use Rattle.definition.specs.Step.{Result, outcome, changing, expireCall, eventsFit, requestIs, clockLimit, eventRoom}
 use Rattle.definition.specs.Reference.Addresses.{Outcome, goes}
 use Rattle.definition.specs.Reference.Removal.{expire, delV4}
 use Rattle.definition.specs.Preservation.Shrinking.{potential, live}
@@ -39,11 +39,11 @@ potential-few st g =
     omega (arith, leb-true (length (st .addresses)) 64 (k .0 .0), leb-true (length (st .routes)) 256 (k .0 .1), count-most live (st .addresses))
 
 -- a good state's words, with a buffer of 384 rows
-pub roomy-held : (w ev : List ℕ) → Good (decode w) → Represents w (decode w) → 13056 ≤ length ev → Fits potential (decode w) w ev
+pub roomy-held : (w ev : List ℕ) → Good (decode w) → Represents w (decode w) → eventRoom ≤ length ev → Fits potential (decode w) w ev
 roomy-held w ev g h room = record { holds = h; room = omega (arith, potential-few (decode w) g) }
 
 -- words that passed the checks are such
-pub roomy-buffer : (buffers request : Bool) (w ev : List ℕ) (n : ℕ) → n ≡ checked buffers true request w → n ≡ 0 → 13056 ≤ length ev → Fits potential (decode w) w ev
+pub roomy-buffer : (buffers request : Bool) (w ev : List ℕ) (n : ℕ) → n ≡ checked buffers true request w → n ≡ 0 → eventRoom ≤ length ev → Fits potential (decode w) w ev
 roomy-buffer buffers request w ev n c z room =
     let p = passed buffers true request w n c z in
     roomy-held w ev (good-decode w (p .long) (p .formed)) (held buffers true request w n c z) room
@@ -63,8 +63,8 @@ module _ (w ev : List ℕ) (n clock : ℕ) (c : n ≡ checked (eventsFit (length
       answers-refused (expireCall (length ev) clock w) w ev n h
       (change-refused (eventsFit (length ev)) (leb clock clockLimit) (λ st. goes (expire allowance clock st)) w n c h)
 
-  pub expire-room : n ≡ 0 → 13056 ≤ length ev
-  expire-room z = leb-true 13056 (length ev) (passed (eventsFit (length ev)) true (leb clock clockLimit) w n c z .room)
+  pub expire-room : n ≡ 0 → eventRoom ≤ length ev
+  expire-room z = leb-true eventRoom (length ev) (passed (eventsFit (length ev)) true (leb clock clockLimit) w n c z .room)
 
   pub expire-yes : (w′ ev′ : List ℕ) (r : ℕ) → n ≡ 0 → EmitsWithin potential (decode w) (expire allowance clock (decode w)) w′ ev ev′ r → Answers (expireCall (length ev) clock w) w′ ev ev′ (Rows r)
   unfolding expireCall

@@ -1,4 +1,8 @@
 // The calls of the host that change a state, on lent words. Each refuses unfit input with a number and then changes nothing.
+use layout::ADD_ROUTE4_WORDS;
+use layout::DEL_ROUTE4_WORDS;
+use layout::DEL_V4_WORDS;
+use layout::EVENT_BUFFER;
 use life::Nanoseconds;
 ghost use mathlib.Core.Path.{_≡_};
 ghost use lib.ListN.{length};
@@ -20,7 +24,7 @@ pub fn down(state: &mut [u32], events: &mut [u32]) -> Done
     ensures { λ _. ⌜ now (state .exit) ≡ downCall (length (now (events .entry))) (now (state .entry)) .words ⌝ }
     ensures { λ _. ⌜ now (events .exit) ≡ put 0 (flat (downCall (length (now (events .entry))) (now (state .entry)) .reply .rows)) (now (events .entry)) ⌝ }
 {
-    let n = call_read::checked(state, 13056 <= events.len(), true, true);
+    let n = call_read::checked(state, EVENT_BUFFER <= events.len(), true, true);
     if n != 0 {
         return Done::Refused(n);
     }
@@ -38,7 +42,12 @@ pub fn expire(state: &mut [u32], events: &mut [u32], clock: u64) -> Done
     ensures { λ _. ⌜ now (state .exit) ≡ expireCall (length (now (events .entry))) clock (now (state .entry)) .words ⌝ }
     ensures { λ _. ⌜ now (events .exit) ≡ put 0 (flat (expireCall (length (now (events .entry))) clock (now (state .entry)) .reply .rows)) (now (events .entry)) ⌝ }
 {
-    let n = call_read::checked(state, 13056 <= events.len(), true, clock <= CLOCK_LIMIT);
+    let n = call_read::checked(
+        state,
+        EVENT_BUFFER <= events.len(),
+        true,
+        clock <= CLOCK_LIMIT,
+    );
     if n != 0 {
         return Done::Refused(n);
     }
@@ -64,7 +73,12 @@ pub fn add_route4(state: &mut [u32], q: &[u32], events: &mut [u32]) -> Done
     ensures { λ _. ⌜ now (events .exit) ≡ put 0 (flat (addRoute4Call (now (q .entry)) (length (now (events .entry))) (now (state .entry)) .reply .rows)) (now (events .entry)) ⌝ }
 {
     let fit = request_fit::fit_add_route4(q);
-    let n = call_read::checked(state, (q.len() == 34) & (13056 <= events.len()), true, fit);
+    let n = call_read::checked(
+        state,
+        (q.len() == ADD_ROUTE4_WORDS) & (EVENT_BUFFER <= events.len()),
+        true,
+        fit,
+    );
     if n != 0 {
         return Done::Refused(n);
     }
@@ -79,7 +93,12 @@ pub fn del_route4(state: &mut [u32], q: &[u32], events: &mut [u32]) -> Done
     ensures { λ _. ⌜ now (events .exit) ≡ put 0 (flat (delRoute4Call (now (q .entry)) (length (now (events .entry))) (now (state .entry)) .reply .rows)) (now (events .entry)) ⌝ }
 {
     let fit = request_fit::fit_del_route4(q);
-    let n = call_read::checked(state, (q.len() == 49) & (13056 <= events.len()), true, fit);
+    let n = call_read::checked(
+        state,
+        (q.len() == DEL_ROUTE4_WORDS) & (EVENT_BUFFER <= events.len()),
+        true,
+        fit,
+    );
     if n != 0 {
         return Done::Refused(n);
     }
@@ -94,7 +113,12 @@ pub fn del_v4(state: &mut [u32], q: &[u32], events: &mut [u32]) -> Done
     ensures { λ _. ⌜ now (events .exit) ≡ put 0 (flat (delV4Call (now (q .entry)) (length (now (events .entry))) (now (state .entry)) .reply .rows)) (now (events .entry)) ⌝ }
 {
     let fit = request_fit::fit_del_v4(q);
-    let n = call_read::checked(state, (q.len() == 11) & (13056 <= events.len()), true, fit);
+    let n = call_read::checked(
+        state,
+        (q.len() == DEL_V4_WORDS) & (EVENT_BUFFER <= events.len()),
+        true,
+        fit,
+    );
     if n != 0 {
         return Done::Refused(n);
     }

@@ -12,7 +12,7 @@ use Rattle.lists.specs.Bools.{test-case}
 use Rattle.lists.specs.Rows.{sized}
 use Rattle.definition.specs.Words.{decode}
 use Rattle.definition.specs.Call.{Reply, refusal, written}
-use Rattle.definition.specs.Step.{dump4Call}
+use Rattle.definition.specs.Step.{dump4Call, listingRoom}
 use Rattle.definition.specs.Reference.Source.{dump4}
 use Rattle.definition.specs.Preservation.Reading.{dump4-listing}
 use Rattle.call_read.specs.Answer.{Numbers, numbers}
@@ -34,7 +34,7 @@ lists-none n =
 pub dump4-lists : (w : List ℕ) (room : ℕ) → Lists (dump4Call room w .reply)
 unfolding dump4Call
 dump4-lists w room =
-    reads Lists (leb 8192 room) true true (λ st. written (dump4 st)) w (λ n h. lists-none n)
+    reads Lists (leb listingRoom room) true true (λ st. written (dump4 st)) w (λ n h. lists-none n)
     (λ g.
     let l = dump4-listing (decode w) g in
     record { says = refl; counts = refl; few = l .0; size = l .1 })

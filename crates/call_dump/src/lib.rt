@@ -1,4 +1,5 @@
 // The listing of a state's routes, on lent words.
+use layout::LISTING_BUFFER;
 ghost use mathlib.Core.Path.{_≡_};
 ghost use lib.ListN.{length};
 ghost use Rattle.lists.specs.Lists.{flat, put};
@@ -18,7 +19,7 @@ pub fn dump4(state: &[u32], listing: &mut [u32]) -> Listed
     ensures { λ r. ⌜ r ≡ listedOf (dump4Call (length (now (listing .entry))) (now (state .entry)) .reply) ⌝ }
     ensures { λ _. ⌜ now (listing .exit) ≡ put 0 (flat (dump4Call (length (now (listing .entry))) (now (state .entry)) .reply .rows)) (now (listing .entry)) ⌝ }
 {
-    let n = call_read::checked(state, 8192 <= listing.len(), true, true);
+    let n = call_read::checked(state, LISTING_BUFFER <= listing.len(), true, true);
     if n != 0 {
         return Listed::Refused(n);
     }

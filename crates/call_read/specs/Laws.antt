@@ -14,7 +14,7 @@ use Rattle.lists.specs.Bools.{and-left, and-right}
 use Rattle.layout.specs.Address.{optional}
 use Rattle.layout.specs.Route.{fitRoute}
 use Rattle.definition.specs.State.{State}
-use Rattle.definition.specs.Words.{stateSize, decode, wellFormed, routeCount}
+use Rattle.definition.specs.Words.{stateSize, decode, wellFormed, routeCount, routesAt}
 use Rattle.definition.specs.Call.{Reply, refusal, valued, optionally, foundRow}
 use Rattle.definition.specs.Step.{Result, Checks, checked as definition·checked, unless, reading, local4Call, sourceCall, source4Call, select4Call}
 use Rattle.definition.specs.Reference.Lookup as Lookup
@@ -165,12 +165,12 @@ module _ (w : List ℕ) (n dstPresent dst scope : ℕ) (fit : Bool) (f : fit ≡
       ∙ ap chosenOf (sym (read-answered true true (optional dstPresent dst && ltb scope 256) (λ st. optionally (select4 (st .addresses) (present dstPresent dst) scope)) w n (c ∙ ap (λ (b : Bool). checked true true (b && ltb scope 256) w) f) z))
 
 -- the row at a place, as the code lends it
-pub found-at : (w : List ℕ) (st : State) → Represents w st → (i : ℕ) → i < routeCount w → take (1283 + 32 * i + 32 - (1283 + 32 * i)) (drop (1283 + 32 * i) w) ≡ getD (st .routes) i []
+pub found-at : (w : List ℕ) (st : State) → Represents w st → (i : ℕ) → i < routeCount w → take (routesAt + 32 * i + 32 - (routesAt + 32 * i)) (drop (routesAt + 32 * i) w) ≡ getD (st .routes) i []
 unfolding span
 found-at w st h i b =
-    let whole : 1283 + 32 * i + 32 - (1283 + 32 * i) ≡ 32 = omega arith in
+    let whole : routesAt + 32 * i + 32 - (routesAt + 32 * i) ≡ 32 = omega arith in
     let there : i < length (st .routes) = omega (arith, count-routes h) in
-    ap (λ (n : ℕ). take n (drop (1283 + 32 * i) w)) whole ∙ route-at h i there
+    ap (λ (n : ℕ). take n (drop (routesAt + 32 * i) w)) whole ∙ route-at h i there
 
 -- lookups: of any flow, by whether its tos is a byte
 module _ (w row : List ℕ) (n : ℕ) (b : Bool) (f : Lookup.Flow) where
@@ -211,7 +211,7 @@ pub valid : (buffers row request : Bool) (w : List ℕ) (n : ℕ) → n ≡ chec
 valid buffers row request w n c z = record { state = decode w; holds = held buffers row request w n c z }
 
 -- where a route in use ends
-pub at-end : {w : List ℕ} {i : ℕ} → Valid w → i < routeCount w → (1283 + 32 * i + 32 ≤ length w) × (i < 256)
+pub at-end : {w : List ℕ} {i : ℕ} → Valid w → i < routeCount w → (routesAt + 32 * i + 32 ≤ length w) × (i < 256)
 at-end v b =
     let s = sizes-valid v in
     (omega (arith, s .long, s .routes), omega (arith, s .routes))

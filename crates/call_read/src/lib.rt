@@ -1,4 +1,7 @@
 // The calls of the host that read a state, on lent words. Each refuses unfit input with a number and then writes nothing.
+use layout::ROUTE_WORDS;
+use layout::ROUTES_AT;
+use layout::STATE_WORDS;
 use rows_lookup::Flow;
 use rows_lookup::Looked;
 use rows_source::Selected;
@@ -45,7 +48,7 @@ pub enum Sourced {
 pub fn checked(s: &[u32], buffers: bool, handed: bool, request: bool) -> u32
     ensures { λ r. ⌜ r ≡ checked buffers handed request (now (s .entry)) ⌝ }
 {
-    if !((s.len() == 9507) & buffers) {
+    if !((s.len() == STATE_WORDS) & buffers) {
         return 200;
     }
     if !(state_well_formed::well_formed(s) & handed) {
@@ -62,8 +65,8 @@ fn copy_route(s: &[u32], i: usize, row: &mut [u32])
     requires { ⌜ Valid (now s) × (i < routeCount (now s)) × (32 ≤ length (now row)) ⌝ }
     ensures { λ _. ⌜ ((st : State) → Represents (now (s .entry)) st → now (row .exit) ≡ put 0 (getD (st .routes) i []) (now (row .entry))) ⌝ }
 {
-    let at = 1283 + 32 * i;
-    let end = at + 32;
+    let at = ROUTES_AT + ROUTE_WORDS * i;
+    let end = at + ROUTE_WORDS;
     words::store(row, 0, &s[at..end]);
 }
 
@@ -89,7 +92,7 @@ pub fn lookup4(state: &[u32], row: &mut [u32], ip: u32) -> Found
     ensures { λ r. ⌜ r ≡ foundOf (lookup4Call (length (now (row .entry))) ip (now (state .entry)) .reply) ⌝ }
     ensures { λ _. ⌜ now (row .exit) ≡ put 0 (flat (lookup4Call (length (now (row .entry))) ip (now (state .entry)) .reply .rows)) (now (row .entry)) ⌝ }
 {
-    let n = checked(state, 32 <= row.len(), true, true);
+    let n = checked(state, ROUTE_WORDS <= row.len(), true, true);
     if n != 0 {
         return Found::Refused(n);
     }
@@ -111,7 +114,7 @@ pub fn lookup4_flow(state: &[u32], row: &mut [u32], ip: u32, tos: u32, oif: u32)
     ensures { λ r. ⌜ r ≡ foundOf (lookup4FlowCall (length (now (row .entry))) ip tos oif (now (state .entry)) .reply) ⌝ }
     ensures { λ _. ⌜ now (row .exit) ≡ put 0 (flat (lookup4FlowCall (length (now (row .entry))) ip tos oif (now (state .entry)) .reply .rows)) (now (row .entry)) ⌝ }
 {
-    let n = checked(state, 32 <= row.len(), true, tos < 256);
+    let n = checked(state, ROUTE_WORDS <= row.len(), true, tos < 256);
     if n != 0 {
         return Found::Refused(n);
     }

@@ -1,6 +1,8 @@
 // select4 and primary_of over addresses as records: a lent slice of `V4`, and above it the words of a state.
 use call_read::Chosen;
 use call_read::Sourced;
+use layout::ADDRESS_LIMIT;
+use layout::ADDRESS_WORDS;
 use row_address::V4;
 use rows_source::Selected;
 ghost use mathlib.Core.Path.{_≡_};
@@ -121,14 +123,20 @@ pub fn primary_of(addresses: &[V4], a: V4) -> u32
 }
 
 // The first n of 64 records, lent: whoever calls this needs no walk by hand.
-fn lend_select4(rows: [V4; 64], n: usize, dst_present: bool, dst: u32, scope: u32) -> Selected
+fn lend_select4(
+    rows: [V4; ADDRESS_LIMIT],
+    n: usize,
+    dst_present: bool,
+    dst: u32,
+    scope: u32,
+) -> Selected
     requires { ⌜ n ≤ 64 ⌝ }
     ensures { λ r. ⌜ localIn r ≡ select4 (map rowOf (take n rows)) (wanted «dst_present» dst) scope ⌝ }
 {
     select4(&rows[..n], dst_present, dst, scope)
 }
 
-fn lend_primary_of(rows: [V4; 64], n: usize, a: V4) -> u32
+fn lend_primary_of(rows: [V4; ADDRESS_LIMIT], n: usize, a: V4) -> u32
     requires { ⌜ n ≤ 64 ⌝ }
     ensures { λ r. ⌜ r ≡ primaryOf (map rowOf (take n rows)) (rowOf a) ⌝ }
 {
@@ -136,15 +144,15 @@ fn lend_primary_of(rows: [V4; 64], n: usize, a: V4) -> u32
 }
 
 // The records of n rows. What stands behind them is not looked at.
-fn read(words: &[u32], n: usize) -> [V4; 64]
+fn read(words: &[u32], n: usize) -> [V4; ADDRESS_LIMIT]
     requires { ⌜ (n ≤ 64) × (length (now words) ≡ 20 * n) × Lays 20 fitAddress (now words) ⌝ }
     ensures { λ r. ⌜ ((l : List Row) → Laid 20 fitAddress (now (words .entry)) l → map rowOf (take n r) ≡ l) ⌝ }
 {
-    let mut rows = [row_address::v4_of(&[0u32; 20]); 64];
+    let mut rows = [row_address::v4_of(&[0u32; ADDRESS_WORDS]); ADDRESS_LIMIT];
     let mut i = 0usize;
     while i < n {
-        let at = 20 * i;
-        let v = row_address::record_of(&words[at..at + 20]);
+        let at = ADDRESS_WORDS * i;
+        let v = row_address::record_of(&words[at..at + ADDRESS_WORDS]);
         rows[i] = v;
         i += 1;
     }
@@ -152,7 +160,7 @@ fn read(words: &[u32], n: usize) -> [V4; 64]
 }
 
 // The records of the addresses that words hold.
-fn decoded(s: &[u32]) -> [V4; 64]
+fn decoded(s: &[u32]) -> [V4; ADDRESS_LIMIT]
     requires { ⌜ Valid (now s) ⌝ }
     ensures { λ r. ⌜ ((st : State) → Represents (now (s .entry)) st → map rowOf (take (addressCount (now (s .entry))) r) ≡ st .addresses) ⌝ }
 {

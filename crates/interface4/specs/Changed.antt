@@ -15,7 +15,7 @@ use Rattle.lists.specs.Put.{put-whole}
 use Rattle.lists.specs.Rows.{length-flat}
 use Rattle.lists.specs.Bools.{cond-true, cond-false, and-left, and-right, true-false}
 use Rattle.definition.specs.Call as Call
-use Rattle.definition.specs.Step.{Result}
+use Rattle.definition.specs.Step.{Result, eventRoom}
 use Rattle.endian.specs.Endian.{bytesOf}
 use Rattle.endian.specs.Laws.{Below, length-bytesOf, bytes-none}
 use Rattle.definition_bytes.specs.Bytes.{Narrow}
@@ -26,9 +26,10 @@ use Rattle.call_dump.specs.Listing.{Lists}
 use Rattle.interface4.specs.Answer.{onBytes, stateFits, roomFits, changeFits, requestFits, stateOn}
 use Rattle.interface4.specs.Rows.{OneRow}
 use Rattle.interface4.specs.Narrow.{rows-below, narrow-yes}
+use Rattle.definition.specs.Words.{stateSize}
 
 -- all of the state's bytes are written
-pub state-back : (w b b′ : List ℕ) → length w ≡ 9507 → length b ≡ 38028 → b′ ≡ put 0 (bytesOf w) b → b′ ≡ bytesOf w
+pub state-back : (w b b′ : List ℕ) → length w ≡ stateSize → length b ≡ (4 * stateSize) → b′ ≡ put 0 (bytesOf w) b → b′ ≡ bytesOf w
 state-back w b b′ h k e = e ∙ put-whole (bytesOf w) b (omega (arith, length-bytesOf w))
 
 -- the lent part
@@ -122,13 +123,13 @@ module _ (b ev : List ℕ) (fit : Bool) where
   pub as-words : (call : List ℕ → Result) (x : Reply) (b′ ev′ w v : List ℕ) → w ≡ v → Changed fit b ev (call w) x b′ ev′ → Changed fit b ev (call v) x b′ ev′
   as-words call x b′ ev′ w v e c = subst (λ (u : List ℕ). Changed fit b ev (call u) x b′ ev′) e c
 
-pub room : (n : ℕ) (b out : List ℕ) → roomFits n b out ≡ true → (length b ≡ 38028) × (n ≤ length out)
+pub room : (n : ℕ) (b out : List ℕ) → roomFits n b out ≡ true → (length b ≡ (4 * stateSize)) × (n ≤ length out)
 room n b out h = (
-  eqb-true (length b) 38028 (and-left (stateFits b) (leb n (length out)) h),
+  eqb-true (length b) (4 * stateSize) (and-left (stateFits b) (leb n (length out)) h),
   leb-true n (length out) (and-right (stateFits b) (leb n (length out)) h),
 )
 
-pub request-room : (n : ℕ) (q b ev : List ℕ) → requestFits n q b ev ≡ true → (length q ≡ n) × (length b ≡ 38028) × (52224 ≤ length ev)
+pub request-room : (n : ℕ) (q b ev : List ℕ) → requestFits n q b ev ≡ true → (length q ≡ n) × (length b ≡ (4 * stateSize)) × ((4 * eventRoom) ≤ length ev)
 request-room n q b ev h =
-    let r = room 52224 b ev (and-right (eqb (length q) n) (changeFits b ev) h) in
+    let r = room (4 * eventRoom) b ev (and-right (eqb (length q) n) (changeFits b ev) h) in
     (eqb-true (length q) n (and-left (eqb (length q) n) (changeFits b ev) h), r .0, r .1)

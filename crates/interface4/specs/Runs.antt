@@ -1,7 +1,7 @@
 -- The contracts on bytes are what Made says (crate runs), call by call: each law's premises are its function's `ensures`, and that what
 -- it is lent are bytes.
 -- Assumes nothing.
-use Prim.Native.Nat.{ℕ}
+use Prim.Native.Nat.{ℕ, _*_}
 use native.Mathlib.Omega.{arith}
 use mathlib.Core.Path.{_≡_, refl, sym, ap, subst, _∙_}
 use mathlib.Core.Bool.{Bool, true, false}
@@ -11,7 +11,7 @@ use Rattle.lists.specs.Lists.{Row, flat, put}
 use Rattle.lists.specs.Bools.{cond-true, cond-false, test-case}
 use Rattle.definition.specs.Call as Call
 use Rattle.definition.specs.Call.{Call, Numbers, numbers, refusal}
-use Rattle.definition.specs.Step.{Result, alters, semantics, step, upCall, downCall, addV4Call, delV4Call, expireCall, addRoute4Call, delRoute4Call, dump4Call, lookup4Call, lookup4FlowCall, local4Call, source4Call, sourceCall, select4Call}
+use Rattle.definition.specs.Step.{Result, alters, semantics, step, upCall, downCall, addV4Call, delV4Call, expireCall, addRoute4Call, delRoute4Call, dump4Call, lookup4Call, lookup4FlowCall, local4Call, source4Call, sourceCall, select4Call, eventRoom, listingRoom}
 use Rattle.definition.specs.Preservation.Step.{perform-reads}
 use Rattle.definition.specs.Noninterference.Public.{Lent}
 use Rattle.definition.specs.Noninterference.ReadBack.{shaped}
@@ -67,50 +67,50 @@ module _ (c : Call) (s b : List ℕ) (r : Reply) (l : Lent (semantics c .lent) b
 
 -- ---- the calls
 module _ (s b : List ℕ) (r : Reply) where
-  pub up-made : (clock : ℕ) (s′ b′ : List ℕ) → r ≡ replyOf (onBytes (changeFits s b) (upCall 13056 clock (wordsOf s) .reply)) → s′ ≡ stateOn (changeFits s b) s (upCall 13056 clock (wordsOf s) .words)
-      → b′ ≡ put 0 (bytesOf (flat (onBytes (changeFits s b) (upCall 13056 clock (wordsOf s) .reply) .rows))) b → (changeFits s b ≡ true → Narrow (upCall 13056 clock (wordsOf s)))
+  pub up-made : (clock : ℕ) (s′ b′ : List ℕ) → r ≡ replyOf (onBytes (changeFits s b) (upCall eventRoom clock (wordsOf s) .reply)) → s′ ≡ stateOn (changeFits s b) s (upCall eventRoom clock (wordsOf s) .words)
+      → b′ ≡ put 0 (bytesOf (flat (onBytes (changeFits s b) (upCall eventRoom clock (wordsOf s) .reply) .rows))) b → (changeFits s b ≡ true → Narrow (upCall eventRoom clock (wordsOf s)))
       → Made (Call.up (length b) clock) s b (numbersIn r) s′ b′
   unfolding upCall
   up-made clock s′ b′ a e f n = changed-made (Call.up (length b) clock) s b r refl a refl s′ b′ e f n
 
-  pub down-made : (s′ b′ : List ℕ) → r ≡ replyOf (onBytes (changeFits s b) (downCall 13056 (wordsOf s) .reply)) → s′ ≡ stateOn (changeFits s b) s (downCall 13056 (wordsOf s) .words)
-      → b′ ≡ put 0 (bytesOf (flat (onBytes (changeFits s b) (downCall 13056 (wordsOf s) .reply) .rows))) b → (changeFits s b ≡ true → Narrow (downCall 13056 (wordsOf s)))
+  pub down-made : (s′ b′ : List ℕ) → r ≡ replyOf (onBytes (changeFits s b) (downCall eventRoom (wordsOf s) .reply)) → s′ ≡ stateOn (changeFits s b) s (downCall eventRoom (wordsOf s) .words)
+      → b′ ≡ put 0 (bytesOf (flat (onBytes (changeFits s b) (downCall eventRoom (wordsOf s) .reply) .rows))) b → (changeFits s b ≡ true → Narrow (downCall eventRoom (wordsOf s)))
       → Made (Call.down (length b)) s b (numbersIn r) s′ b′
   unfolding downCall
   down-made s′ b′ a e f n = changed-made (Call.down (length b)) s b r refl a refl s′ b′ e f n
 
-  pub add-v4-made : (q : Row) (clock : ℕ) (s′ b′ : List ℕ) → r ≡ replyOf (onBytes (requestFits 72 q s b) (addV4Call (wordsOf q) 13056 clock (wordsOf s) .reply)) → s′ ≡ stateOn (requestFits 72 q s b) s (addV4Call (wordsOf q) 13056 clock (wordsOf s) .words)
-      → b′ ≡ put 0 (bytesOf (flat (onBytes (requestFits 72 q s b) (addV4Call (wordsOf q) 13056 clock (wordsOf s) .reply) .rows))) b → (requestFits 72 q s b ≡ true → Narrow (addV4Call (wordsOf q) 13056 clock (wordsOf s)))
+  pub add-v4-made : (q : Row) (clock : ℕ) (s′ b′ : List ℕ) → r ≡ replyOf (onBytes (requestFits 72 q s b) (addV4Call (wordsOf q) eventRoom clock (wordsOf s) .reply)) → s′ ≡ stateOn (requestFits 72 q s b) s (addV4Call (wordsOf q) eventRoom clock (wordsOf s) .words)
+      → b′ ≡ put 0 (bytesOf (flat (onBytes (requestFits 72 q s b) (addV4Call (wordsOf q) eventRoom clock (wordsOf s) .reply) .rows))) b → (requestFits 72 q s b ≡ true → Narrow (addV4Call (wordsOf q) eventRoom clock (wordsOf s)))
       → Made (Call.addV4 q (length b) clock) s b (numbersIn r) s′ b′
   unfolding addV4Call
   add-v4-made q clock s′ b′ a e f n = changed-made (Call.addV4 q (length b) clock) s b r refl a refl s′ b′ e f n
 
-  pub del-v4-made : (q : Row) (s′ b′ : List ℕ) → r ≡ replyOf (onBytes (requestFits 44 q s b) (delV4Call (wordsOf q) 13056 (wordsOf s) .reply)) → s′ ≡ stateOn (requestFits 44 q s b) s (delV4Call (wordsOf q) 13056 (wordsOf s) .words)
-      → b′ ≡ put 0 (bytesOf (flat (onBytes (requestFits 44 q s b) (delV4Call (wordsOf q) 13056 (wordsOf s) .reply) .rows))) b → (requestFits 44 q s b ≡ true → Narrow (delV4Call (wordsOf q) 13056 (wordsOf s)))
+  pub del-v4-made : (q : Row) (s′ b′ : List ℕ) → r ≡ replyOf (onBytes (requestFits 44 q s b) (delV4Call (wordsOf q) eventRoom (wordsOf s) .reply)) → s′ ≡ stateOn (requestFits 44 q s b) s (delV4Call (wordsOf q) eventRoom (wordsOf s) .words)
+      → b′ ≡ put 0 (bytesOf (flat (onBytes (requestFits 44 q s b) (delV4Call (wordsOf q) eventRoom (wordsOf s) .reply) .rows))) b → (requestFits 44 q s b ≡ true → Narrow (delV4Call (wordsOf q) eventRoom (wordsOf s)))
       → Made (Call.delV4 q (length b)) s b (numbersIn r) s′ b′
   unfolding delV4Call
   del-v4-made q s′ b′ a e f n = changed-made (Call.delV4 q (length b)) s b r refl a refl s′ b′ e f n
 
-  pub expire-made : (clock : ℕ) (s′ b′ : List ℕ) → r ≡ replyOf (onBytes (changeFits s b) (expireCall 13056 clock (wordsOf s) .reply)) → s′ ≡ stateOn (changeFits s b) s (expireCall 13056 clock (wordsOf s) .words)
-      → b′ ≡ put 0 (bytesOf (flat (onBytes (changeFits s b) (expireCall 13056 clock (wordsOf s) .reply) .rows))) b → (changeFits s b ≡ true → Narrow (expireCall 13056 clock (wordsOf s)))
+  pub expire-made : (clock : ℕ) (s′ b′ : List ℕ) → r ≡ replyOf (onBytes (changeFits s b) (expireCall eventRoom clock (wordsOf s) .reply)) → s′ ≡ stateOn (changeFits s b) s (expireCall eventRoom clock (wordsOf s) .words)
+      → b′ ≡ put 0 (bytesOf (flat (onBytes (changeFits s b) (expireCall eventRoom clock (wordsOf s) .reply) .rows))) b → (changeFits s b ≡ true → Narrow (expireCall eventRoom clock (wordsOf s)))
       → Made (Call.expire (length b) clock) s b (numbersIn r) s′ b′
   unfolding expireCall
   expire-made clock s′ b′ a e f n = changed-made (Call.expire (length b) clock) s b r refl a refl s′ b′ e f n
 
-  pub add-route4-made : (q : Row) (s′ b′ : List ℕ) → r ≡ replyOf (onBytes (requestFits 136 q s b) (addRoute4Call (wordsOf q) 13056 (wordsOf s) .reply)) → s′ ≡ stateOn (requestFits 136 q s b) s (addRoute4Call (wordsOf q) 13056 (wordsOf s) .words)
-      → b′ ≡ put 0 (bytesOf (flat (onBytes (requestFits 136 q s b) (addRoute4Call (wordsOf q) 13056 (wordsOf s) .reply) .rows))) b → (requestFits 136 q s b ≡ true → Narrow (addRoute4Call (wordsOf q) 13056 (wordsOf s)))
+  pub add-route4-made : (q : Row) (s′ b′ : List ℕ) → r ≡ replyOf (onBytes (requestFits 136 q s b) (addRoute4Call (wordsOf q) eventRoom (wordsOf s) .reply)) → s′ ≡ stateOn (requestFits 136 q s b) s (addRoute4Call (wordsOf q) eventRoom (wordsOf s) .words)
+      → b′ ≡ put 0 (bytesOf (flat (onBytes (requestFits 136 q s b) (addRoute4Call (wordsOf q) eventRoom (wordsOf s) .reply) .rows))) b → (requestFits 136 q s b ≡ true → Narrow (addRoute4Call (wordsOf q) eventRoom (wordsOf s)))
       → Made (Call.addRoute4 q (length b)) s b (numbersIn r) s′ b′
   unfolding addRoute4Call
   add-route4-made q s′ b′ a e f n = changed-made (Call.addRoute4 q (length b)) s b r refl a refl s′ b′ e f n
 
-  pub del-route4-made : (q : Row) (s′ b′ : List ℕ) → r ≡ replyOf (onBytes (requestFits 196 q s b) (delRoute4Call (wordsOf q) 13056 (wordsOf s) .reply)) → s′ ≡ stateOn (requestFits 196 q s b) s (delRoute4Call (wordsOf q) 13056 (wordsOf s) .words)
-      → b′ ≡ put 0 (bytesOf (flat (onBytes (requestFits 196 q s b) (delRoute4Call (wordsOf q) 13056 (wordsOf s) .reply) .rows))) b → (requestFits 196 q s b ≡ true → Narrow (delRoute4Call (wordsOf q) 13056 (wordsOf s)))
+  pub del-route4-made : (q : Row) (s′ b′ : List ℕ) → r ≡ replyOf (onBytes (requestFits 196 q s b) (delRoute4Call (wordsOf q) eventRoom (wordsOf s) .reply)) → s′ ≡ stateOn (requestFits 196 q s b) s (delRoute4Call (wordsOf q) eventRoom (wordsOf s) .words)
+      → b′ ≡ put 0 (bytesOf (flat (onBytes (requestFits 196 q s b) (delRoute4Call (wordsOf q) eventRoom (wordsOf s) .reply) .rows))) b → (requestFits 196 q s b ≡ true → Narrow (delRoute4Call (wordsOf q) eventRoom (wordsOf s)))
       → Made (Call.delRoute4 q (length b)) s b (numbersIn r) s′ b′
   unfolding delRoute4Call
   del-route4-made q s′ b′ a e f n = changed-made (Call.delRoute4 q (length b)) s b r refl a refl s′ b′ e f n
 
-  pub dump4-made : (b′ : List ℕ) → Below 256 s → r ≡ replyOf (onBytes (roomFits 32768 s b) (dump4Call 8192 (wordsOf s) .reply))
-      → b′ ≡ put 0 (bytesOf (flat (onBytes (roomFits 32768 s b) (dump4Call 8192 (wordsOf s) .reply) .rows))) b → (roomFits 32768 s b ≡ true → Below 4294967296 (flat (dump4Call 8192 (wordsOf s) .reply .rows)))
+  pub dump4-made : (b′ : List ℕ) → Below 256 s → r ≡ replyOf (onBytes (roomFits (4 * listingRoom) s b) (dump4Call listingRoom (wordsOf s) .reply))
+      → b′ ≡ put 0 (bytesOf (flat (onBytes (roomFits (4 * listingRoom) s b) (dump4Call listingRoom (wordsOf s) .reply) .rows))) b → (roomFits (4 * listingRoom) s b ≡ true → Below 4294967296 (flat (dump4Call listingRoom (wordsOf s) .reply .rows)))
       → Made (Call.dump4 (length b)) s b (numbersIn r) s b′
   unfolding dump4Call
   dump4-made b′ h a f n = wrote-made (Call.dump4 (length b)) s b r refl a refl refl h b′ f n

@@ -20,6 +20,7 @@ use Rattle.endian.specs.Endian.{wordsOf, bytesOf}
 use Rattle.endian.specs.Laws.{bytes-words, bytes-none}
 use Rattle.call_reply.specs.declared.Reply.{Reply}
 use Rattle.call_reply.specs.Answer.{replyOf}
+use Rattle.definition.specs.Words.{stateSize}
 
 pub record Stays (r : Result) (w : List ℕ) : Type 0 where
   pub words : r .words ≡ w
@@ -63,22 +64,22 @@ module _ (w : List ℕ) (events : ℕ) where
 
 -- ---- on bytes
 -- where the call on their words stays, the bytes are those of the words that it left
-stays-on : (b w w′ : List ℕ) (r : Result) (x : Reply) → length b ≡ 38028 → ((i : ℕ) → Fits w8 (getD b i 0)) → w ≡ wordsOf b → x ≡ replyOf (r .reply) → w′ ≡ r .words → Stays r w
+stays-on : (b w w′ : List ℕ) (r : Result) (x : Reply) → length b ≡ (4 * stateSize) → ((i : ℕ) → Fits w8 (getD b i 0)) → w ≡ wordsOf b → x ≡ replyOf (r .reply) → w′ ≡ r .words → Stays r w
     → (b ≡ bytesOf w′) × (x .value ≡ 0)
 stays-on b w w′ r x l f e a s t = (
-  sym (bytes-words 9507 b l (λ i. f i .fits)) ∙ ap bytesOf (sym (s ∙ t .words ∙ e)),
+  sym (bytes-words stateSize b l (λ i. f i .fits)) ∙ ap bytesOf (sym (s ∙ t .words ∙ e)),
   ap (λ (y : Reply). y .value) a ∙ t .value,
 )
 
 -- with a number of k or more
-pub stays-from : (k : ℕ) (b w w′ : List ℕ) (r : Result) (x : Reply) → length b ≡ 38028 → ((i : ℕ) → Fits w8 (getD b i 0)) → w ≡ wordsOf b → x ≡ replyOf (r .reply) → w′ ≡ r .words
+pub stays-from : (k : ℕ) (b w w′ : List ℕ) (r : Result) (x : Reply) → length b ≡ (4 * stateSize) → ((i : ℕ) → Fits w8 (getD b i 0)) → w ≡ wordsOf b → x ≡ replyOf (r .reply) → w′ ≡ r .words
     → (k ≤ r .reply .number → Stays r w) → leb k (x .number) ≡ true → (b ≡ bytesOf w′) × (x .value ≡ 0)
 stays-from k b w w′ r x l f e a s t h =
     let n : x .number ≡ r .reply .number = ap (λ (y : Reply). y .number) a in
     stays-on b w w′ r x l f e a s (t (omega (arith, n, leb-true k (x .number) h)))
 
 -- with no row told
-pub stays-quiet : (b w w′ : List ℕ) (r : Result) (x : Reply) → length b ≡ 38028 → ((i : ℕ) → Fits w8 (getD b i 0)) → w ≡ wordsOf b → x ≡ replyOf (r .reply) → w′ ≡ r .words
+pub stays-quiet : (b w w′ : List ℕ) (r : Result) (x : Reply) → length b ≡ (4 * stateSize) → ((i : ℕ) → Fits w8 (getD b i 0)) → w ≡ wordsOf b → x ≡ replyOf (r .reply) → w′ ≡ r .words
     → (r .reply .value ≡ 0 → Stays r w) → eqb (x .value) 0 ≡ true → (b ≡ bytesOf w′) × (x .value ≡ 0)
 stays-quiet b w w′ r x l f e a s t h =
     let n : x .value ≡ r .reply .value = ap (λ (y : Reply). y .value) a in

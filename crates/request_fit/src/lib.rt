@@ -1,4 +1,14 @@
 // Which requests are fit: of their words, every field within its width, and what is absent 0.
+use layout::ADD_ROUTE4_WORDS;
+use layout::ADD_V4_WORDS;
+use layout::DEL_ROUTE4_WORDS;
+use layout::DEL_V4_WORDS;
+use layout::add_route4;
+use layout::add_v4;
+use layout::address;
+use layout::del_route4;
+use layout::del_v4;
+use layout::route;
 ghost use mathlib.Core.Path.{_≡_};
 ghost use mathlib.Core.Bool.{_&&_};
 ghost use Prim.Native.Nat.{_≤_};
@@ -10,29 +20,41 @@ ghost use Rattle.definition.specs.Step.{requestIs};
 pub fn fit_add_v4(q: &[u32]) -> bool
     ensures { λ r. ⌜ r ≡ (requestIs addV4Size (now (q .entry)) && fitAddV4 (now (q .entry))) ⌝ }
 {
-    if q.len() != 18 {
+    if q.len() != ADD_V4_WORDS {
         return false;
     }
-    (q[2] <= 32)
-        & row_address::fit_optional(q[3], q[4])
-        & (q[5] < 256)
-        & (q[7] < 256)
-        & row_address::fit_label(q[8], q[9], q[10], q[11], q[12])
-        & (q[16] <= 1)
-        & (q[17] <= 1)
+    (q[address::PREFIX] <= 32)
+        & row_address::fit_optional(q[address::BROADCAST_PRESENT], q[address::BROADCAST])
+        & (q[address::SCOPE] < 256)
+        & (q[address::PROTO] < 256)
+        & row_address::fit_label(
+            q[address::LABEL_LENGTH],
+            q[address::LABEL],
+            q[address::LABEL_1],
+            q[address::LABEL_2],
+            q[address::LABEL_3],
+        )
+        & (q[add_v4::REPLACE] <= 1)
+        & (q[add_v4::UP] <= 1)
 }
 
 pub fn fit_del_v4(q: &[u32]) -> bool
     ensures { λ r. ⌜ r ≡ (requestIs delV4Size (now (q .entry)) && fitDelV4 (now (q .entry))) ⌝ }
 {
-    if q.len() != 11 {
+    if q.len() != DEL_V4_WORDS {
         return false;
     }
-    (q[4] <= 32)
-        & row_address::fit_optional(q[0], q[1])
-        & row_address::fit_optional(q[2], q[3])
-        & row_address::fit_optional(q[5], q[6])
-        & row_address::fit_label(q[6], q[7], q[8], q[9], q[10])
+    (q[del_v4::PREFIX] <= 32)
+        & row_address::fit_optional(q[del_v4::LOCAL_PRESENT], q[del_v4::LOCAL])
+        & row_address::fit_optional(q[del_v4::ADDRESS_PRESENT], q[del_v4::ADDRESS])
+        & row_address::fit_optional(q[del_v4::LABEL_PRESENT], q[del_v4::LABEL_LENGTH])
+        & row_address::fit_label(
+            q[del_v4::LABEL_LENGTH],
+            q[del_v4::LABEL],
+            q[del_v4::LABEL_1],
+            q[del_v4::LABEL_2],
+            q[del_v4::LABEL_3],
+        )
 }
 
 // What both requests for a route ask of its first 12 words.
@@ -40,13 +62,13 @@ fn fit_route_words(q: &[u32]) -> bool
     requires { ⌜ 12 ≤ length (now q) ⌝ }
     ensures { λ r. ⌜ r ≡ fitRouteWords (now (q .entry)) ⌝ }
 {
-    (q[2] < 256)
-        & (q[3] < 256)
-        & (q[5] < 256)
-        & (q[6] < 256)
-        & (q[7] < 256)
-        & row_address::fit_optional(q[8], q[9])
-        & row_address::fit_optional(q[10], q[11])
+    (q[route::LEN] < 256)
+        & (q[route::TOS] < 256)
+        & (q[route::KIND] < 256)
+        & (q[route::PROTO] < 256)
+        & (q[route::SCOPE] < 256)
+        & row_address::fit_optional(q[route::PREFSRC_PRESENT], q[route::PREFSRC])
+        & row_address::fit_optional(q[route::GATEWAY_PRESENT], q[route::GATEWAY])
 }
 
 // The largest number of Linux's errno list.
@@ -55,10 +77,13 @@ const GREATEST_ERRNO: u32 = 133;
 pub fn fit_add_route4(q: &[u32]) -> bool
     ensures { λ r. ⌜ r ≡ (requestIs addRoute4Size (now (q .entry)) && fitAddRoute4 (now (q .entry))) ⌝ }
 {
-    if q.len() != 34 {
+    if q.len() != ADD_ROUTE4_WORDS {
         return false;
     }
-    fit_route_words(q) & (q[14] < 65536) & (q[15] <= GREATEST_ERRNO) & (q[33] <= 1)
+    fit_route_words(q)
+        & (q[add_route4::REQUEST] < 65536)
+        & (q[add_route4::METRICS_ERROR] <= GREATEST_ERRNO)
+        & (q[add_route4::UP] <= 1)
 }
 
 // Every pair up to the count names one of the 17 metrics.
@@ -66,11 +91,11 @@ fn fit_pairs(q: &[u32]) -> bool
     requires { ⌜ (length (now q) ≡ 49) × (pairCount (now q) ≤ 17) ⌝ }
     ensures { λ r. ⌜ r ≡ fitPairs (now (q .entry)) ⌝ }
 {
-    let n = wide(q[14]);
+    let n = wide(q[del_route4::PAIR_COUNT]);
     let mut fit = true;
     let mut i = 0usize;
     while i < n {
-        fit = fit & (q[15 + 2 * i] <= 16);
+        fit = fit & (q[del_route4::PAIRS + 2 * i] <= 16);
         i += 1;
     }
     fit
@@ -86,11 +111,12 @@ fn wide(n: u32) -> usize
 pub fn fit_del_route4(q: &[u32]) -> bool
     ensures { λ r. ⌜ r ≡ (requestIs delRoute4Size (now (q .entry)) && fitDelRoute4 (now (q .entry))) ⌝ }
 {
-    if q.len() != 49 {
+    if q.len() != DEL_ROUTE4_WORDS {
         return false;
     }
-    let fields = fit_route_words(q) & row_address::fit_optional(q[13], q[14]);
-    if 17 < q[14] {
+    let fields = fit_route_words(q)
+        & row_address::fit_optional(q[del_route4::LIST_PRESENT], q[del_route4::PAIR_COUNT]);
+    if 17 < q[del_route4::PAIR_COUNT] {
         return false;
     }
     fields & fit_pairs(q)

@@ -1,4 +1,7 @@
 // How a route that a request asks for is reached: its device and its gateway.
+use layout::ROUTE_WORDS;
+use layout::add_route4;
+use layout::route;
 use rows_lookup::Flow;
 use rows_lookup::Looked;
 ghost use mathlib.Core.Path.{_≡_};
@@ -36,11 +39,11 @@ fn onlink_number(q: &[u32], kind: u32) -> u32
     ensures { λ r. ⌜ r ≡ onlinkNumber (now (q .entry)) kind ⌝ }
 {
     request_route::first_of(
-        request_route::refuse(layout::SCOPE_LINK <= q[7], layout::INVALID),
+        request_route::refuse(layout::SCOPE_LINK <= q[route::SCOPE], layout::INVALID),
         request_route::first_of(
-            request_route::refuse(q[12] != 1, layout::NO_DEVICE),
+            request_route::refuse(q[add_route4::OIF] != 1, layout::NO_DEVICE),
             request_route::first_of(
-                request_route::refuse(q[33] == 0, layout::NET_DOWN),
+                request_route::refuse(q[add_route4::UP] == 0, layout::NET_DOWN),
                 request_route::refuse(kind != layout::KIND_UNICAST, layout::INVALID),
             ),
         ),
@@ -53,7 +56,13 @@ fn onlink_check(rows: &[u32], n: usize, q: &[u32], local_listed: bool) -> Reache
     requires { ⌜ length (now q) ≡ 34 ⌝ }
     ensures { λ r. ⌜ ((l : List Row) → Laid 32 fitRoute (now (rows .entry)) l → reachedOf r ≡ onlinkRows (now (q .entry)) «local_listed» l) ⌝ }
 {
-    let kind = request_prefsrc::addr_type(rows, n, local_listed, layout::TABLE_LOCAL, q[11]);
+    let kind = request_prefsrc::addr_type(
+        rows,
+        n,
+        local_listed,
+        layout::TABLE_LOCAL,
+        q[route::GATEWAY],
+    );
     settle(onlink_number(q, kind), true)
 }
 
@@ -72,12 +81,12 @@ fn to_gateway(q: &[u32]) -> Flow
     requires { ⌜ (length (now q) ≡ 34) × (scope (now q) < 256) ⌝ }
     ensures { λ r. ⌜ flowOf r ≡ toGateway (now (q .entry)) ⌝ }
 {
-    let scope = narrower(q[7]);
+    let scope = narrower(q[route::SCOPE]);
     Flow {
-        ip: q[11],
+        ip: q[route::GATEWAY],
         tos: 0,
         scope: scope,
-        oif: q[12],
+        oif: q[add_route4::OIF],
     }
 }
 
@@ -104,7 +113,7 @@ fn usable_at(rows: &[u32], n: usize, place: usize) -> bool
     if n <= place {
         return false;
     }
-    kind::error_of(rows[32 * place + 5]) == 0
+    kind::error_of(rows[ROUTE_WORDS * place + route::KIND]) == 0
 }
 
 // The route's own set of tables, where that has an answer that doesn't reject, else a lookup.
@@ -138,7 +147,11 @@ fn reached_at(rows: &[u32], n: usize, q: &[u32], i: usize) -> Reached
     requires { ⌜ (length (now rows) ≡ 32 * n) × (length (now q) ≡ 34) × (i < n) ⌝ }
     ensures { λ r. ⌜ ((l : List Row) → Laid 32 fitRoute (now (rows .entry)) l → reachedOf r ≡ reachedBy (now (q .entry)) (route (getD l i []))) ⌝ }
 {
-    row_reached(rows[32 * i + 5], rows[32 * i + 7], q[33])
+    row_reached(
+        rows[ROUTE_WORDS * i + route::KIND],
+        rows[ROUTE_WORDS * i + route::SCOPE],
+        q[add_route4::UP],
+    )
 }
 
 fn reached_by(rows: &[u32], n: usize, q: &[u32], found: Looked) -> Reached
@@ -181,19 +194,19 @@ pub fn reach_check(
     requires { ⌜ (length (now q) ≡ 34) × (scope (now q) < 256) ⌝ }
     ensures { λ r. ⌜ ((l : List Row) → Laid 32 fitRoute (now (rows .entry)) l → reachedOf r ≡ reachRows (now (q .entry)) «local_listed» «default_listed» l) ⌝ }
 {
-    let gatewayed = q[10] == 1;
-    let device = q[12];
-    if kind::error_of(q[5]) != 0 {
+    let gatewayed = q[route::GATEWAY_PRESENT] == 1;
+    let device = q[add_route4::OIF];
+    if kind::error_of(q[route::KIND]) != 0 {
         return settle(
             request_route::refuse(gatewayed | (device != 0), layout::INVALID),
             false,
         );
     }
     let missing = request_route::refuse(device != 1, layout::NO_DEVICE);
-    if layout::SCOPE_HOST < q[7] {
+    if layout::SCOPE_HOST < q[route::SCOPE] {
         return Reached::Refused(layout::INVALID);
     }
-    if q[7] == layout::SCOPE_HOST {
+    if q[route::SCOPE] == layout::SCOPE_HOST {
         return settle(
             request_route::first_of(request_route::refuse(gatewayed, layout::INVALID), missing),
             false,
@@ -206,7 +219,10 @@ pub fn reach_check(
     settle(
         request_route::first_of(
             request_route::refuse(onlink, layout::INVALID),
-            request_route::first_of(missing, request_route::refuse(q[33] == 0, layout::NET_DOWN)),
+            request_route::first_of(
+                missing,
+                request_route::refuse(q[add_route4::UP] == 0, layout::NET_DOWN),
+            ),
         ),
         false,
     )

@@ -1,4 +1,5 @@
 // The preferred source of a route that a request asks for.
+use layout::route;
 use rows_lookup::Tables;
 ghost use mathlib.Core.Path.{_≡_};
 ghost use Prim.Native.Nat.{ℕ, _*_, _≤_};
@@ -54,9 +55,17 @@ pub fn valid_prefsrc4(
     ensures { λ r. ⌜ ((l : List Row) → Laid 32 fitRoute (now (rows .entry)) l → r ≡ prefsrcRows (now (q .entry)) «own_listed» «local_listed» l) ⌝ }
 {
     let own = prefsrc_table(request_route::table_named(q));
-    let own_kind = addr_type(rows, n, own_listed, own, q[9]);
-    let local_kind = addr_type(rows, n, local_listed, layout::TABLE_LOCAL, q[9]);
-    ((q[5] == layout::KIND_LOCAL) & (q[1] != 0) & (q[9] == q[1]))
+    let own_kind = addr_type(rows, n, own_listed, own, q[route::PREFSRC]);
+    let local_kind = addr_type(
+        rows,
+        n,
+        local_listed,
+        layout::TABLE_LOCAL,
+        q[route::PREFSRC],
+    );
+    ((q[route::KIND] == layout::KIND_LOCAL)
+        & (q[route::DST] != 0)
+        & (q[route::PREFSRC] == q[route::DST]))
         | (own_kind == layout::KIND_LOCAL)
         | (local_kind == layout::KIND_LOCAL)
 }

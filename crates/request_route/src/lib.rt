@@ -1,6 +1,8 @@
 // What a request for a route asks for, by its words alone.
 use kind::FoundKind;
 use kind::Kind;
+use layout::add_route4;
+use layout::route;
 ghost use mathlib.Core.Path.{_≡_};
 ghost use mathlib.Core.Bool.{cond};
 ghost use Prim.Native.Nat.{_≤_, _<_};
@@ -43,10 +45,10 @@ pub fn table_named(q: &[u32]) -> u32
     requires { ⌜ 12 ≤ length (now q) ⌝ }
     ensures { λ r. ⌜ r ≡ tableNamed (now (q .entry)) ⌝ }
 {
-    if q[0] == 0 {
+    if q[route::TABLE] == 0 {
         return layout::TABLE_MAIN;
     }
-    q[0]
+    q[route::TABLE]
 }
 
 // A length over 32, or bits outside it.
@@ -54,10 +56,10 @@ pub fn bad_prefix(q: &[u32]) -> bool
     requires { ⌜ 12 ≤ length (now q) ⌝ }
     ensures { λ r. ⌜ r ≡ badPrefix (now (q .entry)) ⌝ }
 {
-    if 32 < q[2] {
+    if 32 < q[route::LEN] {
         return true;
     }
-    prefix::host_bits4(q[1], q[2]) != 0
+    prefix::host_bits4(q[route::DST], q[route::LEN]) != 0
 }
 
 // No request may set RTNH_F_DEAD or RTNH_F_LINKDOWN.
@@ -65,7 +67,7 @@ fn dead_flags(q: &[u32]) -> bool
     requires { ⌜ length (now q) ≡ 34 ⌝ }
     ensures { λ r. ⌜ r ≡ deadFlags (now (q .entry)) ⌝ }
 {
-    (q[13] & 0x01 != 0) | (q[13] & 0x10 != 0)
+    (q[add_route4::FLAGS] & 0x01 != 0) | (q[add_route4::FLAGS] & 0x10 != 0)
 }
 
 // RTNH_F_ONLINK.
@@ -73,7 +75,7 @@ pub fn onlink_flag(q: &[u32]) -> bool
     requires { ⌜ length (now q) ≡ 34 ⌝ }
     ensures { λ r. ⌜ r ≡ onlinkFlag (now (q .entry)) ⌝ }
 {
-    q[13] & 0x04 != 0
+    q[add_route4::FLAGS] & 0x04 != 0
 }
 
 // What a kind that isn't one of the seven is refused with.
@@ -101,13 +103,16 @@ pub fn form_check(q: &[u32]) -> u32
     requires { ⌜ length (now q) ≡ 34 ⌝ }
     ensures { λ r. ⌜ r ≡ formCheck (now (q .entry)) ⌝ }
 {
-    let narrow = q[7] < kind::least_scope(q[5]);
-    let known = known_kind(q[5]);
+    let narrow = q[route::SCOPE] < kind::least_scope(q[route::KIND]);
+    let known = known_kind(q[route::KIND]);
     first_of(
         refuse(bad_prefix(q), layout::INVALID),
         first_of(
             refuse(narrow | dead_flags(q), layout::INVALID),
-            first_of(q[15], refuse(!known, unknown_kind(q[5]))),
+            first_of(
+                q[add_route4::METRICS_ERROR],
+                refuse(!known, unknown_kind(q[route::KIND])),
+            ),
         ),
     )
 }
@@ -119,21 +124,21 @@ pub fn asked_route(q: &[u32], linked: bool, out: &mut [u32])
 {
     let head = [
         table_named(q),
-        q[1],
-        q[2],
-        q[3],
-        q[4],
-        q[5],
-        q[6],
-        q[7],
-        q[8],
-        q[9],
-        q[10],
-        q[11],
-        mark(kind::error_of(q[5]) == 0),
+        q[route::DST],
+        q[route::LEN],
+        q[route::TOS],
+        q[route::PRIORITY],
+        q[route::KIND],
+        q[route::PROTO],
+        q[route::SCOPE],
+        q[route::PREFSRC_PRESENT],
+        q[route::PREFSRC],
+        q[route::GATEWAY_PRESENT],
+        q[route::GATEWAY],
+        mark(kind::error_of(q[route::KIND]) == 0),
         mark(onlink_flag(q)),
         mark(linked),
     ];
     words::store(out, 0, &head);
-    words::store(out, 15, &q[16..33]);
+    words::store(out, route::METRICS, &q[add_route4::METRICS..add_route4::UP]);
 }

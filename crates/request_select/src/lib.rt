@@ -1,4 +1,7 @@
 // The row that a request to delete a route names.
+use layout::ROUTE_WORDS;
+use layout::del_route4;
+use layout::route;
 ghost use mathlib.Core.Path.{_≡_};
 ghost use mathlib.Core.Bool.{true};
 ghost use Prim.Native.Nat.{_*_, _≤_};
@@ -17,7 +20,11 @@ fn same_place(q: &[u32], t: u32, r: &[u32]) -> bool
     requires { ⌜ (length (now q) ≡ 49) × (length (now r) ≡ 32) ⌝ }
     ensures { λ b. ⌜ b ≡ samePlace (now (q .entry)) t (now (r .entry)) ⌝ }
 {
-    (r[0] == t) & (r[1] == q[1]) & (r[2] == q[2]) & (r[3] == q[3]) & (q[4] <= r[4])
+    (r[route::TABLE] == t)
+        & (r[route::DST] == q[route::DST])
+        & (r[route::LEN] == q[route::LEN])
+        & (r[route::TOS] == q[route::TOS])
+        & (q[route::PRIORITY] <= r[route::PRIORITY])
 }
 
 // Each other field matches any where it is 0 or absent, 255 for the scope.
@@ -25,12 +32,14 @@ fn same_fields(q: &[u32], r: &[u32]) -> bool
     requires { ⌜ (length (now q) ≡ 49) × (length (now r) ≡ 32) ⌝ }
     ensures { λ b. ⌜ b ≡ sameFields (now (q .entry)) (now (r .entry)) ⌝ }
 {
-    ((q[5] == 0) | (r[5] == q[5]))
-        & ((q[7] == 255) | (r[7] == q[7]))
-        & ((q[8] == 0) | ((r[8] == 1) & (r[9] == q[9])))
-        & ((q[6] == 0) | (r[6] == q[6]))
-        & ((q[12] == 0) | ((q[12] == 1) & (r[12] == 1)))
-        & ((q[10] == 0) | ((r[10] == 1) & (r[11] == q[11])))
+    ((q[route::KIND] == 0) | (r[route::KIND] == q[route::KIND]))
+        & ((q[route::SCOPE] == 255) | (r[route::SCOPE] == q[route::SCOPE]))
+        & ((q[route::PREFSRC_PRESENT] == 0)
+            | ((r[route::PREFSRC_PRESENT] == 1) & (r[route::PREFSRC] == q[route::PREFSRC])))
+        & ((q[route::PROTO] == 0) | (r[route::PROTO] == q[route::PROTO]))
+        & ((q[del_route4::OIF] == 0) | ((q[del_route4::OIF] == 1) & (r[route::DEVICE] == 1)))
+        & ((q[route::GATEWAY_PRESENT] == 0)
+            | ((r[route::GATEWAY_PRESENT] == 1) & (r[route::GATEWAY] == q[route::GATEWAY])))
 }
 
 fn wide(n: u32) -> usize
@@ -44,12 +53,12 @@ fn has_metrics(q: &[u32], r: &[u32]) -> bool
     requires { ⌜ (length (now q) ≡ 49) × (fitDelRoute4 (now q) ≡ true) × (length (now r) ≡ 32) ⌝ }
     ensures { λ b. ⌜ b ≡ hasMetrics (now (q .entry)) (now (r .entry)) ⌝ }
 {
-    let n = wide(q[14]);
-    let mut same = q[13] == 1;
+    let n = wide(q[del_route4::PAIR_COUNT]);
+    let mut same = q[del_route4::LIST_PRESENT] == 1;
     let mut i = 0usize;
     while i < n {
-        let index = wide(q[15 + 2 * i]);
-        same = same & (r[15 + index] == q[16 + 2 * i]);
+        let index = wide(q[del_route4::PAIRS + 2 * i]);
+        same = same & (r[route::METRICS + index] == q[del_route4::PAIR_VALUES + 2 * i]);
         i += 1;
     }
     same
@@ -76,8 +85,8 @@ pub fn select_route(rows: &[u32], n: usize, q: &[u32]) -> usize
     let t = request_route::table_named(q);
     let mut i = 0usize;
     while i < n {
-        let at = 32 * i;
-        if selects(q, t, &rows[at..at + 32]) {
+        let at = ROUTE_WORDS * i;
+        if selects(q, t, &rows[at..at + ROUTE_WORDS]) {
             return i;
         }
         i += 1;

@@ -1,4 +1,6 @@
 // An IPv4 address: its record, read from a row of words, and the methods that take it by value.
+use layout::ADDRESS_WORDS;
+use layout::address;
 use life::Left;
 use life::Life;
 use life::Lifetimes;
@@ -138,7 +140,7 @@ impl V4 {
 
 impl V4 {
     // Its row, from which it is read again.
-    pub fn words(self) -> [u32; 20]
+    pub fn words(self) -> [u32; ADDRESS_WORDS]
         ensures { λ r. ⌜ r ≡ rowOf self ⌝ }
         ensures { λ r. ⌜ v4Of r ≡ self ⌝ }
     {
@@ -185,8 +187,13 @@ pub fn label_of(row: &[u32]) -> Label
     ensures { λ r. ⌜ r ≡ labelOf (now (row .entry)) ⌝ }
 {
     Label {
-        len: row[8],
-        words: [row[9], row[10], row[11], row[12]],
+        len: row[address::LABEL_LENGTH],
+        words: [
+            row[address::LABEL],
+            row[address::LABEL_1],
+            row[address::LABEL_2],
+            row[address::LABEL_3],
+        ],
     }
 }
 
@@ -194,11 +201,11 @@ pub fn life_of(row: &[u32]) -> Life
     requires { ⌜ length (now row) ≡ 20 ⌝ }
     ensures { λ r. ⌜ r ≡ lifeOf (now (row .entry)) ⌝ }
 {
-    let created = Nanoseconds::of_words(row[16], row[17]);
-    let changed = Nanoseconds::of_words(row[18], row[19]);
+    let created = Nanoseconds::of_words(row[address::CREATED], row[address::CREATED_HIGH]);
+    let changed = Nanoseconds::of_words(row[address::CHANGED], row[address::CHANGED_HIGH]);
     Life {
-        valid: Seconds(row[14]),
-        preferred: Seconds(row[15]),
+        valid: Seconds(row[address::VALID]),
+        preferred: Seconds(row[address::PREFERRED]),
         created: created,
         changed: changed,
     }
@@ -209,19 +216,19 @@ pub fn v4_of(row: &[u32]) -> V4
     requires { ⌜ length (now row) ≡ 20 ⌝ }
     ensures { λ r. ⌜ r ≡ v4Of (now (row .entry)) ⌝ }
 {
-    let broadcast = optional_of(row[3], row[4]);
+    let broadcast = optional_of(row[address::BROADCAST_PRESENT], row[address::BROADCAST]);
     let label = label_of(row);
     let life = life_of(row);
     V4 {
-        local: row[0],
-        address: row[1],
-        prefix: row[2],
+        local: row[address::LOCAL],
+        address: row[address::ADDRESS],
+        prefix: row[address::PREFIX],
         broadcast: broadcast,
-        scope: row[5],
-        flags: row[6],
-        proto: row[7],
+        scope: row[address::SCOPE],
+        flags: row[address::FLAGS],
+        proto: row[address::PROTO],
         label: label,
-        priority: row[13],
+        priority: row[address::PRIORITY],
         life: life,
     }
 }
@@ -267,14 +274,20 @@ pub fn fit_optional(present: u32, value: u32) -> bool
 pub fn fit_address(row: &[u32]) -> bool
     ensures { λ r. ⌜ r ≡ fitAddress (now (row .entry)) ⌝ }
 {
-    if row.len() != 20 {
+    if row.len() != ADDRESS_WORDS {
         return false;
     }
-    (row[2] <= 32)
-        & fit_optional(row[3], row[4])
-        & (row[5] < 256)
-        & (row[7] < 256)
-        & fit_label(row[8], row[9], row[10], row[11], row[12])
+    (row[address::PREFIX] <= 32)
+        & fit_optional(row[address::BROADCAST_PRESENT], row[address::BROADCAST])
+        & (row[address::SCOPE] < 256)
+        & (row[address::PROTO] < 256)
+        & fit_label(
+            row[address::LABEL_LENGTH],
+            row[address::LABEL],
+            row[address::LABEL_1],
+            row[address::LABEL_2],
+            row[address::LABEL_3],
+        )
 }
 
 pub enum LeftReply {

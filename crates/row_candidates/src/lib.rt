@@ -1,4 +1,6 @@
 // The routes that an address brings, and those that go with it, as rows written into a lent block.
+use layout::ROUTE_WORDS;
+use layout::address;
 ghost use mathlib.Core.Path.{_≡_};
 ghost use mathlib.Core.List.{List};
 ghost use Prim.Native.Nat.{_+_, _*_, _≤_};
@@ -77,8 +79,8 @@ pub fn prefix_route4(out: &mut [u32], at: usize, a: &[u32], priority: u32, sourc
     requires { ⌜ (length (now a) ≡ 20) × (prefix (now a) ≤ 32) ⌝ }
     ensures { λ _. ⌜ now (out .exit) ≡ put at (subnetRoute priority source (now (a .entry))) (now (out .entry)) ⌝ }
 {
-    let len = a[2];
-    let network = prefix::network4(a[1], len);
+    let len = a[address::PREFIX];
+    let network = prefix::network4(a[address::ADDRESS], len);
     kernel_route(out, at, network, len, priority, layout::KIND_LOCAL, source);
 }
 
@@ -92,7 +94,15 @@ fn append_named(out: &mut [u32], k: usize, a: &[u32], source: u32) -> usize
     if !row_subnet::names_broadcast(a) {
         return k;
     }
-    kernel_route(out, 32 * k, a[4], 32, 0, layout::KIND_BROADCAST, source);
+    kernel_route(
+        out,
+        ROUTE_WORDS * k,
+        a[address::BROADCAST],
+        32,
+        0,
+        layout::KIND_BROADCAST,
+        source,
+    );
     k + 1
 }
 
@@ -106,7 +116,7 @@ fn append_prefix(out: &mut [u32], k: usize, a: &[u32], priority: u32, source: u3
     if !row_subnet::brings_prefix(a) {
         return k;
     }
-    prefix_route4(out, 32 * k, a, priority, source);
+    prefix_route4(out, ROUTE_WORDS * k, a, priority, source);
     k + 1
 }
 
@@ -120,8 +130,16 @@ fn append_subnet(out: &mut [u32], k: usize, a: &[u32], source: u32) -> usize
     if !row_subnet::brings_broadcast(a) {
         return k;
     }
-    let last = prefix::broadcast4(a[1], a[2]);
-    kernel_route(out, 32 * k, last, 32, 0, layout::KIND_BROADCAST, source);
+    let last = prefix::broadcast4(a[address::ADDRESS], a[address::PREFIX]);
+    kernel_route(
+        out,
+        ROUTE_WORDS * k,
+        last,
+        32,
+        0,
+        layout::KIND_BROADCAST,
+        source,
+    );
     k + 1
 }
 
@@ -133,7 +151,7 @@ pub fn up_routes(out: &mut [u32], k: usize, a: &[u32], source: u32) -> usize
     ensures { λ r. ⌜ Appended (upRoutes source (now (a .entry))) k r (now (out .entry)) (now (out .exit)) ⌝ }
 {
     let named = append_named(out, k, a, source);
-    let routed = append_prefix(out, named, a, a[13], source);
+    let routed = append_prefix(out, named, a, a[address::PRIORITY], source);
     append_subnet(out, routed, a, source)
 }
 
@@ -146,7 +164,7 @@ pub fn candidates(addresses: &[u32], n: usize, a: &[u32], up: bool, out: &mut [u
     ensures { λ r. ⌜ ((l : List Row) → Laid 20 fitAddress (now (addresses .entry)) l → (r ≡ length (candidates l up (now (a .entry)))) × (now (out .exit) ≡ put 0 (flat (candidates l up (now (a .entry)))) (now (out .entry)))) ⌝ }
 {
     let source = row_subnet::primary_of(addresses, n, a);
-    kernel_route(out, 0, a[0], 32, 0, layout::KIND_LOCAL, source);
+    kernel_route(out, 0, a[address::LOCAL], 32, 0, layout::KIND_LOCAL, source);
     if !up {
         return 1;
     }
@@ -165,6 +183,14 @@ pub fn leaving(addresses: &[u32], n: usize, a: &[u32], out: &mut [u32]) -> usize
     let routed = append_prefix(out, 0, a, 0, source);
     let named = append_named(out, routed, a, source);
     let last = append_subnet(out, named, a, source);
-    kernel_route(out, 32 * last, a[0], 32, 0, layout::KIND_LOCAL, source);
+    kernel_route(
+        out,
+        ROUTE_WORDS * last,
+        a[address::LOCAL],
+        32,
+        0,
+        layout::KIND_LOCAL,
+        source,
+    );
     last + 1
 }

@@ -1,6 +1,9 @@
 // A route row: its record, whether it is fit, and its place in the order of routes.
 use kind::FoundKind;
 use kind::Kind;
+use layout::METRICS;
+use layout::ROUTE_WORDS;
+use layout::route;
 use row_address::Optional;
 ghost use mathlib.Core.Path.{_≡_};
 ghost use Prim.Native.Nat.{_≤_};
@@ -29,7 +32,7 @@ pub struct Route4 {
     pub onlink: bool,
     // Whether its gateway is reached by a route of link scope.
     pub uses_gateway: bool,
-    pub metrics: [u32; 17],
+    pub metrics: [u32; METRICS],
 }
 
 // The kind of a code; one that is none of the seven reads as a unicast route's.
@@ -52,12 +55,12 @@ fn bit(b: bool) -> u32
     0
 }
 
-fn metrics_of(row: &[u32]) -> [u32; 17]
+fn metrics_of(row: &[u32]) -> [u32; METRICS]
     requires { ⌜ length (now row) ≡ 32 ⌝ }
     ensures { λ r. ⌜ r ≡ drop 15 (now (row .entry)) ⌝ }
 {
-    let mut metrics = [0u32; 17];
-    words::copy(&mut metrics, &row[15..32]);
+    let mut metrics = [0u32; METRICS];
+    words::copy(&mut metrics, &row[route::METRICS..ROUTE_WORDS]);
     metrics
 }
 
@@ -66,24 +69,24 @@ pub fn route4_of(row: &[u32]) -> Route4
     requires { ⌜ length (now row) ≡ 32 ⌝ }
     ensures { λ r. ⌜ r ≡ route4Of (now (row .entry)) ⌝ }
 {
-    let kind = kind_of(row[5]);
-    let prefsrc = row_address::optional_of(row[8], row[9]);
-    let gateway = row_address::optional_of(row[10], row[11]);
+    let kind = kind_of(row[route::KIND]);
+    let prefsrc = row_address::optional_of(row[route::PREFSRC_PRESENT], row[route::PREFSRC]);
+    let gateway = row_address::optional_of(row[route::GATEWAY_PRESENT], row[route::GATEWAY]);
     let metrics = metrics_of(row);
     Route4 {
-        table: row[0],
-        dst: row[1],
-        len: row[2],
-        tos: row[3],
-        priority: row[4],
+        table: row[route::TABLE],
+        dst: row[route::DST],
+        len: row[route::LEN],
+        tos: row[route::TOS],
+        priority: row[route::PRIORITY],
         kind: kind,
-        proto: row[6],
-        scope: row[7],
+        proto: row[route::PROTO],
+        scope: row[route::SCOPE],
         prefsrc: prefsrc,
         gateway: gateway,
-        device: row[12] == 1,
-        onlink: row[13] == 1,
-        uses_gateway: row[14] == 1,
+        device: row[route::DEVICE] == 1,
+        onlink: row[route::ONLINK] == 1,
+        uses_gateway: row[route::USES_GATEWAY] == 1,
         metrics: metrics,
     }
 }
@@ -99,7 +102,7 @@ pub fn record_of(row: &[u32]) -> Route4
 
 impl Route4 {
     // Its row, from which it is read again.
-    pub fn words(self) -> [u32; 32]
+    pub fn words(self) -> [u32; ROUTE_WORDS]
         ensures { λ r. ⌜ r ≡ rowOf self ⌝ }
         ensures { λ r. ⌜ route4Of r ≡ self ⌝ }
     {
@@ -124,9 +127,9 @@ impl Route4 {
             bit(self.onlink),
             bit(self.uses_gateway),
         ];
-        let mut row = [0u32; 32];
+        let mut row = [0u32; ROUTE_WORDS];
         words::store(&mut row, 0, &head);
-        words::store(&mut row, 15, &metrics);
+        words::store(&mut row, route::METRICS, &metrics);
         row
     }
 }
@@ -143,22 +146,22 @@ fn no_host_bits(ip: u32, prefix: u32) -> bool
 pub fn fit_route(r: &[u32]) -> bool
     ensures { λ x. ⌜ x ≡ fitRoute (now (r .entry)) ⌝ }
 {
-    if r.len() != 32 {
+    if r.len() != ROUTE_WORDS {
         return false;
     }
-    if 32 < r[2] {
+    if 32 < r[route::LEN] {
         return false;
     }
-    no_host_bits(r[1], r[2])
-        & (r[3] < 256)
-        & (r[6] < 256)
-        & (r[7] < 256)
-        & kind::is_kind(r[5])
-        & row_address::fit_optional(r[8], r[9])
-        & row_address::fit_optional(r[10], r[11])
-        & (r[12] <= 1)
-        & (r[13] <= 1)
-        & (r[14] <= 1)
+    no_host_bits(r[route::DST], r[route::LEN])
+        & (r[route::TOS] < 256)
+        & (r[route::PROTO] < 256)
+        & (r[route::SCOPE] < 256)
+        & kind::is_kind(r[route::KIND])
+        & row_address::fit_optional(r[route::PREFSRC_PRESENT], r[route::PREFSRC])
+        & row_address::fit_optional(r[route::GATEWAY_PRESENT], r[route::GATEWAY])
+        & (r[route::DEVICE] <= 1)
+        & (r[route::ONLINK] <= 1)
+        & (r[route::USES_GATEWAY] <= 1)
 }
 
 // The place of a is before that of b. Most rows differ in their destinations, so these are asked first.
@@ -166,11 +169,11 @@ pub fn before(a: &[u32], b: &[u32]) -> bool
     requires { ⌜ (length (now a) ≡ 32) × (length (now b) ≡ 32) ⌝ }
     ensures { λ r. ⌜ r ≡ before (now (a .entry)) (now (b .entry)) ⌝ }
 {
-    if a[1] != b[1] {
-        return a[1] < b[1];
+    if a[route::DST] != b[route::DST] {
+        return a[route::DST] < b[route::DST];
     }
-    let priority = (a[3] == b[3]) & (a[4] < b[4]);
-    let tos = (a[0] == b[0]) & ((b[3] < a[3]) | priority);
-    let table = (a[2] == b[2]) & ((b[0] < a[0]) | tos);
-    (b[2] < a[2]) | table
+    let priority = (a[route::TOS] == b[route::TOS]) & (a[route::PRIORITY] < b[route::PRIORITY]);
+    let tos = (a[route::TABLE] == b[route::TABLE]) & ((b[route::TOS] < a[route::TOS]) | priority);
+    let table = (a[route::LEN] == b[route::LEN]) & ((b[route::TABLE] < a[route::TABLE]) | tos);
+    (b[route::LEN] < a[route::LEN]) | table
 }

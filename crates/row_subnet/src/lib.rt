@@ -1,4 +1,6 @@
 // Tests of one address row, and the primary whose subnet an address is in.
+use layout::ADDRESS_WORDS;
+use layout::address;
 ghost use mathlib.Core.Path.{_≡_};
 ghost use mathlib.Core.List.{List};
 ghost use Prim.Native.Nat.{_*_, _≤_};
@@ -17,14 +19,14 @@ pub fn secondary(a: &[u32]) -> bool
     requires { ⌜ length (now a) ≡ 20 ⌝ }
     ensures { λ r. ⌜ r ≡ secondary (now (a .entry)) ⌝ }
 {
-    a[6] & row_address::SECONDARY != 0
+    a[address::FLAGS] & row_address::SECONDARY != 0
 }
 
 pub fn no_prefix_route(a: &[u32]) -> bool
     requires { ⌜ length (now a) ≡ 20 ⌝ }
     ensures { λ r. ⌜ r ≡ noPrefixRoute (now (a .entry)) ⌝ }
 {
-    a[6] & NO_PREFIX_ROUTE != 0
+    a[address::FLAGS] & NO_PREFIX_ROUTE != 0
 }
 
 // Whether ip is in the address's subnet.
@@ -32,7 +34,7 @@ pub fn covers(a: &[u32], ip: u32) -> bool
     requires { ⌜ (length (now a) ≡ 20) × (prefix (now a) ≤ 32) ⌝ }
     ensures { λ r. ⌜ r ≡ covers (now (a .entry)) ip ⌝ }
 {
-    prefix::same_network(ip, a[1], a[2])
+    prefix::same_network(ip, a[address::ADDRESS], a[address::PREFIX])
 }
 
 // Whether b, of 14 words or more, is in the subnet of a.
@@ -41,8 +43,8 @@ pub fn same_subnet(a: &[u32], b: &[u32]) -> bool
     requires { ⌜ 14 ≤ length (now b) ⌝ }
     ensures { λ r. ⌜ r ≡ sameSubnet (now (a .entry)) (now (b .entry)) ⌝ }
 {
-    let within = covers(a, b[1]);
-    (a[2] == b[2]) & within
+    let within = covers(a, b[address::ADDRESS]);
+    (a[address::PREFIX] == b[address::PREFIX]) & within
 }
 
 // Whether it names a broadcast address other than 0.0.0.0 and 255.255.255.255.
@@ -50,8 +52,8 @@ pub fn names_broadcast(a: &[u32]) -> bool
     requires { ⌜ length (now a) ≡ 20 ⌝ }
     ensures { λ r. ⌜ r ≡ namesBroadcast (now (a .entry)) ⌝ }
 {
-    let ip = a[4];
-    (a[3] == 1) & (ip != 0) & (ip != 0xffffffff)
+    let ip = a[address::BROADCAST];
+    (a[address::BROADCAST_PRESENT] == 1) & (ip != 0) & (ip != 0xffffffff)
 }
 
 // Whether its prefix is a network of its own: not the network 0, and no /32 of its own address.
@@ -59,9 +61,9 @@ pub fn own_network(a: &[u32]) -> bool
     requires { ⌜ (length (now a) ≡ 20) × (prefix (now a) ≤ 32) ⌝ }
     ensures { λ r. ⌜ r ≡ ownNetwork (now (a .entry)) ⌝ }
 {
-    let len = a[2];
-    let network = prefix::network4(a[1], len);
-    (network != 0) & !((network == a[0]) & (len == 32))
+    let len = a[address::PREFIX];
+    let network = prefix::network4(a[address::ADDRESS], len);
+    (network != 0) & !((network == a[address::LOCAL]) & (len == 32))
 }
 
 // Whether it brings a prefix route.
@@ -82,7 +84,7 @@ pub fn brings_broadcast(a: &[u32]) -> bool
 {
     let own = own_network(a);
     let second = secondary(a);
-    own & !second & (a[2] < 31)
+    own & !second & (a[address::PREFIX] < 31)
 }
 
 // Whether b is a primary whose subnet a is in.
@@ -104,8 +106,8 @@ pub fn primary_at(addresses: &[u32], n: usize, a: &[u32]) -> usize
 {
     let mut i = 0usize;
     while i < n {
-        let at = 20 * i;
-        let b = &addresses[at..at + 20];
+        let at = ADDRESS_WORDS * i;
+        let b = &addresses[at..at + ADDRESS_WORDS];
         if primary_for(b, a) {
             return i;
         }
@@ -121,11 +123,11 @@ pub fn primary_of(addresses: &[u32], n: usize, a: &[u32]) -> u32
     ensures { λ r. ⌜ ((l : List Row) → Laid 20 fitAddress (now (addresses .entry)) l → r ≡ primaryOf l (now (a .entry))) ⌝ }
 {
     if !secondary(a) {
-        return a[0];
+        return a[address::LOCAL];
     }
     let place = primary_at(addresses, n, a);
     if n <= place {
-        return a[0];
+        return a[address::LOCAL];
     }
-    addresses[20 * place]
+    addresses[ADDRESS_WORDS * place]
 }

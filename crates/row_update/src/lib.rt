@@ -1,4 +1,6 @@
 // The address rows that requests and changes make, written from the start of a lent block on.
+use layout::add_v4;
+use layout::address;
 use life::Life;
 use life::Lifetimes;
 use life::Nanoseconds;
@@ -44,19 +46,19 @@ fn rewritten(out: &mut [u32], a: &[u32], flags: u32, proto: u32, priority: u32, 
     let set_low = changed.low();
     let set_high = changed.high();
     let row = [
-        a[0],
-        a[1],
-        a[2],
-        a[3],
-        a[4],
-        a[5],
+        a[address::LOCAL],
+        a[address::ADDRESS],
+        a[address::PREFIX],
+        a[address::BROADCAST_PRESENT],
+        a[address::BROADCAST],
+        a[address::SCOPE],
         flags,
         proto,
-        a[8],
-        a[9],
-        a[10],
-        a[11],
-        a[12],
+        a[address::LABEL_LENGTH],
+        a[address::LABEL],
+        a[address::LABEL_1],
+        a[address::LABEL_2],
+        a[address::LABEL_3],
         priority,
         life.valid.0,
         life.preferred.0,
@@ -74,8 +76,8 @@ fn lifetimes(q: &[u32]) -> Lifetimes
     ensures { λ r. ⌜ r ≡ lifetimesOf (now (q .entry)) ⌝ }
 {
     Lifetimes {
-        valid: Seconds(q[14]),
-        preferred: Seconds(q[15]),
+        valid: Seconds(q[add_v4::VALID]),
+        preferred: Seconds(q[add_v4::PREFERRED]),
     }
 }
 
@@ -97,9 +99,13 @@ pub fn asked(q: &[u32], clock: Nanoseconds, out: &mut [u32])
     requires { ⌜ 20 ≤ length (now out) ⌝ }
     ensures { λ _. ⌜ now (out .exit) ≡ put 0 (asked (now (q .entry)) (clock .0)) (now (out .entry)) ⌝ }
 {
-    let proto = q[7];
-    let priority = q[13];
-    let flags = row_address::life_flags(as_primary(q[6]), q[14], q[15]);
+    let proto = q[address::PROTO];
+    let priority = q[address::PRIORITY];
+    let flags = row_address::life_flags(
+        as_primary(q[address::FLAGS]),
+        q[add_v4::VALID],
+        q[add_v4::PREFERRED],
+    );
     let new = begun(clock).set(lifetimes(q), clock);
     rewritten(out, q, flags, proto, priority, new);
 }
@@ -111,9 +117,13 @@ pub fn changed_to(q: &[u32], old: &[u32], clock: Nanoseconds, out: &mut [u32])
     requires { ⌜ 20 ≤ length (now out) ⌝ }
     ensures { λ _. ⌜ now (out .exit) ≡ put 0 (changedTo (now (q .entry)) (now (old .entry)) (clock .0)) (now (out .entry)) ⌝ }
 {
-    let proto = q[7];
-    let priority = q[13];
-    let flags = row_address::life_flags(old[6], q[14], q[15]);
+    let proto = q[address::PROTO];
+    let priority = q[address::PRIORITY];
+    let flags = row_address::life_flags(
+        old[address::FLAGS],
+        q[add_v4::VALID],
+        q[add_v4::PREFERRED],
+    );
     let new = row_address::life_of(old).set(lifetimes(q), clock);
     rewritten(out, old, flags, proto, priority, new);
 }
@@ -124,7 +134,14 @@ fn flagged(a: &[u32], flags: u32, out: &mut [u32])
     requires { ⌜ 20 ≤ length (now out) ⌝ }
     ensures { λ _. ⌜ now (out .exit) ≡ put 0 (flagged (now (a .entry)) flags) (now (out .entry)) ⌝ }
 {
-    rewritten(out, a, flags, a[7], a[13], row_address::life_of(a));
+    rewritten(
+        out,
+        a,
+        flags,
+        a[address::PROTO],
+        a[address::PRIORITY],
+        row_address::life_of(a),
+    );
 }
 
 // The row as a secondary.
@@ -133,7 +150,7 @@ pub fn as_secondary(a: &[u32], out: &mut [u32])
     requires { ⌜ 20 ≤ length (now out) ⌝ }
     ensures { λ _. ⌜ now (out .exit) ≡ put 0 (asSecondary (now (a .entry))) (now (out .entry)) ⌝ }
 {
-    flagged(a, second(a[6]), out);
+    flagged(a, second(a[address::FLAGS]), out);
 }
 
 // The row marked as deprecated.
@@ -142,5 +159,5 @@ pub fn deprecate(a: &[u32], out: &mut [u32])
     requires { ⌜ 20 ≤ length (now out) ⌝ }
     ensures { λ _. ⌜ now (out .exit) ≡ put 0 (deprecate (now (a .entry))) (now (out .entry)) ⌝ }
 {
-    flagged(a, deprecated(a[6]), out);
+    flagged(a, deprecated(a[address::FLAGS]), out);
 }

@@ -1,4 +1,6 @@
 // Lookups over rows of routes: one pass, keeping the best.
+use layout::ROUTE_WORDS;
+use layout::route;
 ghost use mathlib.Core.Path.{_≡_};
 ghost use mathlib.Core.Bool.{_&&_};
 ghost use Prim.Native.Nat.{_+_, _*_, _≤_, _<_};
@@ -44,14 +46,14 @@ pub fn fits(r: &[u32], f: Flow) -> bool
     requires { ⌜ (length (now r) ≡ 32) × (getD (now r) 2 0 ≤ 32) ⌝ }
     ensures { λ b. ⌜ b ≡ fits (flowOf f) (now (r .entry)) ⌝ }
 {
-    if r[1] != prefix::network4(f.ip, r[2]) {
+    if r[route::DST] != prefix::network4(f.ip, r[route::LEN]) {
         return false;
     }
     let tos = prefix::flow_tos(f.tos);
-    let error = kind::error_of(r[5]);
-    ((r[3] == 0) | (r[3] == tos))
-        & (f.scope <= r[7])
-        & ((error != 0) | (f.oif == 0) | ((f.oif == 1) & (r[12] == 1)))
+    let error = kind::error_of(r[route::KIND]);
+    ((r[route::TOS] == 0) | (r[route::TOS] == tos))
+        & (f.scope <= r[route::SCOPE])
+        & ((error != 0) | (f.oif == 0) | ((f.oif == 1) & (r[route::DEVICE] == 1)))
 }
 
 // Whether a row of the set fits the flow and is long enough.
@@ -60,7 +62,7 @@ fn better(r: &[u32], set: Tables, f: Flow, least: u32) -> bool
     ensures { λ b. ⌜ b ≡ (setOf set (table (now (r .entry))) && fits (flowOf f) (now (r .entry)) && leb least (len (now (r .entry)))) ⌝ }
 {
     let fit = fits(r, f);
-    ((r[0] == set.one) | (r[0] == set.other)) & fit & (least <= r[2])
+    ((r[route::TABLE] == set.one) | (r[route::TABLE] == set.other)) & fit & (least <= r[route::LEN])
 }
 
 // The place of the row that the set answers with, the number of rows where it has none: one pass, the best so far kept.
@@ -72,11 +74,11 @@ pub fn table_lookup4(rows: &[u32], n: usize, set: Tables, f: Flow) -> usize
     let mut least = 0u32;
     let mut i = 0usize;
     while i < n {
-        let at = 32 * i;
-        let r = &rows[at..at + 32];
+        let at = ROUTE_WORDS * i;
+        let r = &rows[at..at + ROUTE_WORDS];
         if better(r, set, f, least) {
             best = i;
-            least = r[2] + 1;
+            least = r[route::LEN] + 1;
         }
         i += 1;
     }
@@ -103,7 +105,7 @@ fn judge(rows: &[u32], n: usize, place: usize) -> Ruling
     if n <= place {
         return Ruling::Again;
     }
-    let error = kind::error_of(rows[32 * place + 5]);
+    let error = kind::error_of(rows[ROUTE_WORDS * place + route::KIND]);
     if error == 0 {
         return Ruling::Route;
     }
@@ -159,7 +161,7 @@ pub fn addr_type4(rows: &[u32], n: usize, listed: bool, set: Tables, ip: u32) ->
     if n <= place {
         return layout::KIND_UNICAST;
     }
-    let kind = rows[32 * place + 5];
+    let kind = rows[ROUTE_WORDS * place + route::KIND];
     if kind::error_of(kind) != 0 {
         return layout::KIND_UNICAST;
     }

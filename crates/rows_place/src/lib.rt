@@ -1,4 +1,7 @@
 // Where a requested address stands or goes among those that are there, and the row that it becomes.
+use layout::ADDRESS_WORDS;
+use layout::add_v4;
+use layout::address;
 use life::Nanoseconds;
 ghost use mathlib.Core.Path.{_≡_};
 ghost use mathlib.Core.Bool.{true, cond};
@@ -29,7 +32,7 @@ fn yields(new: &[u32], old: &[u32]) -> bool
     ensures { λ r. ⌜ r ≡ yields (now (new .entry)) (now (old .entry)) ⌝ }
 {
     let second = row_subnet::secondary(old);
-    !second & (new[5] <= old[5])
+    !second & (new[address::SCOPE] <= old[address::SCOPE])
 }
 
 // The place where a new address goes: a primary behind the last that it yields to, a secondary at the end.
@@ -45,8 +48,8 @@ pub fn place4(addresses: &[u32], n: usize, new: &[u32]) -> usize
     let mut place = 0usize;
     let mut i = 0usize;
     while i < n {
-        let at = 20 * i;
-        let goes = yields(new, &addresses[at..at + 20]);
+        let at = ADDRESS_WORDS * i;
+        let goes = yields(new, &addresses[at..at + ADDRESS_WORDS]);
         i += 1;
         place = choose(goes, i, place);
     }
@@ -60,7 +63,7 @@ fn same_address(q: &[u32], old: &[u32]) -> bool
     ensures { λ r. ⌜ r ≡ sameAddress (now (q .entry)) (now (old .entry)) ⌝ }
 {
     let same = row_subnet::same_subnet(old, q);
-    (old[0] == q[0]) & same
+    (old[address::LOCAL] == q[address::LOCAL]) & same
 }
 
 // The place of the requested address, the number of rows where it isn't there.
@@ -72,8 +75,8 @@ pub fn same_at(addresses: &[u32], n: usize, q: &[u32]) -> usize
 {
     let mut i = 0usize;
     while i < n {
-        let at = 20 * i;
-        if same_address(q, &addresses[at..at + 20]) {
+        let at = ADDRESS_WORDS * i;
+        if same_address(q, &addresses[at..at + ADDRESS_WORDS]) {
             return i;
         }
         i += 1;
@@ -89,8 +92,8 @@ fn in_subnet(addresses: &[u32], n: usize, q: &[u32]) -> bool
 {
     let mut i = 0usize;
     while i < n {
-        let at = 20 * i;
-        if row_subnet::same_subnet(&addresses[at..at + 20], q) {
+        let at = ADDRESS_WORDS * i;
+        if row_subnet::same_subnet(&addresses[at..at + ADDRESS_WORDS], q) {
             return true;
         }
         i += 1;
@@ -111,7 +114,7 @@ pub fn fresh(addresses: &[u32], n: usize, q: &[u32], clock: Nanoseconds, out: &m
         row_update::asked(q, clock, out);
         return;
     }
-    let mut primary = [0u32; 20];
+    let mut primary = [0u32; ADDRESS_WORDS];
     row_update::asked(q, clock, &mut primary);
     row_update::as_secondary(&primary, out);
 }
@@ -125,5 +128,9 @@ pub fn reroutes(q: &[u32], old: &[u32]) -> bool
     let second = row_subnet::secondary(old);
     let without = row_subnet::no_prefix_route(old);
     let own = row_subnet::own_network(old);
-    (q[17] == 1) & (old[13] != q[13]) & !second & !without & own
+    (q[add_v4::UP] == 1)
+        & (old[address::PRIORITY] != q[address::PRIORITY])
+        & !second
+        & !without
+        & own
 }

@@ -1,4 +1,8 @@
 // The source address for a destination, over rows of addresses and routes.
+use layout::ADDRESS_WORDS;
+use layout::ROUTE_WORDS;
+use layout::address;
+use layout::route;
 ghost use mathlib.Core.Path.{_≡_};
 ghost use Prim.Native.Nat.{_+_, _*_, _≤_, _<_};
 ghost use mathlib.Core.List.{List};
@@ -24,7 +28,8 @@ fn eligible(a: &[u32], scope: u32) -> bool
     requires { ⌜ length (now a) ≡ 20 ⌝ }
     ensures { λ r. ⌜ r ≡ eligible scope (now (a .entry)) ⌝ }
 {
-    (a[6] & row_address::SECONDARY == 0) & ((a[5] <= scope) | (layout::SCOPE_HOST <= scope))
+    (a[address::FLAGS] & row_address::SECONDARY == 0)
+        & ((a[address::SCOPE] <= scope) | (layout::SCOPE_HOST <= scope))
 }
 
 // In the destination's subnet, if there is one.
@@ -32,7 +37,7 @@ fn reaches(a: &[u32], dst_present: bool, dst: u32) -> bool
     requires { ⌜ (length (now a) ≡ 20) × (getD (now a) 2 0 ≤ 32) ⌝ }
     ensures { λ r. ⌜ r ≡ reaches (wanted «dst_present» dst) (now (a .entry)) ⌝ }
 {
-    let near = prefix::same_network(dst, a[1], a[2]);
+    let near = prefix::same_network(dst, a[address::ADDRESS], a[address::PREFIX]);
     !dst_present | near
 }
 
@@ -44,12 +49,12 @@ pub fn select4(addresses: &[u32], n: usize, dst_present: bool, dst: u32, scope: 
     let mut kept = n;
     let mut i = 0usize;
     while i < n {
-        let at = 20 * i;
-        let a = &addresses[at..at + 20];
+        let at = ADDRESS_WORDS * i;
+        let a = &addresses[at..at + ADDRESS_WORDS];
         let fit = eligible(a, scope);
         let near = reaches(a, dst_present, dst);
         if fit & near {
-            return Selected::Local(a[0]);
+            return Selected::Local(a[address::LOCAL]);
         }
         if fit & (kept == n) {
             kept = i;
@@ -59,7 +64,7 @@ pub fn select4(addresses: &[u32], n: usize, dst_present: bool, dst: u32, scope: 
     if n <= kept {
         return Selected::Nothing;
     }
-    Selected::Local(addresses[20 * kept])
+    Selected::Local(addresses[ADDRESS_WORDS * kept])
 }
 
 // The source for a route's row: its preferred source; else for a local one the destination itself, for another the choice by
@@ -68,13 +73,19 @@ pub fn source4(addresses: &[u32], n: usize, row: &[u32], ip: u32) -> Selected
     requires { ⌜ (length (now addresses) ≡ 20 * n) × Lays 20 fitAddress (now addresses) × (length (now row) ≡ 32) ⌝ }
     ensures { λ r. ⌜ ((l : List Row) → Laid 20 fitAddress (now (addresses .entry)) l → localIn r ≡ source4 l (now (row .entry)) ip) ⌝ }
 {
-    if row[8] == 1 {
-        return Selected::Local(row[9]);
+    if row[route::PREFSRC_PRESENT] == 1 {
+        return Selected::Local(row[route::PREFSRC]);
     }
-    if row[5] == layout::KIND_LOCAL {
+    if row[route::KIND] == layout::KIND_LOCAL {
         return Selected::Local(ip);
     }
-    select4(addresses, n, row[10] == 1, row[11], row[7])
+    select4(
+        addresses,
+        n,
+        row[route::GATEWAY_PRESENT] == 1,
+        row[route::GATEWAY],
+        row[route::SCOPE],
+    )
 }
 
 // The source for a destination by the addresses, the routes and whether 253 is listed: 127.0.0.1 where there is no route or no address.
@@ -102,8 +113,8 @@ pub fn source(
     );
     match found {
         rows_lookup::Looked::At(place) => {
-            let at = 32 * place;
-            let chosen = source4(addresses, n, &routes[at..at + 32], ip);
+            let at = ROUTE_WORDS * place;
+            let chosen = source4(addresses, n, &routes[at..at + ROUTE_WORDS], ip);
             match chosen {
                 Selected::Local(a) => a,
                 Selected::Nothing => LOOPBACK,

@@ -1,4 +1,8 @@
 // Whether some address wants a route, without a list of the wanted ones: an address is asked directly.
+use layout::ADDRESS_WORDS;
+use layout::ROUTE_WORDS;
+use layout::address;
+use layout::route;
 ghost use mathlib.Core.Path.{_≡_};
 ghost use mathlib.Core.Bool.{true};
 ghost use mathlib.Core.List.{List};
@@ -16,13 +20,13 @@ fn wants_local(a: &[u32], dst: u32, len: u32) -> bool
     requires { ⌜ (length (now a) ≡ 20) × (prefix (now a) ≤ 32) ⌝ }
     ensures { λ r. ⌜ r ≡ wantsLocal (now (a .entry)) dst len ⌝ }
 {
-    if (dst == a[0]) & (len == 32) {
+    if (dst == a[address::LOCAL]) & (len == 32) {
         return true;
     }
-    if len != a[2] {
+    if len != a[address::PREFIX] {
         return false;
     }
-    let network = prefix::network4(a[1], a[2]);
+    let network = prefix::network4(a[address::ADDRESS], a[address::PREFIX]);
     let brings = row_subnet::brings_prefix(a);
     brings & (dst == network)
 }
@@ -37,8 +41,8 @@ fn wants_broadcast(a: &[u32], dst: u32, len: u32) -> bool
     }
     let names = row_subnet::names_broadcast(a);
     let brings = row_subnet::brings_broadcast(a);
-    let last = prefix::broadcast4(a[1], a[2]);
-    (names & (dst == a[4])) | (brings & (dst == last))
+    let last = prefix::broadcast4(a[address::ADDRESS], a[address::PREFIX]);
+    (names & (dst == a[address::BROADCAST])) | (brings & (dst == last))
 }
 
 // Whether a wants a route of this destination, length and kind while the loopback is up. A route of another kind is nobody's.
@@ -61,13 +65,13 @@ pub fn wanted(addresses: &[u32], n: usize, r: &[u32]) -> bool
     requires { ⌜ length (now r) ≡ 32 ⌝ }
     ensures { λ b. ⌜ ((l : List Row) → Laid 20 fitAddress (now (addresses .entry)) l → b ≡ wanted l (now (r .entry))) ⌝ }
 {
-    let dst = r[1];
-    let len = r[2];
-    let kind = r[5];
+    let dst = r[route::DST];
+    let len = r[route::LEN];
+    let kind = r[route::KIND];
     let mut i = 0usize;
     while i < n {
-        let at = 20 * i;
-        let a = &addresses[at..at + 20];
+        let at = ADDRESS_WORDS * i;
+        let a = &addresses[at..at + ADDRESS_WORDS];
         if wants(a, dst, len, kind) {
             return true;
         }
@@ -81,7 +85,9 @@ pub fn dependents_from(r: &[u32], ip: u32) -> bool
     requires { ⌜ length (now r) ≡ 32 ⌝ }
     ensures { λ b. ⌜ b ≡ dependentOn ip (now (r .entry)) ⌝ }
 {
-    (r[0] == layout::TABLE_MAIN) & (r[8] == 1) & (r[9] == ip)
+    (r[route::TABLE] == layout::TABLE_MAIN)
+        & (r[route::PREFSRC_PRESENT] == 1)
+        & (r[route::PREFSRC] == ip)
 }
 
 // Whether such a row is there.
@@ -91,8 +97,8 @@ pub fn dependents(rows: &[u32], n: usize, ip: u32) -> bool
 {
     let mut i = 0usize;
     while i < n {
-        let at = 32 * i;
-        let r = &rows[at..at + 32];
+        let at = ROUTE_WORDS * i;
+        let r = &rows[at..at + ROUTE_WORDS];
         if dependents_from(r, ip) {
             return true;
         }

@@ -13,7 +13,7 @@ use Rattle.lists.specs.Rows.{sized, length-pad, length-flat}
 use Rattle.layout.specs.Address.{fitAddress}
 use Rattle.layout.specs.Route.{fitRoute}
 use Rattle.definition.specs.State.{State}
-use Rattle.definition.specs.Words.{encode, decode, wellFormed, addressCount, routeCount, tableCount, fitState}
+use Rattle.definition.specs.Words.{encode, decode, wellFormed, addressCount, routeCount, tableCount, fitState, addressesSize, baseSize, routesAt, routesSize, tablesAt}
 use Rattle.definition.specs.Preservation.Fit.{fit-state, sized-addresses, sized-routes}
 use Rattle.definition.specs.Preservation.Encode.{Good, encode-decode, good-decode}
 
@@ -53,29 +53,29 @@ holds-encode st g =
       routesFit = f .ofRoutes .each;
     }
 
-pub holds-decode : (w : List ℕ) → length w ≡ 9507 → wellFormed w ≡ true → Represents w (decode w)
+pub holds-decode : (w : List ℕ) → length w ≡ baseSize → wellFormed w ≡ true → Represents w (decode w)
 holds-decode w l h = let g = holds-encode (decode w) (good-decode w l h) in rw (encode-decode w l h) at g
 
 -- ---- the parts of the words
 module _ (st : State) where
   -- the words before the routes and before the tables, and those behind the addresses
   abbrev pub beforeRoutes : List ℕ
-  beforeRoutes = length (st .addresses) ∷ length (st .routes) ∷ length (st .tables) ∷ pad 1280 (flat (st .addresses))
+  beforeRoutes = length (st .addresses) ∷ length (st .routes) ∷ length (st .tables) ∷ pad addressesSize (flat (st .addresses))
 
   abbrev pub beforeTables : List ℕ
-  beforeTables = length (st .addresses) ∷ length (st .routes) ∷ length (st .tables) ∷ (pad 1280 (flat (st .addresses)) ++ pad 8192 (flat (st .routes)))
+  beforeTables = length (st .addresses) ∷ length (st .routes) ∷ length (st .tables) ∷ (pad addressesSize (flat (st .addresses)) ++ pad routesSize (flat (st .routes)))
 
   abbrev pub counts : List ℕ
   counts = length (st .addresses) ∷ length (st .routes) ∷ length (st .tables) ∷ []
 
   abbrev pub behindAddresses : List ℕ
-  behindAddresses = pad 8192 (flat (st .routes)) ++ pad 32 (st .tables)
+  behindAddresses = pad routesSize (flat (st .routes)) ++ pad 32 (st .tables)
 
-  pub encode-addresses : encode st ≡ counts ++ (pad 1280 (flat (st .addresses)) ++ behindAddresses)
+  pub encode-addresses : encode st ≡ counts ++ (pad addressesSize (flat (st .addresses)) ++ behindAddresses)
   unfolding encode
   encode-addresses = refl
 
-  pub encode-routes : encode st ≡ beforeRoutes ++ (pad 8192 (flat (st .routes)) ++ pad 32 (st .tables))
+  pub encode-routes : encode st ≡ beforeRoutes ++ (pad routesSize (flat (st .routes)) ++ pad 32 (st .tables))
   unfolding encode
   encode-routes = refl
 
@@ -83,7 +83,7 @@ module _ (st : State) where
   unfolding encode
   encode-tables =
       ap (λ (x : List ℕ). length (st .addresses) ∷ length (st .routes) ∷ length (st .tables) ∷ x)
-      (sym (rw append-nil (append-assoc (pad 1280 (flat (st .addresses))) (pad 8192 (flat (st .routes))) (pad 32 (st .tables)))))
+      (sym (rw append-nil (append-assoc (pad addressesSize (flat (st .addresses))) (pad routesSize (flat (st .routes))) (pad 32 (st .tables)))))
 
 module _ {w : List ℕ} {st : State} (h : Represents w st) where
   pub sizedA : sized 20 (st .addresses) ≡ true
@@ -92,19 +92,19 @@ module _ {w : List ℕ} {st : State} (h : Represents w st) where
   pub sizedR : sized 32 (st .routes) ≡ true
   sizedR = sized-routes (st .routes) (h .routesFit)
 
-  wideA : length (pad 1280 (flat (st .addresses))) ≡ 1280
-  wideA = length-pad 1280 (flat (st .addresses)) (omega (arith, length-flat 20 (st .addresses) sizedA, h .addressesWithin))
+  wideA : length (pad addressesSize (flat (st .addresses))) ≡ addressesSize
+  wideA = length-pad addressesSize (flat (st .addresses)) (omega (arith, length-flat 20 (st .addresses) sizedA, h .addressesWithin))
 
-  wideR : length (pad 8192 (flat (st .routes))) ≡ 8192
-  wideR = length-pad 8192 (flat (st .routes)) (omega (arith, length-flat 32 (st .routes) sizedR, h .routesWithin))
+  wideR : length (pad routesSize (flat (st .routes))) ≡ routesSize
+  wideR = length-pad routesSize (flat (st .routes)) (omega (arith, length-flat 32 (st .routes) sizedR, h .routesWithin))
 
-  pub atRoutes : length (beforeRoutes st) ≡ 1283
+  pub atRoutes : length (beforeRoutes st) ≡ routesAt
   atRoutes = omega (arith, wideA)
 
-  pub atTables : length (beforeTables st) ≡ 9475
+  pub atTables : length (beforeTables st) ≡ tablesAt
   atTables = simp length-append (omega (arith, wideA, wideR))
 
-  pub holds-long : length w ≡ 9507
+  pub holds-long : length w ≡ baseSize
   holds-long =
       ap length (h .words ∙ encode-tables st)
       ∙ length-append (beforeTables st) (pad 32 (st .tables) ++ [])
@@ -125,7 +125,7 @@ module _ {w : List ℕ} {st : State} (h : Represents w st) where
 
 -- what the functions over the words need of them
 pub record Sized (w : List ℕ) : Type 0 where
-  pub long : length w ≡ 9507
+  pub long : length w ≡ baseSize
   pub addresses : addressCount w ≤ 64
   pub routes : routeCount w ≤ 256
   pub tables : tableCount w ≤ 32
@@ -142,7 +142,7 @@ sizes-of h =
 pub sizes-valid : {w : List ℕ} → Valid w → Sized w
 sizes-valid v = sizes-of (v .holds)
 
-pub sound-long : {w : List ℕ} → Sound w → length w ≡ 9507
+pub sound-long : {w : List ℕ} → Sound w → length w ≡ baseSize
 sound-long s = holds-long (s .holds)
 
 pub sound-few : {w : List ℕ} → Sound w → addressCount w ≤ 64

@@ -1,5 +1,11 @@
 // The rows of the state's lists, in words that hold a state: three counts, the addresses from 3 on, 20 words each, the
 // routes from 1283 on, 32 words each, the tables from 9475 on.
+use layout::ADDRESS_COUNT;
+use layout::ADDRESS_WORDS;
+use layout::ADDRESSES_AT;
+use layout::ROUTE_COUNT;
+use layout::ROUTE_WORDS;
+use layout::ROUTES_AT;
 ghost use mathlib.Core.Path.{_≡_};
 ghost use mathlib.Core.Bool.{true};
 ghost use Prim.Native.Nat.{_+_, _*_, _≤_, _<_};
@@ -8,7 +14,7 @@ ghost use Rattle.lists.specs.At.{insertAt, removeAt};
 ghost use Rattle.layout.specs.Address.{fitAddress};
 ghost use Rattle.layout.specs.Route.{fitRoute};
 ghost use Rattle.definition.specs.State.{State, withAddresses, withRoutes};
-ghost use Rattle.definition.specs.Words.{addressCount, routeCount};
+ghost use Rattle.definition.specs.Words.{addressCount, routeCount, baseSize};
 ghost use Rattle.state.specs.Represents.{Represents, Valid};
 
 // A count as a place.
@@ -19,17 +25,17 @@ pub fn wide(n: u32) -> usize
 }
 
 pub fn address_count(s: &[u32]) -> usize
-    requires { ⌜ length (now s) ≡ 9507 ⌝ }
+    requires { ⌜ length (now s) ≡ baseSize ⌝ }
     ensures { λ r. ⌜ r ≡ addressCount (now (s .entry)) ⌝ }
 {
-    wide(s[0])
+    wide(s[ADDRESS_COUNT])
 }
 
 pub fn route_count(s: &[u32]) -> usize
-    requires { ⌜ length (now s) ≡ 9507 ⌝ }
+    requires { ⌜ length (now s) ≡ baseSize ⌝ }
     ensures { λ r. ⌜ r ≡ routeCount (now (s .entry)) ⌝ }
 {
-    wide(s[1])
+    wide(s[ROUTE_COUNT])
 }
 
 // A row before row i.
@@ -39,9 +45,14 @@ pub fn insert_address(s: &mut [u32], i: usize, row: &[u32])
     requires { ⌜ fitAddress (now row) ≡ true ⌝ }
     ensures { λ _. ⌜ ((st : State) → Represents (now (s .entry)) st → Represents (now (s .exit)) (withAddresses (insertAt i (now (row .entry)) (st .addresses)) st)) ⌝ }
 {
-    let n = s[0];
-    words::insert(s, 3 + 20 * i, 20 * (wide(n) - i), row);
-    s[0] = n + 1;
+    let n = s[ADDRESS_COUNT];
+    words::insert(
+        s,
+        ADDRESSES_AT + ADDRESS_WORDS * i,
+        ADDRESS_WORDS * (wide(n) - i),
+        row,
+    );
+    s[ADDRESS_COUNT] = n + 1;
 }
 
 // Row i goes.
@@ -50,9 +61,14 @@ pub fn remove_address(s: &mut [u32], i: usize)
     requires { ⌜ i < addressCount (now s) ⌝ }
     ensures { λ _. ⌜ ((st : State) → Represents (now (s .entry)) st → Represents (now (s .exit)) (withAddresses (removeAt i (st .addresses)) st)) ⌝ }
 {
-    let n = s[0] - 1;
-    words::remove(s, 3 + 20 * i, 20, 20 * (wide(n) - i));
-    s[0] = n;
+    let n = s[ADDRESS_COUNT] - 1;
+    words::remove(
+        s,
+        ADDRESSES_AT + ADDRESS_WORDS * i,
+        ADDRESS_WORDS,
+        ADDRESS_WORDS * (wide(n) - i),
+    );
+    s[ADDRESS_COUNT] = n;
 }
 
 // Another row in place of row i.
@@ -62,7 +78,7 @@ pub fn replace_address(s: &mut [u32], i: usize, row: &[u32])
     requires { ⌜ fitAddress (now row) ≡ true ⌝ }
     ensures { λ _. ⌜ ((st : State) → Represents (now (s .entry)) st → Represents (now (s .exit)) (withAddresses (set (st .addresses) i (now (row .entry))) st)) ⌝ }
 {
-    words::store(s, 3 + 20 * i, row);
+    words::store(s, ADDRESSES_AT + ADDRESS_WORDS * i, row);
 }
 
 pub fn insert_route(s: &mut [u32], i: usize, row: &[u32])
@@ -71,9 +87,14 @@ pub fn insert_route(s: &mut [u32], i: usize, row: &[u32])
     requires { ⌜ fitRoute (now row) ≡ true ⌝ }
     ensures { λ _. ⌜ ((st : State) → Represents (now (s .entry)) st → Represents (now (s .exit)) (withRoutes (insertAt i (now (row .entry)) (st .routes)) st)) ⌝ }
 {
-    let n = s[1];
-    words::insert(s, 1283 + 32 * i, 32 * (wide(n) - i), row);
-    s[1] = n + 1;
+    let n = s[ROUTE_COUNT];
+    words::insert(
+        s,
+        ROUTES_AT + ROUTE_WORDS * i,
+        ROUTE_WORDS * (wide(n) - i),
+        row,
+    );
+    s[ROUTE_COUNT] = n + 1;
 }
 
 pub fn remove_route(s: &mut [u32], i: usize)
@@ -81,9 +102,14 @@ pub fn remove_route(s: &mut [u32], i: usize)
     requires { ⌜ i < routeCount (now s) ⌝ }
     ensures { λ _. ⌜ ((st : State) → Represents (now (s .entry)) st → Represents (now (s .exit)) (withRoutes (removeAt i (st .routes)) st)) ⌝ }
 {
-    let n = s[1] - 1;
-    words::remove(s, 1283 + 32 * i, 32, 32 * (wide(n) - i));
-    s[1] = n;
+    let n = s[ROUTE_COUNT] - 1;
+    words::remove(
+        s,
+        ROUTES_AT + ROUTE_WORDS * i,
+        ROUTE_WORDS,
+        ROUTE_WORDS * (wide(n) - i),
+    );
+    s[ROUTE_COUNT] = n;
 }
 
 pub fn replace_route(s: &mut [u32], i: usize, row: &[u32])
@@ -92,5 +118,5 @@ pub fn replace_route(s: &mut [u32], i: usize, row: &[u32])
     requires { ⌜ fitRoute (now row) ≡ true ⌝ }
     ensures { λ _. ⌜ ((st : State) → Represents (now (s .entry)) st → Represents (now (s .exit)) (withRoutes (set (st .routes) i (now (row .entry))) st)) ⌝ }
 {
-    words::store(s, 1283 + 32 * i, row);
+    words::store(s, ROUTES_AT + ROUTE_WORDS * i, row);
 }

@@ -9,7 +9,7 @@ use lib.ListN.{length, take, drop}
 use Rattle.lists.specs.Lists.{span}
 use Rattle.lists.specs.Laid.{Lays}
 use Rattle.layout.specs.Route.{fitRoute}
-use Rattle.definition.specs.Words.{decode, wellFormed, routeCount, tableCount, noneTwice}
+use Rattle.definition.specs.Words.{decode, wellFormed, routeCount, tableCount, noneTwice, baseSize, tablesAt}
 use Rattle.definition.specs.Reference.Source.{dump4}
 use Rattle.definition.specs.Preservation.Encode.{good-decode}
 use Rattle.definition.specs.Preservation.Fit.{fit-state}
@@ -18,8 +18,9 @@ use Rattle.state.specs.Change.{tables-at}
 use Rattle.state_tables.specs.Listed.{tablesOf}
 use Rattle.state_read.specs.Parts.{routePart, ready-routes}
 use Rattle.rows_dump.specs.Pass.{dumpRows, dump-rows}
+use Rattle.definition.specs.Step.{listingRoom}
 
-module _ (w : List ℕ) (l : length w ≡ 9507) (h : wellFormed w ≡ true) where
+module _ (w : List ℕ) (l : length w ≡ baseSize) (h : wellFormed w ≡ true) where
   pub valid : Valid w
   valid = record { state = decode w; holds = holds-decode w l h }
 
@@ -27,19 +28,19 @@ module _ (w : List ℕ) (l : length w ≡ 9507) (h : wellFormed w ≡ true) wher
   tables-once = rw (tables-at (holds-decode w l h)) (fit-state (decode w) (good-decode w l h .fits) .ofTables)
 
   -- the part of the tables that is lent
-  tables-part : (k : ℕ) → k ≡ tableCount w → take (9475 + k - 9475) (drop 9475 w) ≡ tablesOf w
+  tables-part : (k : ℕ) → k ≡ tableCount w → take (tablesAt + k - tablesAt) (drop tablesAt w) ≡ tablesOf w
   unfolding span
   tables-part k e =
-      let whole : 9475 + k - 9475 ≡ tableCount w = omega arith in
+      let whole : tablesAt + k - tablesAt ≡ tableCount w = omega arith in
       rw whole
 
   -- what the listing over rows asks, and what it then says of the state
-  pub dump-ready : (p : List ℕ) (n k m : ℕ) → p ≡ routePart w → n ≡ routeCount w → k ≡ tableCount w → 8192 ≤ m
+  pub dump-ready : (p : List ℕ) (n k m : ℕ) → p ≡ routePart w → n ≡ routeCount w → k ≡ tableCount w → listingRoom ≤ m
       → (length p ≡ 32 * n)
       × Lays 32 fitRoute p
       × (n ≤ 256)
-      × (length (take (9475 + k - 9475) (drop 9475 w)) ≤ 32)
-      × (noneTwice (take (9475 + k - 9475) (drop 9475 w)) ≡ true)
+      × (length (take (tablesAt + k - tablesAt) (drop tablesAt w)) ≤ 32)
+      × (noneTwice (take (tablesAt + k - tablesAt) (drop tablesAt w)) ≡ true)
       × (32 * n ≤ m)
   dump-ready p n k m e f g room =
       let x = ready-routes p n valid e f in
@@ -47,6 +48,6 @@ module _ (w : List ℕ) (l : length w ≡ 9507) (h : wellFormed w ≡ true) wher
       let many : length (tablesOf w) ≤ 32 = rw (tables-at (holds-decode w l h)) (holds-decode w l h .tablesWithin) in
       (x .0, x .1, few, rw (tables-part k g) many, rw (tables-part k g) tables-once, omega arith)
 
-  pub dumped : (k : ℕ) → k ≡ tableCount w → dumpRows (take (9475 + k - 9475) (drop 9475 w)) (decode w .routes) ≡ dump4 (decode w)
+  pub dumped : (k : ℕ) → k ≡ tableCount w → dumpRows (take (tablesAt + k - tablesAt) (drop tablesAt w)) (decode w .routes) ≡ dump4 (decode w)
   dumped k g =
       ap (λ (x : List ℕ). dumpRows x (decode w .routes)) (tables-part k g ∙ tables-at (holds-decode w l h)) ∙ sym (dump-rows (decode w))

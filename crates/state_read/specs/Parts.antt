@@ -11,7 +11,7 @@ use Rattle.lists.specs.Laid.{Laid, Lays, laid-length}
 use Rattle.layout.specs.Address.{fitAddress}
 use Rattle.layout.specs.Route.{fitRoute}
 use Rattle.definition.specs.State.{State}
-use Rattle.definition.specs.Words.{addressCount, routeCount}
+use Rattle.definition.specs.Words.{addressCount, routeCount, addressesSize, routesAt, routesSize}
 use Rattle.definition.specs.Reference.Lookup.{listed}
 use Rattle.state.specs.Represents.{Represents, Valid, counts, behindAddresses, beforeRoutes, encode-addresses, encode-routes, sizedA, sizedR, atRoutes, count-addresses, count-routes, sizes-valid}
 use Rattle.state.specs.Change.{tables-at}
@@ -22,7 +22,7 @@ abbrev pub addressPart : List ℕ → List ℕ
 addressPart w = take (3 + 20 * addressCount w - 3) (drop 3 w)
 
 abbrev pub routePart : List ℕ → List ℕ
-routePart w = take (1283 + 32 * routeCount w - 1283) (drop 1283 w)
+routePart w = take (routesAt + 32 * routeCount w - routesAt) (drop routesAt w)
 
 -- n words at a place, of words that are laid out so
 part-at : (before flats rest : List ℕ) (at size n : ℕ) → length before ≡ at → length flats ≡ n → take (at + n - at) (drop at (before ++ (pad size flats ++ rest))) ≡ flats
@@ -38,7 +38,7 @@ module _ {w : List ℕ} {st : State} (h : Represents w st) where
       let long : length (flat (st .addresses)) ≡ 20 * addressCount w = length-flat 20 (st .addresses) (sizedA h) ∙ ap (λ (n : ℕ). 20 * n) (sym (count-addresses h)) in
       record {
         words = ap (λ (x : List ℕ). take (3 + 20 * addressCount w - 3) (drop 3 x)) (h .words ∙ encode-addresses st)
-            ∙ part-at (counts st) (flat (st .addresses)) (behindAddresses st) 3 1280 (20 * addressCount w) refl long;
+            ∙ part-at (counts st) (flat (st .addresses)) (behindAddresses st) 3 addressesSize (20 * addressCount w) refl long;
         width = sizedA h;
         fitting = h .addressesFit;
       }
@@ -47,8 +47,8 @@ module _ {w : List ℕ} {st : State} (h : Represents w st) where
   laid-routes =
       let long : length (flat (st .routes)) ≡ 32 * routeCount w = length-flat 32 (st .routes) (sizedR h) ∙ ap (λ (n : ℕ). 32 * n) (sym (count-routes h)) in
       record {
-        words = ap (λ (x : List ℕ). take (1283 + 32 * routeCount w - 1283) (drop 1283 x)) (h .words ∙ encode-routes st)
-            ∙ part-at (beforeRoutes st) (flat (st .routes)) (pad 32 (st .tables)) 1283 8192 (32 * routeCount w) (atRoutes h) long;
+        words = ap (λ (x : List ℕ). take (routesAt + 32 * routeCount w - routesAt) (drop routesAt x)) (h .words ∙ encode-routes st)
+            ∙ part-at (beforeRoutes st) (flat (st .routes)) (pad 32 (st .tables)) routesAt routesSize (32 * routeCount w) (atRoutes h) long;
         width = sizedR h;
         fitting = h .routesFit;
       }
@@ -64,7 +64,7 @@ pub lays-routes : {w : List ℕ} → Valid w → Lays 32 fitRoute (routePart w)
 lays-routes v = record { list = v .state .routes; laid = laid-routes (v .holds) }
 
 -- where the parts end
-pub route-end : {w : List ℕ} → Valid w → (1283 + 32 * routeCount w ≤ length w) × (routeCount w ≤ 256)
+pub route-end : {w : List ℕ} → Valid w → (routesAt + 32 * routeCount w ≤ length w) × (routeCount w ≤ 256)
 route-end v =
     let s = sizes-valid v in
     (omega (arith, s .long, s .routes), s .routes)

@@ -1,4 +1,8 @@
 // What is read of words that hold a state: each function lends the rows in use to the one that works over rows.
+use layout::ADDRESS_WORDS;
+use layout::ADDRESSES_AT;
+use layout::ROUTE_WORDS;
+use layout::ROUTES_AT;
 use rows_lookup::Flow;
 use rows_lookup::Looked;
 use rows_source::Selected;
@@ -21,8 +25,8 @@ pub fn routes(s: &[u32]) -> &[u32]
     ensures { λ r. ⌜ now r ≡ routePart (now (s .entry)) ⌝ }
 {
     let n = state::route_count(s);
-    let e = 1283 + 32 * n;
-    &s[1283..e]
+    let e = ROUTES_AT + ROUTE_WORDS * n;
+    &s[ROUTES_AT..e]
 }
 
 // The words of the addresses in use.
@@ -31,8 +35,8 @@ pub fn addresses(s: &[u32]) -> &[u32]
     ensures { λ r. ⌜ now r ≡ addressPart (now (s .entry)) ⌝ }
 {
     let n = state::address_count(s);
-    let e = 3 + 20 * n;
-    &s[3..e]
+    let e = ADDRESSES_AT + ADDRESS_WORDS * n;
+    &s[ADDRESSES_AT..e]
 }
 
 // The route of a flow.

@@ -21,7 +21,7 @@ use Rattle.lists.specs.At.{flat-append, flat-cons}
 use Rattle.lists.specs.Chop.{chop-more}
 use Rattle.layout.specs.Route.{device, scope}
 use Rattle.definition.specs.State.{State, withRoutes}
-use Rattle.definition.specs.Words.{routeCount}
+use Rattle.definition.specs.Words.{routeCount, baseSize, routesAt, routesSize}
 use Rattle.definition.specs.Reference.Addresses.{down}
 use Rattle.definition.specs.Reference.Removal.{disable}
 use Rattle.state.specs.Represents.{Represents, beforeRoutes, encode-routes, sizedR, atRoutes, count-routes, holds-long}
@@ -92,27 +92,27 @@ module _ (p : Row → Bool) (base k : ℕ) (w : List ℕ) (i : ℕ) (h : base + 
   step-count = then (p row) refl .1 ∙ ap (λ (x : List Row). length x) (sym (keep-next p base k w i))
 
 -- ---- the routes
-pub routes-of : {w : List ℕ} {st : State} → Represents w st → rowsOf 1283 32 w (routeCount w) ≡ st .routes
+pub routes-of : {w : List ℕ} {st : State} → Represents w st → rowsOf routesAt 32 w (routeCount w) ≡ st .routes
 routes-of {w} {st} h =
-    let there : drop 1283 w ≡ pad 8192 (flat (st .routes)) ++ pad 32 (st .tables) =
-    ap (drop 1283) (h .words ∙ encode-routes st) ∙ drop-at (beforeRoutes st) (pad 8192 (flat (st .routes)) ++ pad 32 (st .tables)) 1283 (atRoutes h)
+    let there : drop routesAt w ≡ pad routesSize (flat (st .routes)) ++ pad 32 (st .tables) =
+    ap (drop routesAt) (h .words ∙ encode-routes st) ∙ drop-at (beforeRoutes st) (pad routesSize (flat (st .routes)) ++ pad 32 (st .tables)) routesAt (atRoutes h)
     in
-    rw (count-routes h, there) (chop-pad 8192 32 (st .routes) (pad 32 (st .tables)) (sizedR h))
+    rw (count-routes h, there) (chop-pad routesSize 32 (st .routes) (pad 32 (st .tables)) (sizedR h))
 
 -- the rows that remain, zeros for the others, and their count
 pub retained : {w : List ℕ} {st : State} (p : Row → Bool) → Represents w st
-    → Represents (set (put (1283 + 32 * length (keep p (rowsOf 1283 32 w (routeCount w)))) (zeros (32 * (routeCount w - length (keep p (rowsOf 1283 32 w (routeCount w)))))) (put 1283 (flat (keep p (rowsOf 1283 32 w (routeCount w)))) w)) 1 (length (keep p (rowsOf 1283 32 w (routeCount w)))))
+    → Represents (set (put (routesAt + 32 * length (keep p (rowsOf routesAt 32 w (routeCount w)))) (zeros (32 * (routeCount w - length (keep p (rowsOf routesAt 32 w (routeCount w)))))) (put routesAt (flat (keep p (rowsOf routesAt 32 w (routeCount w)))) w)) 1 (length (keep p (rowsOf routesAt 32 w (routeCount w)))))
     (withRoutes (keep p (st .routes)) st)
 retained {w} {st} p h =
     let rows = keep p (st .routes) in
     let n = length (st .routes) - length rows in
     let some : length rows ≤ length (st .routes) = length-keep-most p (st .routes) in
     let long : length (flat rows) ≡ 32 * length rows = length-flat 32 rows (all-keep (λ r. eqb (length r) 32) p (st .routes) (sizedR h)) in
-    let all : length w ≡ 9507 = holds-long h in
+    let all : length w ≡ baseSize = holds-long h in
     let within : length (st .routes) ≤ 256 = h .routesWithin in
     let none = length-zeros (32 * n) in
     rw (routes-of h, count-routes h)
-    (rw (← long) (rw (← (put-behind 1283 (flat rows) w (omega arith) (zeros (32 * n)) (omega arith))) at (retain-routes h p n (omega arith))))
+    (rw (← long) (rw (← (put-behind routesAt (flat rows) w (omega arith) (zeros (32 * n)) (omega arith))) at (retain-routes h p n (omega arith))))
 
 -- ---- the test, by cases
 pub off-device : (host : Bool) (r : Row) → (device r ≡ 1 → ⊥) → true ≡ remains host r
@@ -141,67 +141,67 @@ no-disable st e = rw (ne-eqb (length (st .addresses)) 0 e)
 -- ---- a pass over the routes
 -- row i, as it is lent
 abbrev pub lentRow : List ℕ → ℕ → List ℕ
-lentRow s i = take (1283 + 32 * i + 32 - (1283 + 32 * i)) (drop (1283 + 32 * i) s)
+lentRow s i = take (routesAt + 32 * i + 32 - (routesAt + 32 * i)) (drop (routesAt + 32 * i) s)
 
-pub lent-span : (s : List ℕ) (i : ℕ) → lentRow s i ≡ span (1283 + 32 * i) 32 s
+pub lent-span : (s : List ℕ) (i : ℕ) → lentRow s i ≡ span (routesAt + 32 * i) 32 s
 unfolding span
-lent-span s i = let whole : 1283 + 32 * i + 32 - (1283 + 32 * i) ≡ 32 = omega arith in ap (λ (n : ℕ). take n (drop (1283 + 32 * i) s)) whole
+lent-span s i = let whole : routesAt + 32 * i + 32 - (routesAt + 32 * i) ≡ 32 = omega arith in ap (λ (n : ℕ). take n (drop (routesAt + 32 * i) s)) whole
 
 -- a row that becomes itself
-pub itself : (s : List ℕ) {i j : ℕ} → i ≡ j → 1283 + 32 * i + 32 ≤ length s → s ≡ put (1283 + 32 * j) (span (1283 + 32 * i) 32 s) s
+pub itself : (s : List ℕ) {i j : ℕ} → i ≡ j → routesAt + 32 * i + 32 ≤ length s → s ≡ put (routesAt + 32 * j) (span (routesAt + 32 * i) 32 s) s
 unfolding put
 itself s {i} {j} e h =
-    let long : length (span (1283 + 32 * i) 32 s) ≡ 32 = length-span (1283 + 32 * i) 32 s h in
-    cut (1283 + 32 * i) 32 s
-    ∙ ap (λ (n : ℕ). take (1283 + 32 * i) s ++ (span (1283 + 32 * i) 32 s ++ drop (1283 + 32 * i + n) s)) (sym long)
-    ∙ ap (λ (n : ℕ). put (1283 + 32 * n) (span (1283 + 32 * i) 32 s) s) e
+    let long : length (span (routesAt + 32 * i) 32 s) ≡ 32 = length-span (routesAt + 32 * i) 32 s h in
+    cut (routesAt + 32 * i) 32 s
+    ∙ ap (λ (n : ℕ). take (routesAt + 32 * i) s ++ (span (routesAt + 32 * i) 32 s ++ drop (routesAt + 32 * i + n) s)) (sym long)
+    ∙ ap (λ (n : ℕ). put (routesAt + 32 * n) (span (routesAt + 32 * i) 32 s) s) e
 
 -- row i was looked at behind j that remain: where it passes it becomes row j, and r remain with it
 pub record Turned (p : Row → Bool) (i j : ℕ) (s s′ : List ℕ) (r : ℕ) : Type 0 where
-  pub count : r ≡ j + cond (p (span (1283 + 32 * i) 32 s)) 1 0
-  pub words : s′ ≡ cond (p (span (1283 + 32 * i) 32 s)) (put (1283 + 32 * j) (span (1283 + 32 * i) 32 s) s) s
+  pub count : r ≡ j + cond (p (span (routesAt + 32 * i) 32 s)) 1 0
+  pub words : s′ ≡ cond (p (span (routesAt + 32 * i) 32 s)) (put (routesAt + 32 * j) (span (routesAt + 32 * i) 32 s) s) s
 
 module _ (p : Row → Bool) (i j : ℕ) (s : List ℕ) where
-  pub turned-stays : p (lentRow s i) ≡ true → {s′ : List ℕ} {r : ℕ} → r ≡ j + 1 → s′ ≡ put (1283 + 32 * j) (span (1283 + 32 * i) 32 s) s → Turned p i j s s′ r
+  pub turned-stays : p (lentRow s i) ≡ true → {s′ : List ℕ} {r : ℕ} → r ≡ j + 1 → s′ ≡ put (routesAt + 32 * j) (span (routesAt + 32 * i) 32 s) s → Turned p i j s s′ r
   turned-stays e c w =
-      let b : p (span (1283 + 32 * i) 32 s) ≡ true = ap p (sym (lent-span s i)) ∙ e in
+      let b : p (span (routesAt + 32 * i) 32 s) ≡ true = ap p (sym (lent-span s i)) ∙ e in
       record { count = c ∙ sym (rw b); words = w ∙ sym (rw b) }
 
   pub turned-goes : p (lentRow s i) ≡ false → Turned p i j s s j
   turned-goes e =
-      let b : p (span (1283 + 32 * i) 32 s) ≡ false = ap p (sym (lent-span s i)) ∙ e in
+      let b : p (span (routesAt + 32 * i) 32 s) ≡ false = ap p (sym (lent-span s i)) ∙ e in
       record { count = rw b (omega arith); words = sym (rw b) }
 
 -- of the first i routes of w those that pass, j of them, stand in front
 pub record Keeping (p : Row → Bool) (w : List ℕ) (i j : ℕ) (s : List ℕ) : Type 0 where
-  pub whole : length w ≡ 9507
-  pub count : j ≡ length (keep p (rowsOf 1283 32 w i))
-  pub words : s ≡ put 1283 (flat (keep p (rowsOf 1283 32 w i))) w
-  pub long : length s ≡ 9507
+  pub whole : length w ≡ baseSize
+  pub count : j ≡ length (keep p (rowsOf routesAt 32 w i))
+  pub words : s ≡ put routesAt (flat (keep p (rowsOf routesAt 32 w i))) w
+  pub long : length s ≡ baseSize
 
-pub keeping-start : (p : Row → Bool) (w : List ℕ) → length w ≡ 9507 → Keeping p w 0 0 w
+pub keeping-start : (p : Row → Bool) (w : List ℕ) → length w ≡ baseSize → Keeping p w 0 0 w
 unfolding flat chop
-keeping-start p w h = record { whole = h; count = refl; words = put-none 1283 w; long = h }
+keeping-start p w h = record { whole = h; count = refl; words = put-none routesAt w; long = h }
 
 module _ {p : Row → Bool} {w : List ℕ} {i j : ℕ} {s : List ℕ} (k : Keeping p w i j s) where
   pub keeping-few : j ≤ i
-  keeping-few = omega (arith, k .count, length-chop 32 i (drop 1283 w), length-keep-most p (rowsOf 1283 32 w i))
+  keeping-few = omega (arith, k .count, length-chop 32 i (drop routesAt w), length-keep-most p (rowsOf routesAt 32 w i))
 
   -- row i still stands
-  pub keeping-row : i < 256 → span (1283 + 32 * i) 32 s ≡ span (1283 + 32 * i) 32 w
-  keeping-row b = ap (span (1283 + 32 * i) 32) (k .words) ∙ read-next p 1283 32 w i (omega (arith, k .whole))
+  pub keeping-row : i < 256 → span (routesAt + 32 * i) 32 s ≡ span (routesAt + 32 * i) 32 w
+  keeping-row b = ap (span (routesAt + 32 * i) 32) (k .words) ∙ read-next p routesAt 32 w i (omega (arith, k .whole))
 
   pub keeping-turn : i < 256 → {s′ : List ℕ} {r : ℕ} → length s′ ≡ length s → Turned p i j s s′ r → Keeping p w (i + 1) r s′
   keeping-turn b l t =
-      let room : 1283 + (32 * i + 32) ≤ length w = omega (arith, k .whole) in
+      let room : routesAt + (32 * i + 32) ≤ length w = omega (arith, k .whole) in
       let row = keeping-row b in
       record {
         whole = k .whole;
-        count = t .count ∙ rw (row, k .count) (step-count p 1283 32 w i room);
-        words = t .words ∙ rw (row, k .count, k .words) (step-words p 1283 32 w i room);
+        count = t .count ∙ rw (row, k .count) (step-count p routesAt 32 w i room);
+        words = t .words ∙ rw (row, k .count, k .words) (step-words p routesAt 32 w i room);
         long = l ∙ k .long;
       }
 
   -- zeros behind them, and their count
-  pub keeping-end : {st : State} → Represents w st → i ≡ routeCount w → Represents (set (put (1283 + 32 * j) (zeros (32 * (i - j))) s) 1 j) (withRoutes (keep p (st .routes)) st)
+  pub keeping-end : {st : State} → Represents w st → i ≡ routeCount w → Represents (set (put (routesAt + 32 * j) (zeros (32 * (i - j))) s) 1 j) (withRoutes (keep p (st .routes)) st)
   keeping-end h e = rw (k .words, k .count, e) (retained p h)

@@ -10,14 +10,14 @@ use lib.ListN.{length, set, length-append}
 use Rattle.lists.specs.Lists.{among, span}
 use Rattle.lists.specs.Split.{among-more}
 use Rattle.definition.specs.State.{State, withTables}
-use Rattle.definition.specs.Words.{tableCount}
+use Rattle.definition.specs.Words.{tableCount, tablesAt}
 use Rattle.definition.specs.Reference.Insert.{addTable, listTable, create4}
 use Rattle.state.specs.Represents.{Represents, Valid, count-tables, sizes-valid}
 use Rattle.state.specs.Change.{tables-at, append-table}
 
 -- the tables that the words list
 abbrev pub tablesOf : List ℕ → List ℕ
-tablesOf w = span 9475 (tableCount w) w
+tablesOf w = span tablesAt (tableCount w) w
 
 module _ {w : List ℕ} {st : State} (h : Represents w st) (t : ℕ) where
   -- a table that is listed already, and one that is not
@@ -27,7 +27,7 @@ module _ {w : List ℕ} {st : State} (h : Represents w st) (t : ℕ) where
       rw f h
 
   pub add-new : among t (tablesOf w) ≡ false → length (addTable t (tablesOf w)) ≤ 32
-      → Represents (set (set w (9475 + tableCount w) t) 2 (tableCount w + 1)) (withTables (addTable t (st .tables)) st)
+      → Represents (set (set w (tablesAt + tableCount w) t) 2 (tableCount w + 1)) (withTables (addTable t (st .tables)) st)
   add-new e room =
       let f : among t (st .tables) ≡ false = ap (among t) (sym (tables-at h)) ∙ e in
       let long : length (st .tables ++ (t ∷ [])) ≤ 32 = rw (tables-at h, f) at room in

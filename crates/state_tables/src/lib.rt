@@ -1,4 +1,6 @@
 // The tables that a state lists.
+use layout::TABLE_COUNT;
+use layout::TABLES_AT;
 ghost use mathlib.Core.Path.{_≡_};
 ghost use Prim.Native.Nat.{_≤_};
 ghost use lib.ListN.{length};
@@ -12,9 +14,9 @@ pub fn listed(s: &[u32], t: u32) -> bool
     requires { ⌜ Valid (now s) ⌝ }
     ensures { λ r. ⌜ r ≡ among t (tablesOf (now (s .entry))) ⌝ }
 {
-    let n = state::wide(s[2]);
-    let e = 9475 + n;
-    words::among(&s[9475..e], t)
+    let n = state::wide(s[TABLE_COUNT]);
+    let e = TABLES_AT + n;
+    words::among(&s[TABLES_AT..e], t)
 }
 
 // A table that is not listed goes to the end.
@@ -26,10 +28,10 @@ pub fn add_table(s: &mut [u32], t: u32)
     if listed(s, t) {
         return;
     }
-    let n = s[2];
-    let e = 9475 + state::wide(n);
+    let n = s[TABLE_COUNT];
+    let e = TABLES_AT + state::wide(n);
     s[e] = t;
-    s[2] = n + 1;
+    s[TABLE_COUNT] = n + 1;
 }
 
 // How many tables there are once t is added.
@@ -38,9 +40,9 @@ fn with_table(s: &[u32], t: u32) -> usize
     ensures { λ r. ⌜ r ≡ length (addTable t (tablesOf (now (s .entry)))) ⌝ }
 {
     if listed(s, t) {
-        return state::wide(s[2]);
+        return state::wide(s[TABLE_COUNT]);
     }
-    state::wide(s[2]) + 1
+    state::wide(s[TABLE_COUNT]) + 1
 }
 
 // How many tables there are once t is listed, and with 255 also 254: past 32 they have no room.

@@ -8,8 +8,7 @@ use native.Mathlib.Nat.{mul-suc}
 use native.Mathlib.Numerals.{add-one}
 use native.Mathlib.Omega.{arith}
 use lib.Dec.{leb}
-use lib.ListN.{length, getD, take, drop, length-drop}
-use lib.Seq.{take-all}
+use lib.ListN.{length, getD, take, drop}
 use borrow.Author.Tests.{le-leb, lt-leb}
 use Rattle.lists.specs.Lists.{Row, all, span, chop, allZero}
 use Rattle.lists.specs.Rows.{length-chop, chop-part}
@@ -18,18 +17,18 @@ use Rattle.lists.specs.Pass.{part-chop}
 use Rattle.lists.specs.Chop.{chop-at}
 use Rattle.layout.specs.Address.{fitAddress}
 use Rattle.layout.specs.Route.{fitRoute}
-use Rattle.definition.specs.Words.{decode, fitState, unusedZero, wellFormed, ordered, distinct, noneTwice}
+use Rattle.definition.specs.Words.{tableLimit, decode, fitState, unusedZero, wellFormed, ordered, distinct, noneTwice, addressesSize, baseSize, routesAt, routesSize, tablesAt}
 
 -- ---- the tests in the code's order
 pub form-tests : (w : List ℕ) {a r n u : Bool} → getD w 0 0 ≤ 64 → getD w 1 0 ≤ 256 → getD w 2 0 ≤ 32
     → a ≡ all fitAddress (chop 20 (getD w 0 0) (drop 3 w))
-    → r ≡ all fitRoute (chop 32 (getD w 1 0) (drop 1283 w)) && ordered (chop 32 (getD w 1 0) (drop 1283 w)) && distinct (chop 32 (getD w 1 0) (drop 1283 w))
-    → n ≡ noneTwice (span 9475 (getD w 2 0) w) → u ≡ unusedZero w → (a && r && n && u) ≡ wellFormed w
+    → r ≡ all fitRoute (chop 32 (getD w 1 0) (drop routesAt w)) && ordered (chop 32 (getD w 1 0) (drop routesAt w)) && distinct (chop 32 (getD w 1 0) (drop routesAt w))
+    → n ≡ noneTwice (span tablesAt (getD w 2 0) w) → u ≡ unusedZero w → (a && r && n && u) ≡ wellFormed w
 unfolding wellFormed decode fitState
 form-tests w x y z ea er en eu =
     rw (ea, er, en, eu, le-leb (getD w 0 0) 64 x, le-leb (getD w 1 0) 256 y, le-leb (getD w 2 0) 32 z)
-    (regroup (all fitAddress (chop 20 (getD w 0 0) (drop 3 w))) (all fitRoute (chop 32 (getD w 1 0) (drop 1283 w))) (ordered (chop 32 (getD w 1 0) (drop 1283 w)))
-    (distinct (chop 32 (getD w 1 0) (drop 1283 w))) (noneTwice (span 9475 (getD w 2 0) w)) (unusedZero w))
+    (regroup (all fitAddress (chop 20 (getD w 0 0) (drop 3 w))) (all fitRoute (chop 32 (getD w 1 0) (drop routesAt w))) (ordered (chop 32 (getD w 1 0) (drop routesAt w)))
+    (distinct (chop 32 (getD w 1 0) (drop routesAt w))) (noneTwice (span tablesAt (getD w 2 0) w)) (unusedZero w))
   where
     regroup : (a b c d e f : Bool) → a && (b && c && d) && e && f ≡ a && b && c && d && e && f
     regroup true b c d e f = refl
@@ -76,30 +75,30 @@ module _ (k n : ℕ) (p : List ℕ) (i : ℕ) where
       all-next (chop k n p) i [] (omega (arith, length-chop k n p)) f
       ∙ ap (λ (x : Bool). x && all f (drop (i + 1) (chop k n p))) (ap f (sym (part-chop k n p i h)) ∙ sym eb ∙ et)
 
-pub unused-tests : (w : List ℕ) {a r t : ℕ} {x y z : Bool} → length w ≡ 9507 → a ≡ getD w 0 0 → r ≡ getD w 1 0 → t ≡ getD w 2 0
-    → x ≡ allZero (take (1283 - (3 + 20 * a)) (drop (3 + 20 * a) w)) → y ≡ allZero (take (9475 - (1283 + 32 * r)) (drop (1283 + 32 * r) w))
-    → z ≡ allZero (take (length w - (9475 + t)) (drop (9475 + t) w)) → (x && y && z) ≡ unusedZero w
+pub unused-tests : (w : List ℕ) {a r t : ℕ} {x y z : Bool} → length w ≡ baseSize → a ≡ getD w 0 0 → r ≡ getD w 1 0 → t ≡ getD w 2 0
+    → x ≡ allZero (take (routesAt - (3 + 20 * a)) (drop (3 + 20 * a) w)) → y ≡ allZero (take (tablesAt - (routesAt + 32 * r)) (drop (routesAt + 32 * r) w))
+    → z ≡ allZero (take (length w - (tablesAt + t)) (drop (tablesAt + t) w)) → (x && y && z) ≡ unusedZero w
 unfolding unusedZero span
 unused-tests w {a} {r} {t} l ea er et ex ey ez =
-    let sa : 1283 - (3 + 20 * a) ≡ 1280 - 20 * a = omega arith in
-    let sr : 9475 - (1283 + 32 * r) ≡ 8192 - 32 * r = omega arith in
-    let st : take (length w - (9475 + t)) (drop (9475 + t) w) ≡ drop (9475 + t) w = take-all (length w - (9475 + t)) (drop (9475 + t) w) (rw length-drop (omega arith)) in
+    let sa : routesAt - (3 + 20 * a) ≡ addressesSize - 20 * a = omega arith in
+    let sr : tablesAt - (routesAt + 32 * r) ≡ routesSize - 32 * r = omega arith in
+    let st : length w - (tablesAt + t) ≡ tableLimit - t = omega arith in
     rw (ex, ey, ez, sa, sr, st, ea, er, et)
 
-pub form-parts : (w : List ℕ) {na nr nt : ℕ} {a r n u : Bool} → length w ≡ 9507 → na ≡ getD w 0 0 → nr ≡ getD w 1 0 → nt ≡ getD w 2 0 → na ≤ 64 → nr ≤ 256 → nt ≤ 32
+pub form-parts : (w : List ℕ) {na nr nt : ℕ} {a r n u : Bool} → length w ≡ baseSize → na ≡ getD w 0 0 → nr ≡ getD w 1 0 → nt ≡ getD w 2 0 → na ≤ 64 → nr ≤ 256 → nt ≤ 32
     → a ≡ all fitAddress (chop 20 na (take (3 + 20 * na - 3) (drop 3 w)))
-    → r ≡ all fitRoute (chop 32 nr (take (1283 + 32 * nr - 1283) (drop 1283 w))) && ordered (chop 32 nr (take (1283 + 32 * nr - 1283) (drop 1283 w))) && distinct (chop 32 nr (take (1283 + 32 * nr - 1283) (drop 1283 w)))
-    → n ≡ noneTwice (take (9475 + nt - 9475) (drop 9475 w)) → u ≡ unusedZero w → (a && r && n && u) ≡ wellFormed w
+    → r ≡ all fitRoute (chop 32 nr (take (routesAt + 32 * nr - routesAt) (drop routesAt w))) && ordered (chop 32 nr (take (routesAt + 32 * nr - routesAt) (drop routesAt w))) && distinct (chop 32 nr (take (routesAt + 32 * nr - routesAt) (drop routesAt w)))
+    → n ≡ noneTwice (take (tablesAt + nt - tablesAt) (drop tablesAt w)) → u ≡ unusedZero w → (a && r && n && u) ≡ wellFormed w
 unfolding span
 form-parts w {na} {nr} {nt} l ea er et xa xr xt fa fr fn fu =
     let pa : chop 20 na (take (3 + 20 * na - 3) (drop 3 w)) ≡ chop 20 na (drop 3 w) =
     ap (λ (m : ℕ). chop 20 na (take m (drop 3 w))) (part-size 3 (20 * na)) ∙ chop-part 3 20 na w (omega arith)
     in
-    let pr : chop 32 nr (take (1283 + 32 * nr - 1283) (drop 1283 w)) ≡ chop 32 nr (drop 1283 w) =
-    ap (λ (m : ℕ). chop 32 nr (take m (drop 1283 w))) (part-size 1283 (32 * nr)) ∙ chop-part 1283 32 nr w (omega arith)
+    let pr : chop 32 nr (take (routesAt + 32 * nr - routesAt) (drop routesAt w)) ≡ chop 32 nr (drop routesAt w) =
+    ap (λ (m : ℕ). chop 32 nr (take m (drop routesAt w))) (part-size routesAt (32 * nr)) ∙ chop-part routesAt 32 nr w (omega arith)
     in
     form-tests w (omega arith) (omega arith) (omega arith)
     (rw (pa, ea) at fa)
     (rw (pr, er) at fr)
-    (rw (part-size 9475 nt, et) at fn)
+    (rw (part-size tablesAt nt, et) at fn)
     fu

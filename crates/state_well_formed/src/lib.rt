@@ -1,5 +1,17 @@
 // Whether words are a well-formed state. Every call asks it: each row in use is looked at, a route beside the next one, and
 // where that has no later place, beside those of its own place behind it; the words not in use are scanned.
+use layout::ADDRESS_COUNT;
+use layout::ADDRESS_LIMIT;
+use layout::ADDRESS_WORDS;
+use layout::ADDRESSES_AT;
+use layout::BASE_WORDS;
+use layout::ROUTE_COUNT;
+use layout::ROUTE_LIMIT;
+use layout::ROUTE_WORDS;
+use layout::ROUTES_AT;
+use layout::TABLE_COUNT;
+use layout::TABLE_LIMIT;
+use layout::TABLES_AT;
 ghost use mathlib.Core.Path.{_≡_};
 ghost use mathlib.Core.Bool.{true, not, _&&_};
 ghost use mathlib.Core.List.{[]};
@@ -9,7 +21,7 @@ ghost use lib.ListN.{length, getD, drop};
 ghost use Rattle.lists.specs.Lists.{Row, all, among, chop, eqRow};
 ghost use Rattle.layout.specs.Address.{fitAddress};
 ghost use Rattle.layout.specs.Route.{fitRoute};
-ghost use Rattle.definition.specs.Words.{stateSize, ordered, distinct, noneTwice, unusedZero, wellFormed, addressCount, routeCount, tableCount};
+ghost use Rattle.definition.specs.Words.{stateSize, ordered, distinct, noneTwice, unusedZero, wellFormed, addressCount, routeCount, tableCount, baseSize};
 ghost use Rattle.definition.specs.Step.{checks};
 ghost use Rattle.state_well_formed.specs.Place.{inPlace};
 ghost use Rattle.state_well_formed.specs.Twice.{marked};
@@ -20,8 +32,8 @@ fn fit_addresses(p: &[u32], n: usize) -> bool
 {
     let mut i = 0usize;
     while i < n {
-        let at = 20 * i;
-        let end = at + 20;
+        let at = ADDRESS_WORDS * i;
+        let end = at + ADDRESS_WORDS;
         if row_address::fit_address(&p[at..end]) {
             i += 1;
         } else {
@@ -37,8 +49,8 @@ fn fit_routes(p: &[u32], n: usize) -> bool
 {
     let mut i = 0usize;
     while i < n {
-        let at = 32 * i;
-        let end = at + 32;
+        let at = ROUTE_WORDS * i;
+        let end = at + ROUTE_WORDS;
         if row_route::fit_route(&p[at..end]) {
             i += 1;
         } else {
@@ -54,12 +66,12 @@ fn apart(p: &[u32], n: usize, i: usize) -> bool
     requires { ⌜ (length (now p) ≡ 32 * n) × (i < n) ⌝ }
     ensures { λ r. ⌜ (ordered (drop i (chop 32 n (now (p .entry)))) ≡ true → r ≡ all (λ (b : Row). not (eqRow (getD (chop 32 n (now (p .entry))) i []) b)) (drop (i + 1) (chop 32 n (now (p .entry))))) ⌝ }
 {
-    let at = 32 * i;
-    let end = at + 32;
+    let at = ROUTE_WORDS * i;
+    let end = at + ROUTE_WORDS;
     let mut j = i + 1;
     while j < n {
-        let from = 32 * j;
-        let to = from + 32;
+        let from = ROUTE_WORDS * j;
+        let to = from + ROUTE_WORDS;
         if row_route::before(&p[at..end], &p[from..to]) {
             return true;
         }
@@ -76,9 +88,9 @@ fn in_place(p: &[u32], n: usize, i: usize) -> bool
     requires { ⌜ (length (now p) ≡ 32 * n) × (i + 1 < n) ⌝ }
     ensures { λ r. ⌜ inPlace (drop i (chop 32 n (now (p .entry)))) ≡ r && inPlace (drop (i + 1) (chop 32 n (now (p .entry)))) ⌝ }
 {
-    let at = 32 * i;
-    let next = at + 32;
-    let end = next + 32;
+    let at = ROUTE_WORDS * i;
+    let next = at + ROUTE_WORDS;
+    let end = next + ROUTE_WORDS;
     if row_route::before(&p[next..end], &p[at..next]) {
         return false;
     }
@@ -93,9 +105,9 @@ fn rising(p: &[u32], n: usize, from: usize) -> usize
 {
     let mut i = from;
     while i + 1 < n {
-        let at = 32 * i;
-        let next = at + 32;
-        let end = next + 32;
+        let at = ROUTE_WORDS * i;
+        let next = at + ROUTE_WORDS;
+        let end = next + ROUTE_WORDS;
         if row_route::before(&p[at..next], &p[next..end]) {
             i += 1;
         } else {
@@ -159,37 +171,37 @@ fn none_twice(l: &[u32]) -> bool
 
 // The words behind those in use are 0.
 fn unused_zero(s: &[u32]) -> bool
-    requires { ⌜ (length (now s) ≡ 9507) × (addressCount (now s) ≤ 64) × (routeCount (now s) ≤ 256) × (tableCount (now s) ≤ 32) ⌝ }
+    requires { ⌜ (length (now s) ≡ baseSize) × (addressCount (now s) ≤ 64) × (routeCount (now s) ≤ 256) × (tableCount (now s) ≤ 32) ⌝ }
     ensures { λ r. ⌜ r ≡ unusedZero (now (s .entry)) ⌝ }
 {
-    let a = 3 + 20 * state::wide(s[0]);
-    let r = 1283 + 32 * state::wide(s[1]);
-    let t = 9475 + state::wide(s[2]);
-    words::all_zero(&s[a..1283]) & words::all_zero(&s[r..9475]) & words::all_zero(&s[t..])
+    let a = ADDRESSES_AT + ADDRESS_WORDS * state::wide(s[ADDRESS_COUNT]);
+    let r = ROUTES_AT + ROUTE_WORDS * state::wide(s[ROUTE_COUNT]);
+    let t = TABLES_AT + state::wide(s[TABLE_COUNT]);
+    words::all_zero(&s[a..ROUTES_AT]) & words::all_zero(&s[r..TABLES_AT]) & words::all_zero(&s[t..])
 }
 
 pub fn well_formed(s: &[u32]) -> bool
-    requires { ⌜ length (now s) ≡ 9507 ⌝ }
+    requires { ⌜ length (now s) ≡ baseSize ⌝ }
     ensures { λ r. ⌜ r ≡ wellFormed (now (s .entry)) ⌝ }
 {
-    let a = state::wide(s[0]);
-    let r = state::wide(s[1]);
-    let t = state::wide(s[2]);
-    if 64 < a {
+    let a = state::wide(s[ADDRESS_COUNT]);
+    let r = state::wide(s[ROUTE_COUNT]);
+    let t = state::wide(s[TABLE_COUNT]);
+    if ADDRESS_LIMIT < a {
         return false;
     }
-    if 256 < r {
+    if ROUTE_LIMIT < r {
         return false;
     }
-    if 32 < t {
+    if TABLE_LIMIT < t {
         return false;
     }
-    let behind_a = 3 + 20 * a;
-    let behind_r = 1283 + 32 * r;
-    let behind_t = 9475 + t;
-    fit_addresses(&s[3..behind_a], a)
-        & routes_form(&s[1283..behind_r], r)
-        & none_twice(&s[9475..behind_t])
+    let behind_a = ADDRESSES_AT + ADDRESS_WORDS * a;
+    let behind_r = ROUTES_AT + ROUTE_WORDS * r;
+    let behind_t = TABLES_AT + t;
+    fit_addresses(&s[ADDRESSES_AT..behind_a], a)
+        & routes_form(&s[ROUTES_AT..behind_r], r)
+        & none_twice(&s[TABLES_AT..behind_t])
         & unused_zero(s)
 }
 
@@ -197,7 +209,7 @@ pub fn well_formed(s: &[u32]) -> bool
 pub fn check(s: &[u32]) -> u32
     ensures { λ r. ⌜ r ≡ checks (eqb (length (now (s .entry))) stateSize) (wellFormed (now (s .entry))) 0 ⌝ }
 {
-    if s.len() != 9507 {
+    if s.len() != BASE_WORDS {
         return 200;
     }
     if well_formed(s) {

@@ -1,4 +1,8 @@
 // add_v4 and up over words that hold a state, with their events. Where a list lacks room the words are left anyhow.
+use layout::ADDRESS_WORDS;
+use layout::EVENT_WORDS;
+use layout::ROUTE_WORDS;
+use layout::add_v4;
 use life::Lifetimes;
 use life::Nanoseconds;
 use step_laws::Told;
@@ -15,6 +19,7 @@ ghost use Rattle.step_laws.specs.EmitsOrFull.{rowsOf};
 ghost use Rattle.step_new_address.specs.Sound.{AddsFrom};
 ghost use Rattle.step_add_v4.specs.Comes.{Comes, doneRows, doneOf, emittedOf};
 ghost use Rattle.step_add_v4.specs.Every.{every, turnAt};
+ghost use Rattle.definition.specs.Step.{eventRoom};
 
 // What a call came to: the event rows told, a refusal's number, or that a list had no room.
 pub enum Done {
@@ -54,15 +59,15 @@ pub fn add_v4(s: &mut [u32], ev: &mut [u32], q: &[u32], clock: Nanoseconds) -> D
     let n = state::address_count(s);
     let place = rows_place::same_at(state_read::addresses(s), n, q);
     if place < n {
-        if q[16] != 1 {
+        if q[add_v4::REPLACE] != 1 {
             return Done::Refused(layout::EXISTS);
         }
         let changed = step_new_address::change_v4(s, ev, place, q, clock);
         return call_of(changed);
     }
-    let mut new = [0u32; 20];
+    let mut new = [0u32; ADDRESS_WORDS];
     rows_place::fresh(state_read::addresses(s), n, q, clock, &mut new);
-    let up = q[17] == 1;
+    let up = q[add_v4::UP] == 1;
     let brought = step_new_address::new_address(s, ev, &new, up);
     call_of(brought)
 }
@@ -77,10 +82,10 @@ fn bring_at(s: &mut [u32], ev: &mut [u32], i: usize) -> Told
 {
     let n = state::address_count(s);
     let rows = state_read::addresses(s);
-    let at = 20 * i;
+    let at = ADDRESS_WORDS * i;
     let mut block = [0u32; 128];
-    let k = row_candidates::candidates(rows, n, &rows[at..at + 20], true, &mut block);
-    let end = 32 * k;
+    let k = row_candidates::candidates(rows, n, &rows[at..at + ADDRESS_WORDS], true, &mut block);
+    let end = ROUTE_WORDS * k;
     step_new_address::bring(s, ev, &block[0..end], k)
 }
 
@@ -95,7 +100,7 @@ fn bring_all(s: &mut [u32], ev: &mut [u32]) -> Told
     let mut emitted = 0usize;
     let mut i = 0usize;
     while i < n {
-        let from = 34 * emitted;
+        let from = EVENT_WORDS * emitted;
         let came = bring_at(s, &mut ev[from..], i);
         match came {
             Told::Rows(m) => {
@@ -113,7 +118,7 @@ fn bring_all(s: &mut [u32], ev: &mut [u32]) -> Told
 // 127.0.0.1 if it isn't there, with its routes; then the routes that every address has.
 pub fn up(s: &mut [u32], ev: &mut [u32], clock: Nanoseconds) -> Told
     requires { ⌜ Sound (now s) ⌝ }
-    requires { ⌜ 13056 ≤ length (now ev) ⌝ }
+    requires { ⌜ eventRoom ≤ length (now ev) ⌝ }
     ensures { λ r. ⌜ rowsOf r ≤ 325 ⌝ }
     ensures { λ r. ⌜ AddsFrom (up (clock .0)) (now (s .entry)) (now (s .exit)) (now (ev .entry)) (now (ev .exit)) r ⌝ }
 {
@@ -141,7 +146,7 @@ pub fn up(s: &mut [u32], ev: &mut [u32], clock: Nanoseconds) -> Told
     let first = step_of(add_v4(s, ev, &loopback, clock));
     match first {
         Told::Rows(k) => {
-            let from = 34 * k;
+            let from = EVENT_WORDS * k;
             let rest = bring_all(s, &mut ev[from..]);
             step_new_address::joined(k, rest)
         }

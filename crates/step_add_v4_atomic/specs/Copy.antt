@@ -12,7 +12,7 @@ use Rattle.lists.specs.Rows.{length-flat}
 use Rattle.lists.specs.Lists.{put, flat}
 use Rattle.lists.specs.Put.{put-whole}
 use Rattle.definition.specs.State.{State, Out}
-use Rattle.definition.specs.Words.{within}
+use Rattle.definition.specs.Words.{within, baseSize}
 use Rattle.definition.specs.Reference.Addresses.{Outcome, goes, refused}
 use Rattle.definition.specs.Step.{roomy}
 use Rattle.state.specs.Represents.{Represents, holds-long, Sound}
@@ -44,7 +44,7 @@ call-few n d k e h = rw e at h
 
 -- what the copy is after a call that had room
 pub record Tried (w z rows : List ℕ) (k : ℕ) : Type 0 where
-  pub long : length w ≡ 9507
+  pub long : length w ≡ baseSize
   pub room : 34 * k ≤ length z
   pub wide : length rows ≡ length z
 

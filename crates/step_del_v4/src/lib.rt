@@ -1,4 +1,8 @@
 // An address deleted by request: the first that meets each condition that is made.
+use layout::ADDRESS_WORDS;
+use layout::ADDRESSES_AT;
+use layout::address;
+use layout::del_v4;
 ghost use mathlib.Core.Path.{_≡_};
 ghost use mathlib.Core.List.{List};
 ghost use Prim.Native.Nat.{_+_, _*_, _^_, _≤_, _<_};
@@ -33,11 +37,21 @@ fn deletes(q: &[u32], a: &[u32]) -> bool
     requires { ⌜ (length (now a) ≡ 20) × (prefix (now a) ≤ 32) ⌝ }
     ensures { λ r. ⌜ r ≡ deletes (now (q .entry)) (now (a .entry)) ⌝ }
 {
-    let label = same_four(a[9], a[10], a[11], a[12], q[7], q[8], q[9], q[10]);
-    let within = row_subnet::covers(a, q[3]);
-    ((q[0] == 0) | (a[0] == q[1]))
-        & ((q[5] == 0) | ((a[8] == q[6]) & label))
-        & ((q[2] == 0) | ((a[2] == q[4]) & within))
+    let label = same_four(
+        a[address::LABEL],
+        a[address::LABEL_1],
+        a[address::LABEL_2],
+        a[address::LABEL_3],
+        q[del_v4::LABEL],
+        q[del_v4::LABEL_1],
+        q[del_v4::LABEL_2],
+        q[del_v4::LABEL_3],
+    );
+    let within = row_subnet::covers(a, q[del_v4::ADDRESS]);
+    ((q[del_v4::LOCAL_PRESENT] == 0) | (a[address::LOCAL] == q[del_v4::LOCAL]))
+        & ((q[del_v4::LABEL_PRESENT] == 0)
+            | ((a[address::LABEL_LENGTH] == q[del_v4::LABEL_LENGTH]) & label))
+        & ((q[del_v4::ADDRESS_PRESENT] == 0) | ((a[address::PREFIX] == q[del_v4::PREFIX]) & within))
 }
 
 // The place of the first that does, the number of rows where none does.
@@ -48,8 +62,8 @@ fn find(rows: &[u32], n: usize, q: &[u32]) -> usize
 {
     let mut i = 0usize;
     while i < n {
-        let at = 20 * i;
-        let a = &rows[at..at + 20];
+        let at = ADDRESS_WORDS * i;
+        let a = &rows[at..at + ADDRESS_WORDS];
         if deletes(q, a) {
             return i;
         }
@@ -68,9 +82,9 @@ pub fn del_v4(s: &mut [u32], ev: &mut [u32], q: &[u32]) -> Deleted
     if n <= i {
         return Deleted::Nothing;
     }
-    let at = 3 + 20 * i;
-    let end = at + 20;
-    let mut row = [0u32; 20];
+    let at = ADDRESSES_AT + ADDRESS_WORDS * i;
+    let end = at + ADDRESS_WORDS;
+    let mut row = [0u32; ADDRESS_WORDS];
     words::store(&mut row, 0, &s[at..end]);
     let k = step_remove_v4::remove_v4(s, ev, &row);
     Deleted::Rows(k)

@@ -17,7 +17,7 @@ use Rattle.lists.specs.Put.{put-none, put-behind, put-part}
 use Rattle.lists.specs.At.{flat-append, flat-cons}
 use Rattle.layout.specs.Event.{delRoute4}
 use Rattle.definition.specs.State.{State, becomes, withRoutes}
-use Rattle.definition.specs.Words.{routeCount}
+use Rattle.definition.specs.Words.{routeCount, baseSize, routesAt}
 use Rattle.definition.specs.Reference.Removal.{dependentOn}
 use Rattle.definition.specs.Preservation.Shrinking.{potential}
 use Rattle.state.specs.Represents.{sizedR}
@@ -29,20 +29,20 @@ use Rattle.step_drop_prefsrc.specs.Dependents.{dependentsGo, stray-named
 -- row i was looked at behind j that stay: it is told if it passes, and stays otherwise
 pub record Swept (q : Row → Bool) (i j : ℕ) (s s′ ev ev′ : List ℕ) (r : ℕ) : Type 0 where
   pub turned : Turned (λ x. not (q x)) i j s s′ r
-  pub emitted : ev′ ≡ cond (q (span (1283 + 32 * i) 32 s)) (put 0 (delRoute4 (span (1283 + 32 * i) 32 s)) ev) ev
+  pub emitted : ev′ ≡ cond (q (span (routesAt + 32 * i) 32 s)) (put 0 (delRoute4 (span (routesAt + 32 * i) 32 s)) ev) ev
 
 module _ (q : Row → Bool) (i j : ℕ) (s ev : List ℕ) where
   pub swept-goes : q (lentRow s i) ≡ true → {ev′ : List ℕ} → ev′ ≡ put 0 (delRoute4 (lentRow s i)) ev → Swept q i j s s ev ev′ j
   swept-goes e t =
-      let b : q (span (1283 + 32 * i) 32 s) ≡ true = ap q (sym (lent-span s i)) ∙ e in
+      let b : q (span (routesAt + 32 * i) 32 s) ≡ true = ap q (sym (lent-span s i)) ∙ e in
       record {
         turned = turned-goes (λ x. not (q x)) i j s (ap not e);
         emitted = t ∙ ap (λ (x : Row). put 0 (delRoute4 x) ev) (lent-span s i) ∙ sym (rw b);
       }
 
-  pub swept-stays : q (lentRow s i) ≡ false → {s′ : List ℕ} {r : ℕ} → r ≡ j + 1 → s′ ≡ put (1283 + 32 * j) (span (1283 + 32 * i) 32 s) s → Swept q i j s s′ ev ev r
+  pub swept-stays : q (lentRow s i) ≡ false → {s′ : List ℕ} {r : ℕ} → r ≡ j + 1 → s′ ≡ put (routesAt + 32 * j) (span (routesAt + 32 * i) 32 s) s → Swept q i j s s′ ev ev r
   swept-stays e c w =
-      let b : q (span (1283 + 32 * i) 32 s) ≡ false = ap q (sym (lent-span s i)) ∙ e in
+      let b : q (span (routesAt + 32 * i) 32 s) ≡ false = ap q (sym (lent-span s i)) ∙ e in
       record { turned = turned-stays (λ x. not (q x)) i j s (ap not e) c w; emitted = sym (rw b) }
 
 -- the deletions told of rows
@@ -63,29 +63,29 @@ length-rest t ev = length-take-le (length ev - 34 * t) (drop (34 * t) ev) (rw le
 -- of the first i routes of w those that pass are told, and the j others stand in front
 pub record Sweeping (q : Row → Bool) (w : List ℕ) (i j : ℕ) (s ev₀ ev : List ℕ) : Type 0 where
   pub kept : Keeping (λ x. not (q x)) w i j s
-  pub emitted : ev ≡ put 0 (gone (keep q (rowsOf 1283 32 w i))) ev₀
+  pub emitted : ev ≡ put 0 (gone (keep q (rowsOf routesAt 32 w i))) ev₀
   pub long : length ev ≡ length ev₀
 
-pub sweeping-start : (q : Row → Bool) (w ev : List ℕ) → length w ≡ 9507 → Sweeping q w 0 0 w ev ev
+pub sweeping-start : (q : Row → Bool) (w ev : List ℕ) → length w ≡ baseSize → Sweeping q w 0 0 w ev ev
 unfolding flat Rattle.lists.specs.Lists.chop
 sweeping-start q w ev h = record { kept = keeping-start (λ x. not (q x)) w h; emitted = put-none 0 ev; long = refl }
 
 module _ {q : Row → Bool} {w : List ℕ} {i j : ℕ} {s ev₀ ev : List ℕ} (k : Sweeping q w i j s ev₀ ev) where
   abbrev rows : List Row
-  rows = keep q (rowsOf 1283 32 w i)
+  rows = keep q (rowsOf routesAt 32 w i)
 
   abbrev row : Row
-  row = span (1283 + 32 * i) 32 w
+  row = span (routesAt + 32 * i) 32 w
 
   -- how many are told
   pub sweeping-count : j + length rows ≡ i
   sweeping-count =
-      let all = rowsOf 1283 32 w i in
-      omega (arith, k .kept .count, length-keep q all, length-keep (λ x. not (q x)) all, count-pair q all, length-chop 32 i (drop 1283 w))
+      let all = rowsOf routesAt 32 w i in
+      omega (arith, k .kept .count, length-keep q all, length-keep (λ x. not (q x)) all, count-pair q all, length-chop 32 i (drop routesAt w))
 
   module _ (b : i < 256) (room : 34 * i + 34 ≤ length ev₀) where
     narrow : sized 32 rows ≡ true
-    narrow = all-keep (λ r. eqb (length r) 32) q (rowsOf 1283 32 w i) (sized-chop 32 i (drop 1283 w) (rw length-drop (omega (arith, k .kept .whole))))
+    narrow = all-keep (λ r. eqb (length r) 32) q (rowsOf routesAt 32 w i) (sized-chop 32 i (drop routesAt w) (rw length-drop (omega (arith, k .kept .whole))))
 
     more : (t : Bool) → keep q (row ∷ []) ≡ cond t (row ∷ []) [] → {x : List ℕ} → x ≡ cond t (put 0 (delRoute4 row) (rest (i - j) ev)) (rest (i - j) ev)
         → take (34 * (i - j)) ev ++ (x ++ drop (length ev - 34 * (i - j)) (drop (34 * (i - j)) ev)) ≡ put 0 (gone (rows ++ keep q (row ∷ []))) ev₀
@@ -93,7 +93,7 @@ module _ {q : Row → Bool} {w : List ℕ} {i j : ℕ} {s ev₀ ev : List ℕ} (
     more true e {x} f =
         let n : ℕ = i - j in
         let m : ℕ = length ev - 34 * n in
-        let wide : length row ≡ 32 = length-span (1283 + 32 * i) 32 w (omega (arith, k .kept .whole)) in
+        let wide : length row ≡ 32 = length-span (routesAt + 32 * i) 32 w (omega (arith, k .kept .whole)) in
         let lr : length (gone rows) ≡ 34 * length rows = length-gone rows narrow in
         let all : j + length rows ≡ i = sweeping-count in
         let as-long : length ev ≡ length ev₀ = k .long in
@@ -122,7 +122,7 @@ module _ {q : Row → Bool} {w : List ℕ} {i j : ℕ} {s ev₀ ev : List ℕ} (
     sweeping-turn l m t =
         record {
           kept = keeping-turn (k .kept) b l (t .turned);
-          emitted = more (q row) refl (rw (keeping-row (k .kept) b) at (t .emitted)) ∙ ap (λ (y : List Row). put 0 (gone y) ev₀) (sym (keep-next q 1283 32 w i));
+          emitted = more (q row) refl (rw (keeping-row (k .kept) b) at (t .emitted)) ∙ ap (λ (y : List Row). put 0 (gone y) ev₀) (sym (keep-next q routesAt 32 w i));
           long =
               let few = keeping-few (k .kept) in
               simp (length-append, length-drop, length-take-le (34 * (i - j)) ev (omega (arith, k .long))) (omega (arith, k .long, length-rest (i - j) ev));
@@ -130,13 +130,13 @@ module _ {q : Row → Bool} {w : List ℕ} {i j : ℕ} {s ev₀ ev : List ℕ} (
 
 -- all of them
 pub sweeping-end : (ip : ℕ) {w s ev₀ ev : List ℕ} {n j : ℕ} {st : State} → Sweeping (dependentOn ip) w n j s ev₀ ev → n ≡ routeCount w → Fits potential st w ev₀
-    → EmitsWithin potential st (dependentsGo ip st) (set (put (1283 + 32 * j) (zeros (32 * (n - j))) s) 1 j) ev₀ ev (n - j)
+    → EmitsWithin potential st (dependentsGo ip st) (set (put (routesAt + 32 * j) (zeros (32 * (n - j))) s) 1 j) ev₀ ev (n - j)
 sweeping-end ip {w} {ev₀ = ev₀} {n = n} {j = j} {st = st} k e f =
     let q : Row → Bool = dependentOn ip in
     let h = f .holds in
-    let all : rowsOf 1283 32 w n ≡ st .routes = ap (rowsOf 1283 32 w) e ∙ routes-of h in
+    let all : rowsOf routesAt 32 w n ≡ st .routes = ap (rowsOf routesAt 32 w) e ∙ routes-of h in
     let same = all-go q (stray-named ip) st in
-    let emitted : keep q (rowsOf 1283 32 w n) ≡ keep q (st .routes) = ap (keep q) all in
+    let emitted : keep q (rowsOf routesAt 32 w n) ≡ keep q (st .routes) = ap (keep q) all in
     let count : n - j ≡ length (keep q (st .routes)) = omega (arith, sweeping-count k, ap length emitted) in
     let o = becomes (withRoutes (keep (λ x. not (q x)) (st .routes)) st) (map delRoute4 (keep q (st .routes))) in
     step-same potential {o = o} (sym (same .leaves)) (sym (same .sameEmitted))

@@ -1,4 +1,7 @@
 // Main routes that fall with their preferred source, told from the start of what is lent of the events.
+use layout::EVENT_WORDS;
+use layout::ROUTE_WORDS;
+use layout::ROUTES_AT;
 ghost use mathlib.Core.Path.{_≡_};
 ghost use Prim.Native.Nat.{_+_, _*_, _≤_, _<_};
 ghost use lib.ListN.{length};
@@ -8,16 +11,17 @@ ghost use Rattle.definition.specs.Preservation.Shrinking.{potential};
 ghost use Rattle.step_events.specs.EmitsWithin.{Fits, Ready, EmitsWithin};
 ghost use Rattle.step_drop_prefsrc.specs.Dependents.{dependentsGo};
 ghost use Rattle.step_drop_prefsrc.specs.Sweep.{Swept};
+ghost use Rattle.definition.specs.Words.{baseSize};
 
 // Row i, behind j that remain, is told if it is a main row with the preferred source ip, and becomes row j otherwise:
 // how many remain with it.
 fn dependent_turn(s: &mut [u32], ev: &mut [u32], i: usize, j: usize, ip: u32) -> usize
-    requires { ⌜ (length (now s) ≡ 9507) × (j ≤ i) × (i < 256) ⌝ }
+    requires { ⌜ (length (now s) ≡ baseSize) × (j ≤ i) × (i < 256) ⌝ }
     requires { ⌜ 34 ≤ length (now ev) ⌝ }
     ensures { λ r. ⌜ Swept (dependentOn ip) i j (now (s .entry)) (now (s .exit)) (now (ev .entry)) (now (ev .exit)) r ⌝ }
 {
-    let at = 1283 + 32 * i;
-    let end = at + 32;
+    let at = ROUTES_AT + ROUTE_WORDS * i;
+    let end = at + ROUTE_WORDS;
     if rows_wanted::dependents_from(&s[at..end], ip) {
         step_events::del_route4(ev, &s[at..end]);
         return j;
@@ -34,7 +38,7 @@ pub fn drop_dependents(s: &mut [u32], ev: &mut [u32], ip: u32) -> usize
     let mut i = 0usize;
     let mut j = 0usize;
     while i < n {
-        j = dependent_turn(s, &mut ev[34 * (i - j)..], i, j, ip);
+        j = dependent_turn(s, &mut ev[EVENT_WORDS * (i - j)..], i, j, ip);
         i += 1;
     }
     state_retain::close(s, n, j);

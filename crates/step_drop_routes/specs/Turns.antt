@@ -25,6 +25,7 @@ use Rattle.step_events.specs.Turns.{Going, like-eq, going-start, going-turn, go
 use Rattle.step_drop_prefsrc.specs.Dependents.{dependentsGo}
 use Rattle.step_drop_prefsrc.specs.Delete.{step-eq}
 use Rattle.step_drop_routes.specs.One.{unlessWanted, from, from-start, from-turn, from-end, loses, fallFrom, step-quiet, disable-quiet}
+use Rattle.definition.specs.Words.{baseSize}
 
 -- any row at all
 abbrev pub anyRow : Row → Bool
@@ -45,7 +46,7 @@ pub potential-most : {st : State} {s : List ℕ} → Represents s st → potenti
 potential-most {st} h = omega (arith, h .routesWithin, h .addressesWithin, count-most live (st .addresses))
 
 pub step-facts : {st : State} {o : Out} {s₀ s ev₀ ev : List ℕ} {r : ℕ} → Fits potential st s₀ ev₀ → EmitsWithin potential st o s ev₀ ev r
-    → (34 * r ≤ length ev) × (length s ≡ 9507) × (length ev ≡ length ev₀) × (r ≤ 384)
+    → (34 * r ≤ length ev) × (length s ≡ baseSize) × (length ev ≡ length ev₀) × (r ≤ 384)
 step-facts f t =
     (omega (arith, step-rows potential t, step-length potential t), holds-long (t .holds), step-length potential t, omega (arith, t .less, potential-most (f .holds)))
 
@@ -65,7 +66,7 @@ pub leaving-start : {st : State} {s ev : List ℕ} (l : List Row) → Fits poten
 leaving-start {st} l f = going-start potential (from l 0) Any f (like-eq (from-start l st)) (record {})
 
 module _ {st : State} (l : List Row) (j : ℕ) {k : ℕ} {s ev₀ ev : List ℕ} (g : Leaving st l j k s ev₀ ev) where
-  pub leaving-facts : {s₀ : List ℕ} → Fits potential st s₀ ev₀ → (34 * k ≤ length ev) × (length s ≡ 9507) × (length ev ≡ length ev₀) × (k ≤ 384)
+  pub leaving-facts : {s₀ : List ℕ} → Fits potential st s₀ ev₀ → (34 * k ≤ length ev) × (length s ≡ baseSize) × (length ev ≡ length ev₀) × (k ≤ 384)
   leaving-facts f = step-facts f (g .step)
 
   pub leaving-turn : j < length l → {s′ x : List ℕ} {r : ℕ} (row : Row) → row ≡ getD l j []

@@ -1,4 +1,7 @@
 // What goes with an address: those of its routes that none wants, the main rows that fall with it, the device's routes.
+use layout::EVENT_WORDS;
+use layout::ROUTE_WORDS;
+use layout::route;
 ghost use mathlib.Core.Path.{_≡_};
 ghost use mathlib.Core.List.{List};
 ghost use Prim.Native.Nat.{_+_, _*_, _<_};
@@ -43,9 +46,9 @@ fn delete_unwanted(s: &mut [u32], ev: &mut [u32], rows: &[u32], m: usize) -> usi
     let mut j = 0usize;
     let mut k = 0usize;
     while j < m {
-        let at = 32 * j;
-        let r = &rows[at..at + 32];
-        k += unless_wanted(s, &mut ev[34 * k..], r);
+        let at = ROUTE_WORDS * j;
+        let r = &rows[at..at + ROUTE_WORDS];
+        k += unless_wanted(s, &mut ev[EVENT_WORDS * k..], r);
         j += 1;
     }
     k
@@ -57,7 +60,7 @@ fn lost(s: &[u32], r: &[u32]) -> bool
     requires { ⌜ length (now r) ≡ 32 ⌝ }
     ensures { λ b. ⌜ ((st : State) → Represents (now (s .entry)) st → b ≡ loses (st .addresses) (now (r .entry))) ⌝ }
 {
-    let host = (r[5] == layout::KIND_LOCAL) & (r[2] == 32);
+    let host = (r[route::KIND] == layout::KIND_LOCAL) & (r[route::LEN] == 32);
     if !host {
         return false;
     }
@@ -72,8 +75,8 @@ fn loses(s: &[u32], rows: &[u32], m: usize) -> bool
 {
     let mut j = 0usize;
     while j < m {
-        let at = 32 * j;
-        let r = &rows[at..at + 32];
+        let at = ROUTE_WORDS * j;
+        let r = &rows[at..at + ROUTE_WORDS];
         if lost(s, r) {
             return true;
         }
@@ -119,7 +122,7 @@ pub fn take_routes(s: &mut [u32], ev: &mut [u32], rows: &[u32], m: usize, ip: u3
 {
     let k = delete_unwanted(s, ev, rows, m);
     let lost = loses(s, rows, m);
-    let n = fall(s, &mut ev[34 * k..], ip, lost);
+    let n = fall(s, &mut ev[EVENT_WORDS * k..], ip, lost);
     state_retain::disable(s);
     k + n
 }

@@ -1,4 +1,8 @@
 // Addresses at the end of their lives: one that is due goes, and all begins again; one that fades is marked and told.
+use layout::ADDRESS_WORDS;
+use layout::ADDRESSES_AT;
+use layout::EVENT_WORDS;
+use layout::address;
 use life::Nanoseconds;
 ghost use mathlib.Core.Path.{_≡_};
 ghost use mathlib.Core.Bool.{true};
@@ -20,7 +24,7 @@ fn due(a: &[u32], allowance: Nanoseconds, clock: Nanoseconds) -> bool
     requires { ⌜ length (now a) ≡ 20 ⌝ }
     ensures { λ r. ⌜ r ≡ due (allowance .0) (clock .0) (now (a .entry)) ⌝ }
 {
-    let lasting = a[6] & row_address::PERMANENT != 0;
+    let lasting = a[address::FLAGS] & row_address::PERMANENT != 0;
     let life = row_address::life_of(a);
     let valid = life.valid;
     let over = life.reached(valid, clock, allowance);
@@ -32,8 +36,8 @@ fn deprecates(a: &[u32], allowance: Nanoseconds, clock: Nanoseconds) -> bool
     requires { ⌜ length (now a) ≡ 20 ⌝ }
     ensures { λ r. ⌜ r ≡ deprecates (allowance .0) (clock .0) (now (a .entry)) ⌝ }
 {
-    let lasting = a[6] & row_address::PERMANENT != 0;
-    let marked = a[6] & row_address::DEPRECATED != 0;
+    let lasting = a[address::FLAGS] & row_address::PERMANENT != 0;
+    let marked = a[address::FLAGS] & row_address::DEPRECATED != 0;
     let life = row_address::life_of(a);
     let preferred = life.preferred;
     let over = life.reached(preferred, clock, allowance);
@@ -47,7 +51,7 @@ fn mark(s: &mut [u32], ev: &mut [u32], i: usize, a: &[u32])
     ensures { λ _. ⌜ now (ev .exit) ≡ put 0 (newAddr4 (deprecate (now (a .entry)))) (now (ev .entry)) ⌝ }
     ensures { λ _. ⌜ ((st : State) → Represents (now (s .entry)) st → Represents (now (s .exit)) (withAddresses (set (st .addresses) i (deprecate (now (a .entry)))) st)) ⌝ }
 {
-    let mut row = [0u32; 20];
+    let mut row = [0u32; ADDRESS_WORDS];
     row_update::deprecate(a, &mut row);
     step_events::new_addr4(ev, &row);
     state::replace_address(s, i, &row);
@@ -65,9 +69,9 @@ fn turn(
     requires { ⌜ i < addressCount (now s) ⌝ }
     ensures { λ r. ⌜ ((st : State) → Fits potential st (now (s .entry)) (now (ev .entry)) → EmitsWithin potential st (expireTurn (allowance .0) (clock .0) i st) (now (s .exit)) (now (ev .entry)) (now (ev .exit)) r) ⌝ }
 {
-    let at = 3 + 20 * i;
-    let end = at + 20;
-    let mut row = [0u32; 20];
+    let at = ADDRESSES_AT + ADDRESS_WORDS * i;
+    let end = at + ADDRESS_WORDS;
+    let mut row = [0u32; ADDRESS_WORDS];
     words::store(&mut row, 0, &s[at..end]);
     if due(&row, allowance, clock) {
         return step_remove_v4::remove_v4(s, ev, &row);
@@ -99,7 +103,7 @@ pub fn expire(s: &mut [u32], ev: &mut [u32], allowance: Nanoseconds, clock: Nano
     let mut k = 0usize;
     let mut n = state::address_count(s);
     while i < n {
-        let r = turn(s, &mut ev[34 * k..], i, allowance, clock);
+        let r = turn(s, &mut ev[EVENT_WORDS * k..], i, allowance, clock);
         k += r;
         let left = state::address_count(s);
         i = next(i, n, left);

@@ -1,4 +1,7 @@
 // A route put into its place among the rows.
+use layout::ROUTE_LIMIT;
+use layout::ROUTE_WORDS;
+use layout::route;
 ghost use mathlib.Core.Path.{_≡_};
 ghost use mathlib.Core.Bool.{true, false, not};
 ghost use Prim.Native.Nat.{_+_, _*_, _≤_, _<_};
@@ -22,7 +25,7 @@ fn same(new: &[u32], r: &[u32]) -> bool
     requires { ⌜ (length (now new) ≡ 32) × (length (now r) ≡ 32) ⌝ }
     ensures { λ b. ⌜ b ≡ eqRow (now (new .entry)) (now (r .entry)) ⌝ }
 {
-    if new[1] != r[1] {
+    if new[route::DST] != r[route::DST] {
         return false;
     }
     words::same_words(new, r)
@@ -51,12 +54,12 @@ fn lower(rows: &[u32], n: usize, new: &[u32]) -> usize
     ensures { λ r. ⌜ ((l : List Row) → Laid 32 fitRoute (now (rows .entry)) l → LoopInvariant (now (new .entry)) l r r false) ⌝ }
     ensures { λ r. ⌜ r ≤ n ⌝ }
 {
-    let dst = new[1];
+    let dst = new[route::DST];
     let mut i = 0usize;
     while i < n {
-        let at = 32 * i;
-        let r = &rows[at..at + 32];
-        if dst <= r[1] {
+        let at = ROUTE_WORDS * i;
+        let r = &rows[at..at + ROUTE_WORDS];
+        if dst <= r[route::DST] {
             return i;
         }
         i += 1;
@@ -76,8 +79,8 @@ pub fn alike4(rows: &[u32], n: usize, new: &[u32]) -> Alike
     let mut there = false;
     let mut i = front;
     while i < n {
-        let at = 32 * i;
-        let r = &rows[at..at + 32];
+        let at = ROUTE_WORDS * i;
+        let r = &rows[at..at + ROUTE_WORDS];
         if row_route::before(new, r) {
             return Alike {
                 start: start,
@@ -179,8 +182,8 @@ fn plan4(rows: &[u32], n: usize, new: &[u32], flags: u32) -> Plan
     if end <= start {
         return created(flags, start, CREATE | EXCL);
     }
-    let at = 32 * start;
-    let first = same(new, &rows[at..at + 32]);
+    let at = ROUTE_WORDS * start;
+    let first = same(new, &rows[at..at + ROUTE_WORDS]);
     among(flags, start, end, run.there, first)
 }
 
@@ -195,7 +198,7 @@ pub fn insert4(s: &mut [u32], new: &[u32], flags: u32) -> Inserted
     let plan = plan4(state_read::routes(s), n, new, flags);
     match plan {
         Plan::Add(place, emitted) => {
-            if n == 256 {
+            if n == ROUTE_LIMIT {
                 return Inserted::Full;
             }
             state::insert_route(s, place, new);

@@ -1,4 +1,6 @@
 // The kernel's own routes: added with their table listed, and told.
+use layout::TABLE_LIMIT;
+use layout::route;
 use step_insert::Inserted;
 use step_laws::Told;
 ghost use mathlib.Core.Path.{_≡_};
@@ -23,8 +25,8 @@ pub fn kernel_add4(s: &mut [u32], ev: &mut [u32], new: &[u32]) -> Told
     ensures { λ r. ⌜ rowsOf r ≤ 1 ⌝ }
     ensures { λ r. ⌜ ((st : State) → Represents (now (s .entry)) st → fitState st ≡ true → EmitsOrFull (kernelAdd4 (now (new .entry)) st) (now (s .exit)) (now (ev .entry)) (now (ev .exit)) r) ⌝ }
 {
-    let table = new[0];
-    if 32 < state_tables::tables_after(s, table) {
+    let table = new[route::TABLE];
+    if TABLE_LIMIT < state_tables::tables_after(s, table) {
         return Told::Full;
     }
     state_tables::list_table(s, table);

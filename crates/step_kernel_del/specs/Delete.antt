@@ -17,7 +17,7 @@ use Rattle.lists.specs.Place.{placeOf, first-at, remove-at, nothing-from, somet
 use Rattle.layout.specs.Route.{dst}
 use Rattle.layout.specs.Event.{delRoute4}
 use Rattle.definition.specs.State.{State, withRoutes}
-use Rattle.definition.specs.Words.{routeCount}
+use Rattle.definition.specs.Words.{routeCount, baseSize, routesAt}
 use Rattle.definition.specs.Reference.Insert.{named, kernelDel4}
 use Rattle.definition.specs.Preservation.Shrinking.{potential, live, kernelDel4-away}
 use Rattle.state.specs.Represents.{Represents, sizedR, count-routes}
@@ -44,21 +44,21 @@ module _ (p : Row) (st : State) {w ev : List ℕ} (h : Represents w st) (i : ℕ
       rw missing (does-none st h)
 
   pub one-named : {w′ ev′ : List ℕ} → i < length (st .routes) → 34 ≤ length ev → Represents w′ (withRoutes (removeAt i (st .routes)) st)
-      → ev′ ≡ put 0 (delRoute4 (take (1283 + 32 * i + 32 - (1283 + 32 * i)) (drop (1283 + 32 * i) w))) ev → Emits (kernelDel4 p st) w′ ev ev′ 1
+      → ev′ ≡ put 0 (delRoute4 (take (routesAt + 32 * i + 32 - (routesAt + 32 * i)) (drop (routesAt + 32 * i) w))) ev → Emits (kernelDel4 p st) w′ ev ev′ 1
   unfolding kernelDel4 removeAt
   one-named {w′} {ev′} b room k x =
       let r = getD (st .routes) i [] in
       let found : first (named p) (st .routes) ≡ some r = first-at (named p) (st .routes) ∙ ap (getElem? (st .routes)) (sym e) ∙ something-at (st .routes) i [] b in
       let gone : removeFirst (named p) (st .routes) ≡ take i (st .routes) ++ drop (suc i) (st .routes) = rw (← e) at (remove-at (named p) (st .routes)) in
-      let size : 1283 + 32 * i + 32 - (1283 + 32 * i) ≡ 32 = omega arith in
-      let there : take (1283 + 32 * i + 32 - (1283 + 32 * i)) (drop (1283 + 32 * i) w) ≡ r = rw size (unfold span in route-at h i b) in
+      let size : routesAt + 32 * i + 32 - (routesAt + 32 * i) ≡ 32 = omega arith in
+      let there : take (routesAt + 32 * i + 32 - (routesAt + 32 * i)) (drop (routesAt + 32 * i) w) ≡ r = rw size (unfold span in route-at h i b) in
       rw (found, gone) (does-one (withRoutes (take i (st .routes) ++ drop (suc i) (st .routes)) st) (delRoute4 r) k (length-event r (sized-at 32 (st .routes) i b (sizedR h))) room (x ∙ ap (λ (y : Row). put 0 (delRoute4 y) ev) there))
 
 -- the row as it is lent
-pub row-wide : (w : List ℕ) (i : ℕ) → length w ≡ 9507 → i < 256 → length (take (1283 + 32 * i + 32 - (1283 + 32 * i)) (drop (1283 + 32 * i) w)) ≡ 32
+pub row-wide : (w : List ℕ) (i : ℕ) → length w ≡ baseSize → i < 256 → length (take (routesAt + 32 * i + 32 - (routesAt + 32 * i)) (drop (routesAt + 32 * i) w)) ≡ 32
 row-wide w i h b =
-    let size : 1283 + 32 * i + 32 - (1283 + 32 * i) ≡ 32 = omega arith in
-    rw size (length-take-le 32 (drop (1283 + 32 * i) w) (rw length-drop (omega arith)))
+    let size : routesAt + 32 * i + 32 - (routesAt + 32 * i) ≡ 32 = omega arith in
+    rw size (length-take-le 32 (drop (routesAt + 32 * i) w) (rw length-drop (omega arith)))
 
 -- ---- among removals: it tells no more than the routes fall
 pub deletes : {st : State} {w w′ ev ev′ : List ℕ} {r : ℕ} (p : Row) → Fits potential st w ev → Emits (kernelDel4 p st) w′ ev ev′ r → EmitsWithin potential st (kernelDel4 p st) w′ ev ev′ r

@@ -1,4 +1,7 @@
 // The route that a deletion names, taken out and told at the start of what is lent of the events.
+use layout::ROUTE_WORDS;
+use layout::ROUTES_AT;
+use layout::route;
 ghost use mathlib.Core.Path.{_≡_};
 ghost use mathlib.Core.List.{List};
 ghost use Prim.Native.Nat.{_*_, _≤_, _<_};
@@ -18,20 +21,20 @@ fn named(p: &[u32], r: &[u32]) -> bool
     requires { ⌜ (length (now p) ≡ 32) × (length (now r) ≡ 32) ⌝ }
     ensures { λ b. ⌜ b ≡ named (now (p .entry)) (now (r .entry)) ⌝ }
 {
-    if p[1] != r[1] {
+    if p[route::DST] != r[route::DST] {
         return false;
     }
-    (r[0] == p[0])
-        & (r[1] == p[1])
-        & (r[2] == p[2])
-        & (r[3] == p[3])
-        & (r[5] == p[5])
-        & (r[7] == p[7])
-        & (r[8] == p[8])
-        & (r[9] == p[9])
-        & (r[6] == p[6])
-        & (r[12] == p[12])
-        & ((p[4] == 0) | (r[4] == p[4]))
+    (r[route::TABLE] == p[route::TABLE])
+        & (r[route::DST] == p[route::DST])
+        & (r[route::LEN] == p[route::LEN])
+        & (r[route::TOS] == p[route::TOS])
+        & (r[route::KIND] == p[route::KIND])
+        & (r[route::SCOPE] == p[route::SCOPE])
+        & (r[route::PREFSRC_PRESENT] == p[route::PREFSRC_PRESENT])
+        & (r[route::PREFSRC] == p[route::PREFSRC])
+        & (r[route::PROTO] == p[route::PROTO])
+        & (r[route::DEVICE] == p[route::DEVICE])
+        & ((p[route::PRIORITY] == 0) | (r[route::PRIORITY] == p[route::PRIORITY]))
 }
 
 // The place of the first row that is named, the number of rows where none is.
@@ -42,8 +45,8 @@ fn find_named(rows: &[u32], n: usize, p: &[u32]) -> usize
 {
     let mut i = 0usize;
     while i < n {
-        let at = 32 * i;
-        let r = &rows[at..at + 32];
+        let at = ROUTE_WORDS * i;
+        let r = &rows[at..at + ROUTE_WORDS];
         if named(p, r) {
             return i;
         }
@@ -66,8 +69,8 @@ pub fn kernel_del4(s: &mut [u32], ev: &mut [u32], p: &[u32]) -> usize
     if n <= i {
         return 0;
     }
-    let at = 1283 + 32 * i;
-    let end = at + 32;
+    let at = ROUTES_AT + ROUTE_WORDS * i;
+    let end = at + ROUTE_WORDS;
     step_events::del_route4(ev, &s[at..end]);
     state::remove_route(s, i);
     1

@@ -1,4 +1,10 @@
 // Routes and addresses put in, with their events: a block of routes, a new address with what it brings, an address changed.
+use layout::ADDRESS_LIMIT;
+use layout::ADDRESS_WORDS;
+use layout::ADDRESSES_AT;
+use layout::EVENT_WORDS;
+use layout::ROUTE_WORDS;
+use layout::address;
 use life::Nanoseconds;
 use step_laws::Told;
 ghost use mathlib.Core.Path.{_≡_};
@@ -41,9 +47,9 @@ pub fn bring(s: &mut [u32], ev: &mut [u32], block: &[u32], k: usize) -> Told
     let mut emitted = 0usize;
     let mut i = 0usize;
     while i < k {
-        let at = 32 * i;
-        let from = 34 * emitted;
-        let came = step_kernel_add::kernel_add4(s, &mut ev[from..], &block[at..at + 32]);
+        let at = ROUTE_WORDS * i;
+        let from = EVENT_WORDS * emitted;
+        let came = step_kernel_add::kernel_add4(s, &mut ev[from..], &block[at..at + ROUTE_WORDS]);
         match came {
             Told::Rows(m) => {
                 emitted += m;
@@ -66,7 +72,7 @@ pub fn new_address(s: &mut [u32], ev: &mut [u32], new: &[u32], up: bool) -> Told
     ensures { λ r. ⌜ AddsFrom (newAddress (now (new .entry)) up) (now (s .entry)) (now (s .exit)) (now (ev .entry)) (now (ev .exit)) r ⌝ }
 {
     let n = state::address_count(s);
-    if 64 <= n {
+    if ADDRESS_LIMIT <= n {
         return Told::Full;
     }
     let place = rows_place::place4(state_read::addresses(s), n, new);
@@ -74,8 +80,8 @@ pub fn new_address(s: &mut [u32], ev: &mut [u32], new: &[u32], up: bool) -> Told
     step_events::new_addr4(ev, new);
     let mut block = [0u32; 128];
     let k = row_candidates::candidates(state_read::addresses(s), n + 1, new, up, &mut block);
-    let end = 32 * k;
-    let came = bring(s, &mut ev[34..], &block[0..end], k);
+    let end = ROUTE_WORDS * k;
+    let came = bring(s, &mut ev[EVENT_WORDS..], &block[0..end], k);
     joined(1, came)
 }
 
@@ -92,14 +98,20 @@ fn moved(s: &mut [u32], ev: &mut [u32], q: &[u32], old: &[u32]) -> Told
     if !rows_place::reroutes(q, old) {
         return Told::Rows(0);
     }
-    let mut new = [0u32; 32];
-    row_candidates::prefix_route4(&mut new, 0, old, q[13], old[0]);
-    let mut gone = [0u32; 32];
-    row_candidates::prefix_route4(&mut gone, 0, old, old[13], old[0]);
+    let mut new = [0u32; ROUTE_WORDS];
+    row_candidates::prefix_route4(&mut new, 0, old, q[address::PRIORITY], old[address::LOCAL]);
+    let mut gone = [0u32; ROUTE_WORDS];
+    row_candidates::prefix_route4(
+        &mut gone,
+        0,
+        old,
+        old[address::PRIORITY],
+        old[address::LOCAL],
+    );
     let came = step_kernel_add::kernel_add4(s, ev, &new);
     match came {
         Told::Rows(k) => {
-            let from = 34 * k;
+            let from = EVENT_WORDS * k;
             let went = step_kernel_del::kernel_del4(s, &mut ev[from..], &gone);
             Told::Rows(k + went)
         }
@@ -116,16 +128,16 @@ pub fn change_v4(s: &mut [u32], ev: &mut [u32], i: usize, q: &[u32], clock: Nano
     ensures { λ r. ⌜ rowsOf r ≤ 3 ⌝ }
     ensures { λ r. ⌜ ((st : State) → Represents (now (s .entry)) st → fitState st ≡ true → i ≡ placeOf (sameAddress (now (q .entry))) (st .addresses) → EmitsOrFull (changeV4 (now (q .entry)) (getD (st .addresses) i []) (clock .0) st) (now (s .exit)) (now (ev .entry)) (now (ev .exit)) r) ⌝ }
 {
-    let at = 3 + 20 * i;
-    let mut old = [0u32; 20];
-    words::store(&mut old, 0, &s[at..at + 20]);
-    let mut row = [0u32; 20];
+    let at = ADDRESSES_AT + ADDRESS_WORDS * i;
+    let mut old = [0u32; ADDRESS_WORDS];
+    words::store(&mut old, 0, &s[at..at + ADDRESS_WORDS]);
+    let mut row = [0u32; ADDRESS_WORDS];
     row_update::changed_to(q, &old, clock, &mut row);
     let came = moved(s, ev, q, &old);
     match came {
         Told::Rows(k) => {
             state::replace_address(s, i, &row);
-            let from = 34 * k;
+            let from = EVENT_WORDS * k;
             step_events::new_addr4(&mut ev[from..], &row);
             Told::Rows(k + 1)
         }

@@ -25,7 +25,7 @@ use Rattle.layout.specs.Address.{fitAddress, local, address, prefix, secondary,
 use Rattle.layout.specs.Route as Route
 use Rattle.layout.specs.Event.{delAddr4}
 use Rattle.definition.specs.State.{State, Out, becomes, stays, also, through, withAddresses}
-use Rattle.definition.specs.Words.{addressCount}
+use Rattle.definition.specs.Words.{addressCount, baseSize}
 use Rattle.definition.specs.Reference.Insert.{kernelDel4}
 use Rattle.definition.specs.Reference.Lookup.{localKind, broadcastKind}
 use Rattle.definition.specs.Reference.Addresses.{kernelRoute, localRoute, upRoutes, prefixRoute, primaryOf, only, namesBroadcast, ownNetwork}
@@ -225,7 +225,7 @@ gone-start {st} a n e f =
     going-start potential (pass a n 0) (Passed a n 0) f (rw all (p .0)) (rw all (p .1))
 
 module _ (a : Row) (n j : ℕ) {st : State} {k : ℕ} {s ev₀ ev : List ℕ} (g : Going1 a st n j k s ev₀ ev) where
-  pub gone-facts : {s₀ : List ℕ} → Fits potential st s₀ ev₀ → ((34 * k ≤ length ev) × (length s ≡ 9507) × (length ev ≡ length ev₀) × (k ≤ 384)) × ((addressCount s ≤ n) × (n ≤ j + addressCount s))
+  pub gone-facts : {s₀ : List ℕ} → Fits potential st s₀ ev₀ → ((34 * k ≤ length ev) × (length s ≡ baseSize) × (length ev ≡ length ev₀) × (k ≤ 384)) × ((addressCount s ≤ n) × (n ≤ j + addressCount s))
   gone-facts f =
       let c = count-addresses (g .step .holds) in
       (step-facts f (g .step), (omega (arith, c, g .holding .most), omega (arith, c, g .holding .least)))

@@ -1,4 +1,9 @@
 // Addresses taken out, with the routes that go with them.
+use layout::ADDRESS_WORDS;
+use layout::ADDRESSES_AT;
+use layout::EVENT_WORDS;
+use layout::ROUTE_WORDS;
+use layout::address;
 ghost use mathlib.Core.Path.{_≡_};
 ghost use mathlib.Core.Bool.{true};
 ghost use mathlib.Core.List.{List};
@@ -23,8 +28,8 @@ fn place_of(rows: &[u32], n: usize, a: &[u32]) -> usize
 {
     let mut i = 0usize;
     while i < n {
-        let at = 20 * i;
-        let r = &rows[at..at + 20];
+        let at = ADDRESS_WORDS * i;
+        let r = &rows[at..at + ADDRESS_WORDS];
         if words::same_words(a, r) {
             return i;
         }
@@ -54,8 +59,15 @@ pub fn remove_one(s: &mut [u32], ev: &mut [u32], a: &[u32]) -> usize
     let n = state::address_count(s);
     let m = row_candidates::leaving(state_read::addresses(s), n, a, &mut block);
     let one = take_out(s, ev, a);
-    let end = 32 * m;
-    one + step_drop_routes::take_routes(s, &mut ev[34 * one..], &block[0..end], m, a[0])
+    let end = ROUTE_WORDS * m;
+    one
+        + step_drop_routes::take_routes(
+            s,
+            &mut ev[EVENT_WORDS * one..],
+            &block[0..end],
+            m,
+            a[address::LOCAL],
+        )
 }
 
 // Whether b goes with the primary a.
@@ -77,9 +89,9 @@ fn gone_turn(s: &mut [u32], ev: &mut [u32], a: &[u32], i: usize) -> usize
     requires { ⌜ fitAddress (now a) ≡ true ⌝ }
     ensures { λ r. ⌜ ((st : State) → Fits potential st (now (s .entry)) (now (ev .entry)) → EmitsWithin potential st (goneTurn (now (a .entry)) i st) (now (s .exit)) (now (ev .entry)) (now (ev .exit)) r) ⌝ }
 {
-    let at = 3 + 20 * i;
-    let end = at + 20;
-    let mut row = [0u32; 20];
+    let at = ADDRESSES_AT + ADDRESS_WORDS * i;
+    let end = at + ADDRESS_WORDS;
+    let mut row = [0u32; ADDRESS_WORDS];
     words::store(&mut row, 0, &s[at..end]);
     if goes_with(a, &row) {
         return remove_one(s, ev, &row);
@@ -98,7 +110,7 @@ fn remove_secondaries(s: &mut [u32], ev: &mut [u32], a: &[u32]) -> usize
     let mut k = 0usize;
     while j < n {
         let i = j + state::address_count(s) - n;
-        k += gone_turn(s, &mut ev[34 * k..], a, i);
+        k += gone_turn(s, &mut ev[EVENT_WORDS * k..], a, i);
         j += 1;
     }
     k
@@ -110,5 +122,5 @@ pub fn remove_v4(s: &mut [u32], ev: &mut [u32], a: &[u32]) -> usize
     ensures { λ r. ⌜ ((st : State) → Fits potential st (now (s .entry)) (now (ev .entry)) → any (eqRow (now (a .entry))) (st .addresses) ≡ true → EmitsWithin potential st (removeV4 (now (a .entry)) st) (now (s .exit)) (now (ev .entry)) (now (ev .exit)) r) ⌝ }
 {
     let k = remove_secondaries(s, ev, a);
-    k + remove_one(s, &mut ev[34 * k..], a)
+    k + remove_one(s, &mut ev[EVENT_WORDS * k..], a)
 }

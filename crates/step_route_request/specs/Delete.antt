@@ -13,7 +13,7 @@ use Rattle.lists.specs.Place.{placeOf, first-at, remove-at, nothing-from, somet
 use Rattle.layout.specs.Route.{fitRoute}
 use Rattle.layout.specs.Event.{delRoute4}
 use Rattle.definition.specs.State.{State, withRoutes}
-use Rattle.definition.specs.Words.{routeCount}
+use Rattle.definition.specs.Words.{routeCount, routesAt}
 use Rattle.definition.specs.Preservation.Fit.{length-route}
 use Rattle.definition.specs.Reference.Lookup.{listed}
 use Rattle.definition.specs.Reference.Routes.{tableNamed, badPrefix, selects, delRoute4Request}
@@ -26,26 +26,26 @@ use Rattle.step_route_request.specs.declared.Done.the-variants.{Rows, Re
 
 -- row i, as it is lent
 abbrev pub routeRow : List ℕ → ℕ → Row
-routeRow w i = take (1283 + 32 * i + 32 - (1283 + 32 * i)) (drop (1283 + 32 * i) w)
+routeRow w i = take (routesAt + 32 * i + 32 - (routesAt + 32 * i)) (drop (routesAt + 32 * i) w)
 
 module _ {w : List ℕ} {st : State} (h : Represents w st) (i : ℕ) (b : i < routeCount w) where
   row-there : routeRow w i ≡ getD (st .routes) i []
   unfolding span
   row-there =
-      let whole : 1283 + 32 * i + 32 - (1283 + 32 * i) ≡ 32 = omega arith in
+      let whole : routesAt + 32 * i + 32 - (routesAt + 32 * i) ≡ 32 = omega arith in
       rw whole (route-at h i (omega (arith, count-routes h)))
 
   row-fit : fitRoute (routeRow w i) ≡ true
   unfolding span
   row-fit =
-      let whole : 1283 + 32 * i + 32 - (1283 + 32 * i) ≡ 32 = omega arith in
+      let whole : routesAt + 32 * i + 32 - (routesAt + 32 * i) ≡ 32 = omega arith in
       rw whole (fit-route-at h i (omega (arith, count-routes h)))
 
 -- what the event's row requires, and where the row ends
 pub row-long : {w : List ℕ} → Valid w → (i : ℕ) → i < routeCount w → length (routeRow w i) ≡ 32
 row-long {w} v i b = length-route (routeRow w i) (row-fit (v .holds) i b)
 
-pub row-end : {w : List ℕ} → Valid w → (i : ℕ) → i < routeCount w → 1283 + 32 * i + 32 ≤ length w
+pub row-end : {w : List ℕ} → Valid w → (i : ℕ) → i < routeCount w → routesAt + 32 * i + 32 ≤ length w
 row-end {w} v i b = omega (arith, sizes-valid v)
 
 module _ (q : Row) {w : List ℕ} {st : State} (h : Represents w st) (ev : List ℕ) where

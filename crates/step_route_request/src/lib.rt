@@ -1,4 +1,9 @@
 // Requests to add and to delete a route, over the state's words.
+use layout::ROUTE_WORDS;
+use layout::ROUTES_AT;
+use layout::TABLE_LIMIT;
+use layout::add_route4;
+use layout::route;
 use request_gateway::Reached;
 use step_insert::Inserted;
 ghost use mathlib.Core.Path.{_≡_};
@@ -46,8 +51,8 @@ pub fn del_route4(s: &mut [u32], ev: &mut [u32], q: &[u32]) -> Done
     if n <= place {
         return Done::Refused(layout::NO_SUCH);
     }
-    let at = 1283 + 32 * place;
-    step_events::del_route4(ev, &s[at..at + 32]);
+    let at = ROUTES_AT + ROUTE_WORDS * place;
+    step_events::del_route4(ev, &s[at..at + ROUTE_WORDS]);
     state::remove_route(s, place);
     Done::Rows(1)
 }
@@ -58,7 +63,7 @@ fn prefsrc_check(s: &[u32], q: &[u32], t: u32, local: bool, linked: bool) -> Rea
     requires { ⌜ (length (now q) ≡ 34) × (t ≡ tableNamed (now q)) ⌝ }
     ensures { λ r. ⌜ ((st : State) → Represents (now (s .entry)) st → local ≡ (listed 255 st || eqb 255 t) → reachedOf r ≡ prefsrcCheck (now (q .entry)) (by linked) (create4 (tableNamed (now (q .entry))) st)) ⌝ }
 {
-    if q[8] != 1 {
+    if q[route::PREFSRC_PRESENT] != 1 {
         return Reached::By(linked);
     }
     let own = request_prefsrc::prefsrc_table(t);
@@ -126,9 +131,9 @@ fn add_checked(s: &mut [u32], ev: &mut [u32], q: &[u32], t: u32, linked: bool) -
     requires { ⌜ 34 ≤ length (now ev) ⌝ }
     ensures { λ r. ⌜ ((st : State) → Represents (now (s .entry)) st → fitState st ≡ true → Requested (insertedAs (askedRoute (now (q .entry)) linked) (insert4 (askedRoute (now (q .entry)) linked) (nlmFlags (now (q .entry))) (st .routes)) (create4 t st)) st (now (s .exit)) (now (ev .entry)) (now (ev .exit)) r) ⌝ }
 {
-    let mut new = [0u32; 32];
+    let mut new = [0u32; ROUTE_WORDS];
     request_route::asked_route(q, linked, &mut new);
-    let inserted = step_insert::insert4(s, &new, q[14]);
+    let inserted = step_insert::insert4(s, &new, q[add_route4::REQUEST]);
     if full(inserted) {
         return Done::Full;
     }
@@ -144,7 +149,7 @@ pub fn add_route4(s: &mut [u32], ev: &mut [u32], q: &[u32]) -> Done
     ensures { λ r. ⌜ ((st : State) → Represents (now (s .entry)) st → fitState st ≡ true → Requested (addRoute4 (now (q .entry)) st) st (now (s .exit)) (now (ev .entry)) (now (ev .exit)) r) ⌝ }
 {
     let t = request_route::table_named(q);
-    if 32 < state_tables::tables_after(s, t) {
+    if TABLE_LIMIT < state_tables::tables_after(s, t) {
         return Done::Full;
     }
     let checked = check(s, q);

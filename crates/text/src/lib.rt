@@ -1,4 +1,5 @@
 // Routes as text, in ASCII: each function writes at a place of the lent bytes and answers the place behind what it wrote.
+use layout::route;
 ghost use mathlib.Core.Path.{_≡_};
 ghost use mathlib.Core.List.{[], _∷_, _++_};
 ghost use Prim.Native.Nat.{_+_, _*_, _<_, _≤_};
@@ -123,11 +124,11 @@ pub fn line(out: &mut [u8], at: usize, r: &[u32]) -> usize
     ensures { λ k. ⌜ k ≡ at + length (Print·line (now (r .entry))) ⌝ }
     ensures { λ _. ⌜ now (out .exit) ≡ put at (Print·line (now (r .entry))) (now (out .entry)) ⌝ }
 {
-    let a = number_in(out, at, b'(', r[0], b' ');
-    let b = destination(out, a, r[1], r[2]);
-    let c = number_in(out, b, b' ', r[5], b' ');
-    let d = number_to(out, c, r[3], b' ');
-    ends(out, d, r[4])
+    let a = number_in(out, at, b'(', r[route::TABLE], b' ');
+    let b = destination(out, a, r[route::DST], r[route::LEN]);
+    let c = number_in(out, b, b' ', r[route::KIND], b' ');
+    let d = number_to(out, c, r[route::TOS], b' ');
+    ends(out, d, r[route::PRIORITY])
 }
 
 // How many rows there are: 20 bytes at most.

@@ -14,6 +14,7 @@ use Rattle.app_show.specs.Laws.{shown-words, shown-other, counts-put}
 use borrow.Author.Needs.{needs}
 use Rattle.app_show.proofs.show.Statement.{statement}
 use Rattle.app_show.proofs.show.Tie as tie
+use Rattle.definition.specs.Words.{stateSize}
 
 refused-line-requires : tie.Need-refused-line-requires
 refused-line-requires c κs = search needs
@@ -47,7 +48,7 @@ returns-2 c =
     let b = now (a .args .bytes) in
     let o = now (a .args .out) in
     let r = c .show-words .ensures in
-    let s = words-whole 9507 b _ _ (omega arith) refl (c .before .before .before .before .words-of .ensures) in
+    let s = words-whole stateSize b _ _ (omega arith) refl (c .before .before .before .before .words-of .ensures) in
     let e = ap shownWords s ∙ sym (shown-words b (omega arith)) in
     let m = r .1 .0 ∙ ap (λ (x : List ℕ). length x) e in
     let n = r .1 .1 ∙ ap (λ (x : List ℕ). put 0 x o) e in

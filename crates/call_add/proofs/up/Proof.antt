@@ -3,7 +3,7 @@ use mathlib.Core.Bool.{true}
 use lib.ListN.{length}
 use borrow.Author.Tests.{leb-true}
 use Rattle.definition.specs.Words.{decode}
-use Rattle.definition.specs.Step.{eventsFit}
+use Rattle.definition.specs.Step.{eventsFit, eventRoom}
 use Rattle.call_read.specs.Laws.{passed, held}
 use Rattle.call_add.specs.Laws.{emittedOf, up-no, up-yes, good-passed}
 use Rattle.call_change.specs.Told.{up-emitted, emitted-says}
@@ -32,7 +32,7 @@ up-requires c κs =
     let k = e .before in
     let a = k .before .before .before .before .args in
     let p = passed (eventsFit (length (a .events .now))) true true (a .state .now) (k .checked .result) (k .checked .ensures) (e .if1 .left) in
-    (sound (eventsFit (length (a .events .now))) true (a .state .now) (k .checked .result) (k .checked .ensures) (e .if1 .left), leb-true 13056 (length (a .events .now)) (p .room))
+    (sound (eventsFit (length (a .events .now))) true (a .state .now) (k .checked .result) (k .checked .ensures) (e .if1 .left), leb-true eventRoom (length (a .events .now)) (p .room))
 
 enum-known-emitted : tie.Need-enum-known-emitted
 enum-known-emitted c = search needs

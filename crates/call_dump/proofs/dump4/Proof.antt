@@ -8,6 +8,7 @@ use Rattle.call_dump.specs.Listing.{dump4-says}
 use borrow.Author.Needs.{needs}
 use Rattle.call_dump.proofs.dump4.Statement.{statement}
 use Rattle.call_dump.proofs.dump4.Tie as tie
+use Rattle.definition.specs.Step.{listingRoom}
 
 checked-requires : tie.Need-checked-requires
 checked-requires c κs = search needs
@@ -26,8 +27,8 @@ list-requires c κs =
     let e = c .before in
     let k = e .before in
     let a = k .before .before .before .args in
-    let p = passed (leb 8192 (length (a .listing .now))) true true (a .state .now) (k .checked .result) (k .checked .ensures) (e .if1 .left) in
-    (p .long, p .formed, leb-true 8192 (length (a .listing .now)) (p .room))
+    let p = passed (leb listingRoom (length (a .listing .now))) true true (a .state .now) (k .checked .result) (k .checked .ensures) (e .if1 .left) in
+    (p .long, p .formed, leb-true listingRoom (length (a .listing .now)) (p .room))
 
 same-length : tie.Need-same-length
 same-length c = search needs

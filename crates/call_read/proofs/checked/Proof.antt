@@ -7,6 +7,7 @@ use Rattle.lists.specs.Bools.{and-left}
 use Rattle.call_read.specs.Laws.{unfit-lengths, unfit-state, unfit-request, all-fit}
 use Rattle.call_read.proofs.checked.Statement.{statement}
 use Rattle.call_read.proofs.checked.Tie as tie
+use Rattle.definition.specs.Words.{stateSize}
 
 returns : tie.Need-returns
 returns c =
@@ -16,7 +17,7 @@ returns c =
 well-formed-requires : tie.Need-well-formed-requires
 well-formed-requires c κs =
     let a = c .before .before .args in
-    eqb-true (length (a .s .now)) 9507 (and-left (eqb (length (a .s .now)) 9507) (a .buffers) (not-false _ (c .if1 .left)))
+    eqb-true (length (a .s .now)) stateSize (and-left (eqb (length (a .s .now)) stateSize) (a .buffers) (not-false _ (c .if1 .left)))
 
 returns-2 : tie.Need-returns-2
 returns-2 c =

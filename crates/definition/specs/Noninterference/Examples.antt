@@ -14,7 +14,7 @@ use Rattle.lists.specs.All.{all-head, all-tail, eqRow-true}
 use Rattle.lists.specs.Keep.{keep-within}
 use Rattle.layout.specs.Route.{table, dst, len, kind, prefsrc}
 use Rattle.definition.specs.State.{State, empty}
-use Rattle.definition.specs.Words.{stateOf}
+use Rattle.definition.specs.Words.{stateOf, routesSize}
 use Rattle.definition.specs.Call.{Call, Reply}
 use Rattle.definition.specs.Reference.Lookup.{answer, flowTo}
 use Rattle.definition.specs.Reference.Source.{dump4}
@@ -23,19 +23,20 @@ use Rattle.definition.specs.Noninterference.Statement.{Choice, unstruck,
 use Rattle.definition.specs.Noninterference.Calls.{freely, bounded}
 use Rattle.definition.specs.Noninterference.Theorem.{two-runs}
 use Rattle.definition.specs.Noninterference.Computed.{left, ample, answers, run-left, run-ample, run-answers}
+use Rattle.definition.specs.Step.{eventRoom}
 
 abbrev private : ℕ → Bool
 private t = eqb t 300
 
 -- ---- calls, with room for their events and rows
 abbrev events : ℕ
-events = 13056
+events = eventRoom
 
 abbrev up : Call
 up = Call.up events 0
 
 abbrev dump : Call
-dump = Call.dump4 8192
+dump = Call.dump4 routesSize
 
 -- a route through the device (none for a kind that rejects), of host scope where it is local, with CREATE, from a preferred source where
 -- that isn't 0

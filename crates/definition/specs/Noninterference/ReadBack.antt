@@ -15,7 +15,7 @@ use Rattle.lists.specs.Bools.{and-right, cond-case}
 use Rattle.lists.specs.Rows.{sized, length-flat, chop-flat, length-put}
 use Rattle.layout.specs.Route.{fitRoute}
 use Rattle.definition.specs.State.{State, sizes}
-use Rattle.definition.specs.Words.{within, stateOf}
+use Rattle.definition.specs.Words.{within, stateOf, routesSize}
 use Rattle.definition.specs.Call.{Call, Reply, Numbers, numbers, replied, refusal, valued, written, optionally, foundRow}
 use Rattle.definition.specs.Reference.Addresses.{Outcome, goes, refused}
 use Rattle.definition.specs.Reference.Lookup as Lookup
@@ -123,7 +123,7 @@ shaped (Call.addRoute4 q events) w = events-shaped (Call.addRoute4 q events) w r
 shaped (Call.delRoute4 q events) w = events-shaped (Call.delRoute4 q events) w refl events (asked-room 49 q events)
 shaped (Call.dump4 room) w =
     reading-shaped (forListing room) (Call.dump4 room) w
-    (λ g p. let l = dump4-listing (stateOf w) g in record { counts = refl; size = l .1; room = omega (arith, l .0, leb-true 8192 room p) })
+    (λ g p. let l = dump4-listing (stateOf w) g in record { counts = refl; size = l .1; room = omega (arith, l .0, leb-true routesSize room p) })
 shaped (Call.lookup4 room ip) w = reading-shaped (forRow room) (Call.lookup4 room ip) w (lookup-shaped room (stateOf w) _)
 shaped (Call.lookup4Flow room ip tos oif) w =
     reading-shaped (forRow room) (Call.lookup4Flow room ip tos oif) w (lookup-shaped room (stateOf w) _)

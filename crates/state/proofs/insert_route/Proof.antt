@@ -7,7 +7,7 @@ use native.Mathlib.Omega.{arith}
 use lib.ListN.{set}
 use denote.Ref.{now}
 use Rattle.lists.specs.Lists.{put, span}
-use Rattle.definition.specs.Words.{routeCount}
+use Rattle.definition.specs.Words.{routeCount, routesAt}
 use Rattle.definition.specs.Preservation.Fit.{length-route}
 use Rattle.state.specs.Represents.{sizes-valid, count-routes}
 use Rattle.state.specs.Change.{insert-route}
@@ -56,7 +56,7 @@ returns c = λ st h.
     let i : ℕ = a .i in
     let w = now (a .s) in
     let n = routeCount w in
-    rw (ap (λ (l : List ℕ). set l 1 (n + 1)) (at-insert .ensures ∙ ap (λ (m : ℕ). put (1283 + 32 * i) (now (a .row) ++ span (1283 + 32 * i) (32 * (m - i)) w) w) (at-wide .ensures)))
+    rw (ap (λ (l : List ℕ). set l 1 (n + 1)) (at-insert .ensures ∙ ap (λ (m : ℕ). put (routesAt + 32 * i) (now (a .row) ++ span (routesAt + 32 * i) (32 * (m - i)) w) w) (at-wide .ensures)))
     (insert-route h i (now (a .row)) (omega (arith, count-routes h, start .pre .1 .0)) (omega (arith, count-routes h, start .pre .1 .0)) (start .pre .1 .1))
 
 pub insert-route-spec : {M : Type 1} → statement M

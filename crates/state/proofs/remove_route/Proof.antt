@@ -7,7 +7,7 @@ use native.Mathlib.Omega.{arith}
 use lib.ListN.{set}
 use denote.Ref.{now}
 use Rattle.lists.specs.Lists.{put, span, zeros}
-use Rattle.definition.specs.Words.{routeCount}
+use Rattle.definition.specs.Words.{routeCount, routesAt}
 use Rattle.state.specs.Represents.{sizes-valid, count-routes}
 use Rattle.state.specs.Change.{remove-route}
 use borrow.Author.Needs.{needs}
@@ -53,7 +53,7 @@ returns c = λ st h.
     let i : ℕ = a .i in
     let w = now (a .s) in
     let n = routeCount w - 1 in
-    rw (ap (λ (l : List ℕ). set l 1 n) (at-remove .ensures ∙ ap (λ (m : ℕ). put (1283 + 32 * i) (span (1283 + 32 * i + 32) (32 * (m - i)) w ++ zeros 32) w) (at-wide .ensures)))
+    rw (ap (λ (l : List ℕ). set l 1 n) (at-remove .ensures ∙ ap (λ (m : ℕ). put (routesAt + 32 * i) (span (routesAt + 32 * i + 32) (32 * (m - i)) w ++ zeros 32) w) (at-wide .ensures)))
     (remove-route h i (omega (arith, count-routes h, start .pre .1)))
 
 pub remove-route-spec : {M : Type 1} → statement M

@@ -7,6 +7,7 @@ use Rattle.state_read.specs.Parts.{route-end}
 use borrow.Author.Needs.{needs}
 use Rattle.state_read.proofs.routes.Statement.{statement}
 use Rattle.state_read.proofs.routes.Tie as tie
+use Rattle.definition.specs.Words.{routesAt}
 
 route-count-requires : tie.Need-route-count-requires
 route-count-requires c κs = sizes-valid (c .before .pre) .long
@@ -28,7 +29,7 @@ part-result-end c = omega (arith, c .route-count .ensures, route-end (c .before 
 
 returns : tie.Need-returns
 returns c =
-    ap (λ (n : ℕ). take (1283 + 32 * n - 1283) (drop 1283 (c .before .before .before .args .s .now))) (c .before .route-count .ensures)
+    ap (λ (n : ℕ). take (routesAt + 32 * n - routesAt) (drop routesAt (c .before .before .before .args .s .now))) (c .before .route-count .ensures)
 
 pub routes-spec : {M : Type 1} → statement M
 routes-spec =

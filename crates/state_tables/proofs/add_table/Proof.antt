@@ -5,7 +5,7 @@ use Prim.Native.Nat.{ℕ, _+_, _-_}
 use native.Mathlib.Omega.{arith}
 use lib.ListN.{set, length-set}
 use denote.Ref.{now}
-use Rattle.definition.specs.Words.{tableCount}
+use Rattle.definition.specs.Words.{tableCount, tablesAt}
 use Rattle.state.specs.Represents.{sizes-valid}
 use Rattle.state_tables.specs.Listed.{tablesOf, add-there, add-new, length-new, length-listed}
 use borrow.Author.Needs.{needs}
@@ -56,7 +56,7 @@ returns-2 c = λ st h.
     let start = c .before .before .before .before .before .before in
     let at-listed = c .before .before .before .listed in
     let at-if1 = c .before .before .if1 in
-    rw (ap (λ (m : ℕ). set (set (now (start .args .s)) (9475 + m) (start .args .t)) 2 (tableCount (now (start .args .s)) + 1)) (c .wide .ensures))
+    rw (ap (λ (m : ℕ). set (set (now (start .args .s)) (tablesAt + m) (start .args .t)) 2 (tableCount (now (start .args .s)) + 1)) (c .wide .ensures))
     (add-new h (start .args .t) (sym (at-listed .ensures) ∙ at-if1 .left) (start .pre .1))
 
 pub add-table-spec : {M : Type 1} → statement M

@@ -10,6 +10,7 @@ use Rattle.state.specs.Represents.{sizes-valid}
 use borrow.Author.Needs.{needs}
 use Rattle.state_tables.proofs.listed.Statement.{statement}
 use Rattle.state_tables.proofs.listed.Tie as tie
+use Rattle.definition.specs.Words.{tablesAt}
 
 shared-slice-read-wide : tie.Need-shared-slice-read-wide
 shared-slice-read-wide c = omega (arith, sizes-valid (c .before .before .pre))
@@ -39,8 +40,8 @@ returns c =
     let at-wide = c .before .before .wide in
     let w = now (start .args .s) in
     let n : ℕ = at-wide .result in
-    let size : 9475 + n - 9475 ≡ n = omega arith in
-    c .among .ensures ∙ ap (λ (m : ℕ). among (start .args .t) (take m (drop 9475 w))) (size ∙ at-wide .ensures)
+    let size : tablesAt + n - tablesAt ≡ n = omega arith in
+    c .among .ensures ∙ ap (λ (m : ℕ). among (start .args .t) (take m (drop tablesAt w))) (size ∙ at-wide .ensures)
 
 pub listed-spec : {M : Type 1} → statement M
 listed-spec =

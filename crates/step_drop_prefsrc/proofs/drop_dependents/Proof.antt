@@ -13,10 +13,11 @@ use Rattle.step_drop_prefsrc.specs.Sweep.{length-rest, Sweeping, sweepin
 use borrow.Author.Needs.{needs}
 use Rattle.step_drop_prefsrc.proofs.drop_dependents.Statement.{statement}
 use Rattle.step_drop_prefsrc.proofs.drop_dependents.Tie as tie
+use Rattle.definition.specs.Words.{baseSize}
 
 abbrev Inv-loop : tie.InvT-loop
 Inv-loop s₀ ev₀ ip n i₀ j₀ s ev i j =
-    (i ≤ n) × (j ≤ i) × (n ≤ 256) × (34 * n ≤ length ev) × (length s ≡ 9507) × (length ev ≡ length ev₀) × Sweeping (dependentOn ip) s₀ i j s ev₀ ev
+    (i ≤ n) × (j ≤ i) × (n ≤ 256) × (34 * n ≤ length ev) × (length s ≡ baseSize) × (length ev ≡ length ev₀) × Sweeping (dependentOn ip) s₀ i j s ev₀ ev
 
 abbrev μ-loop : tie.MeasureT-loop
 μ-loop s₀ ev₀ ip n i₀ j₀ s ev i j = n - i

@@ -5,7 +5,7 @@ use Rattle.step_events.specs.Turns.{going-ready, going-fits}
 use Rattle.step_events.specs.EmitsWithin.{Fits}
 use Rattle.state.specs.Represents.{sizes-valid}
 use Rattle.definition.specs.Preservation.Shrinking.{potential}
-use Rattle.definition.specs.Words.{addressCount}
+use Rattle.definition.specs.Words.{addressCount, baseSize}
 use Rattle.definition.specs.State.{State}
 use lib.ListN.{length}
 use native.Mathlib.Omega.{arith}
@@ -18,7 +18,7 @@ use Rattle.step_expire.proofs.expire.Tie as tie
 abbrev Inv-loop : tie.InvT-loop
 Inv-loop s₀ ev₀ allowance clock i₀ k₀ n₀ s ev i k n =
     (n ≡ addressCount s)
-    × (((34 * k ≤ length ev) × (length s ≡ 9507) × (length ev ≡ length ev₀) × (k ≤ 384)) × ((i ≤ addressCount s) × (addressCount s ≤ 64)))
+    × (((34 * k ≤ length ev) × (length s ≡ baseSize) × (length ev ≡ length ev₀) × (k ≤ 384)) × ((i ≤ addressCount s) × (addressCount s ≤ 64)))
     × ((st : State) → Fits potential st s₀ ev₀ → Expiring (allowance .0) (clock .0) st i k s ev₀ ev)
 
 abbrev μ-loop : tie.MeasureT-loop

@@ -8,11 +8,13 @@ use Rattle.call_change.specs.Told.{down-emitted}
 use Rattle.interface4.specs.Changed.{changed-no, changed-yes, room, as-words, value-few}
 use Rattle.interface4.specs.Stays.{down-stays, stays-from}
 use Rattle.interface4.specs.Answer.{changeFits}
-use Rattle.definition.specs.Step.{downCall}
+use Rattle.definition.specs.Step.{downCall, eventRoom}
 use Rattle.endian.specs.Endian.{wordsOf}
 use borrow.Author.Needs.{needs}
 use Rattle.interface4.proofs.changing.interface4_down.Statement.{statement}
 use Rattle.interface4.proofs.changing.interface4_down.Tie as tie
+use Rattle.definition.specs.Words.{stateSize}
+use Prim.Native.Nat.{_*_}
 
 refused-requires : tie.Need-refused-requires
 refused-requires c κs = search needs
@@ -20,7 +22,7 @@ refused-requires c κs = search needs
 returns : tie.Need-returns
 returns c =
     let a = c .before .before .before .before .args in
-    let x = changed-no (a .state .now) (a .events .now) (changeFits (a .state .now) (a .events .now)) (downCall 13056 (wordsOf (a .state .now))) (c .refused .result) (not-true _ (c .before .if1 .taken)) (c .refused .ensures) in
+    let x = changed-no (a .state .now) (a .events .now) (changeFits (a .state .now) (a .events .now)) (downCall eventRoom (wordsOf (a .state .now))) (c .refused .result) (not-true _ (c .before .if1 .taken)) (c .refused .ensures) in
     (x .answer, (x .state, (x .events, x .narrow)))
 
 slice-aggregate-words-of : tie.Need-slice-aggregate-words-of
@@ -30,7 +32,7 @@ words-of-requires : tie.Need-words-of-requires
 words-of-requires c κs =
     let e = c .before .before in
     let a = e .before .before .before .args in
-    let r = room 52224 (a .state .now) (a .events .now) (not-false _ (e .if1 .left)) in
+    let r = room (4 * eventRoom) (a .state .now) (a .events .now) (not-false _ (e .if1 .left)) in
     omega (arith, r .0)
 
 slice-aggregate-interface4w-down : tie.Need-slice-aggregate-interface4w-down
@@ -54,9 +56,9 @@ give-back-requires c κs =
     let k = d .before .before .before .before in
     let e = k .before .before .before in
     let a = e .before .before .before .args in
-    let r = room 52224 (a .state .now) (a .events .now) (not-false _ (e .if1 .left)) in
-    let s = words-whole 9507 (a .state .now) _ _ (r .0) refl (k .words-of .ensures) in
-    ((search needs, search needs, value-few (d .interface4w-down .result) _ (d .interface4w-down .ensures .0) (down-emitted _ 13056), r .0, r .1), stays-from 1 (a .state .now) _ _ (downCall 13056 _) (d .interface4w-down .result) (r .0) (e .before .before .slice-known .given) s (d .interface4w-down .ensures .0) (d .interface4w-down .ensures .1 .0) (down-stays _ 13056))
+    let r = room (4 * eventRoom) (a .state .now) (a .events .now) (not-false _ (e .if1 .left)) in
+    let s = words-whole stateSize (a .state .now) _ _ (r .0) refl (k .words-of .ensures) in
+    ((search needs, search needs, value-few (d .interface4w-down .result) _ (d .interface4w-down .ensures .0) (down-emitted _ eventRoom), r .0, r .1), stays-from 1 (a .state .now) _ _ (downCall eventRoom _) (d .interface4w-down .result) (r .0) (e .before .before .slice-known .given) s (d .interface4w-down .ensures .0) (d .interface4w-down .ensures .1 .0) (down-stays _ eventRoom))
 
 same-length : tie.Need-same-length
 same-length c = search needs
@@ -72,10 +74,10 @@ returns-2 c =
     let e = k .before .before .before in
     let a = e .before .before .before .args in
     let f = changeFits (a .state .now) (a .events .now) in
-    let r = room 52224 (a .state .now) (a .events .now) (not-false _ (e .if1 .left)) in
-    let s = words-whole 9507 (a .state .now) _ _ (r .0) refl (k .words-of .ensures) in
-    let y = changed-yes (a .state .now) (a .events .now) f (downCall 13056 _) (d .interface4w-down .result) _ _ _ _ _ (not-false _ (e .if1 .left)) (down-emitted _ 13056) (d .interface4w-down .ensures .0) (d .interface4w-down .ensures .1 .0) (d .interface4w-down .ensures .1 .1) (g .give-back .ensures .0) (g .give-back .ensures .1 .0) (g .give-back .ensures .1 .1) in
-    let x = as-words (a .state .now) (a .events .now) f (downCall 13056) (d .interface4w-down .result) _ _ _ _ s y in
+    let r = room (4 * eventRoom) (a .state .now) (a .events .now) (not-false _ (e .if1 .left)) in
+    let s = words-whole stateSize (a .state .now) _ _ (r .0) refl (k .words-of .ensures) in
+    let y = changed-yes (a .state .now) (a .events .now) f (downCall eventRoom _) (d .interface4w-down .result) _ _ _ _ _ (not-false _ (e .if1 .left)) (down-emitted _ eventRoom) (d .interface4w-down .ensures .0) (d .interface4w-down .ensures .1 .0) (d .interface4w-down .ensures .1 .1) (g .give-back .ensures .0) (g .give-back .ensures .1 .0) (g .give-back .ensures .1 .1) in
+    let x = as-words (a .state .now) (a .events .now) f (downCall eventRoom) (d .interface4w-down .result) _ _ _ _ s y in
     (x .answer, (x .state, (x .events, x .narrow)))
 
 pub interface4-down-spec : {M : Type 1} → statement M

@@ -9,11 +9,13 @@ use Rattle.interface4.specs.Changed.{changed-no, changed-yes, room, as-w
 use Rattle.interface4.specs.Stays.{stays-quiet}
 use Rattle.interface4.specs.Quiet.{expire-stays}
 use Rattle.interface4.specs.Answer.{changeFits}
-use Rattle.definition.specs.Step.{expireCall}
+use Rattle.definition.specs.Step.{expireCall, eventRoom}
 use Rattle.endian.specs.Endian.{wordsOf}
 use borrow.Author.Needs.{needs}
 use Rattle.interface4.proofs.changing.interface4_expire.Statement.{statement}
 use Rattle.interface4.proofs.changing.interface4_expire.Tie as tie
+use Rattle.definition.specs.Words.{stateSize}
+use Prim.Native.Nat.{_*_}
 
 refused-requires : tie.Need-refused-requires
 refused-requires c κs = search needs
@@ -21,7 +23,7 @@ refused-requires c κs = search needs
 returns : tie.Need-returns
 returns c =
     let a = c .before .before .before .before .args in
-    let x = changed-no (a .state .now) (a .events .now) (changeFits (a .state .now) (a .events .now)) (expireCall 13056 (a .clock) (wordsOf (a .state .now))) (c .refused .result) (not-true _ (c .before .if1 .taken)) (c .refused .ensures) in
+    let x = changed-no (a .state .now) (a .events .now) (changeFits (a .state .now) (a .events .now)) (expireCall eventRoom (a .clock) (wordsOf (a .state .now))) (c .refused .result) (not-true _ (c .before .if1 .taken)) (c .refused .ensures) in
     (x .answer, (x .state, (x .events, x .narrow)))
 
 slice-aggregate-words-of : tie.Need-slice-aggregate-words-of
@@ -31,7 +33,7 @@ words-of-requires : tie.Need-words-of-requires
 words-of-requires c κs =
     let e = c .before .before in
     let a = e .before .before .before .args in
-    let r = room 52224 (a .state .now) (a .events .now) (not-false _ (e .if1 .left)) in
+    let r = room (4 * eventRoom) (a .state .now) (a .events .now) (not-false _ (e .if1 .left)) in
     omega (arith, r .0)
 
 slice-aggregate-interface4w-expire : tie.Need-slice-aggregate-interface4w-expire
@@ -55,9 +57,9 @@ give-back-requires c κs =
     let k = d .before .before .before .before in
     let e = k .before .before .before in
     let a = e .before .before .before .args in
-    let r = room 52224 (a .state .now) (a .events .now) (not-false _ (e .if1 .left)) in
-    let s = words-whole 9507 (a .state .now) _ _ (r .0) refl (k .words-of .ensures) in
-    ((search needs, search needs, value-few (d .interface4w-expire .result) _ (d .interface4w-expire .ensures .0) (expire-emitted _ 13056 (a .clock)), r .0, r .1), stays-quiet (a .state .now) _ _ (expireCall 13056 _ _) (d .interface4w-expire .result) (r .0) (e .before .before .slice-known .given) s (d .interface4w-expire .ensures .0) (d .interface4w-expire .ensures .1 .0) (expire-stays _ 13056 _))
+    let r = room (4 * eventRoom) (a .state .now) (a .events .now) (not-false _ (e .if1 .left)) in
+    let s = words-whole stateSize (a .state .now) _ _ (r .0) refl (k .words-of .ensures) in
+    ((search needs, search needs, value-few (d .interface4w-expire .result) _ (d .interface4w-expire .ensures .0) (expire-emitted _ eventRoom (a .clock)), r .0, r .1), stays-quiet (a .state .now) _ _ (expireCall eventRoom _ _) (d .interface4w-expire .result) (r .0) (e .before .before .slice-known .given) s (d .interface4w-expire .ensures .0) (d .interface4w-expire .ensures .1 .0) (expire-stays _ eventRoom _))
 
 same-length : tie.Need-same-length
 same-length c = search needs
@@ -73,10 +75,10 @@ returns-2 c =
     let e = k .before .before .before in
     let a = e .before .before .before .args in
     let f = changeFits (a .state .now) (a .events .now) in
-    let r = room 52224 (a .state .now) (a .events .now) (not-false _ (e .if1 .left)) in
-    let s = words-whole 9507 (a .state .now) _ _ (r .0) refl (k .words-of .ensures) in
-    let y = changed-yes (a .state .now) (a .events .now) f (expireCall 13056 (a .clock) _) (d .interface4w-expire .result) _ _ _ _ _ (not-false _ (e .if1 .left)) (expire-emitted _ 13056 (a .clock)) (d .interface4w-expire .ensures .0) (d .interface4w-expire .ensures .1 .0) (d .interface4w-expire .ensures .1 .1) (g .give-back .ensures .0) (g .give-back .ensures .1 .0) (g .give-back .ensures .1 .1) in
-    let x = as-words (a .state .now) (a .events .now) f (expireCall 13056 (a .clock)) (d .interface4w-expire .result) _ _ _ _ s y in
+    let r = room (4 * eventRoom) (a .state .now) (a .events .now) (not-false _ (e .if1 .left)) in
+    let s = words-whole stateSize (a .state .now) _ _ (r .0) refl (k .words-of .ensures) in
+    let y = changed-yes (a .state .now) (a .events .now) f (expireCall eventRoom (a .clock) _) (d .interface4w-expire .result) _ _ _ _ _ (not-false _ (e .if1 .left)) (expire-emitted _ eventRoom (a .clock)) (d .interface4w-expire .ensures .0) (d .interface4w-expire .ensures .1 .0) (d .interface4w-expire .ensures .1 .1) (g .give-back .ensures .0) (g .give-back .ensures .1 .0) (g .give-back .ensures .1 .1) in
+    let x = as-words (a .state .now) (a .events .now) f (expireCall eventRoom (a .clock)) (d .interface4w-expire .result) _ _ _ _ s y in
     (x .answer, (x .state, (x .events, x .narrow)))
 
 pub interface4-expire-spec : {M : Type 1} → statement M

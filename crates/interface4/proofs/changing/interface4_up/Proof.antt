@@ -8,11 +8,13 @@ use Rattle.call_change.specs.Told.{up-emitted}
 use Rattle.interface4.specs.Changed.{changed-no, changed-yes, room, as-words, value-few}
 use Rattle.interface4.specs.Stays.{up-stays, stays-from}
 use Rattle.interface4.specs.Answer.{changeFits}
-use Rattle.definition.specs.Step.{upCall}
+use Rattle.definition.specs.Step.{upCall, eventRoom}
 use Rattle.endian.specs.Endian.{wordsOf}
 use borrow.Author.Needs.{needs}
 use Rattle.interface4.proofs.changing.interface4_up.Statement.{statement}
 use Rattle.interface4.proofs.changing.interface4_up.Tie as tie
+use Rattle.definition.specs.Words.{stateSize}
+use Prim.Native.Nat.{_*_}
 
 refused-requires : tie.Need-refused-requires
 refused-requires c κs = search needs
@@ -20,7 +22,7 @@ refused-requires c κs = search needs
 returns : tie.Need-returns
 returns c =
     let a = c .before .before .before .before .args in
-    let x = changed-no (a .state .now) (a .events .now) (changeFits (a .state .now) (a .events .now)) (upCall 13056 (a .clock) (wordsOf (a .state .now))) (c .refused .result) (not-true _ (c .before .if1 .taken)) (c .refused .ensures) in
+    let x = changed-no (a .state .now) (a .events .now) (changeFits (a .state .now) (a .events .now)) (upCall eventRoom (a .clock) (wordsOf (a .state .now))) (c .refused .result) (not-true _ (c .before .if1 .taken)) (c .refused .ensures) in
     (x .answer, (x .state, (x .events, x .narrow)))
 
 slice-aggregate-words-of : tie.Need-slice-aggregate-words-of
@@ -30,7 +32,7 @@ words-of-requires : tie.Need-words-of-requires
 words-of-requires c κs =
     let e = c .before .before in
     let a = e .before .before .before .args in
-    let r = room 52224 (a .state .now) (a .events .now) (not-false _ (e .if1 .left)) in
+    let r = room (4 * eventRoom) (a .state .now) (a .events .now) (not-false _ (e .if1 .left)) in
     omega (arith, r .0)
 
 slice-aggregate-interface4w-up : tie.Need-slice-aggregate-interface4w-up
@@ -54,9 +56,9 @@ give-back-requires c κs =
     let k = d .before .before .before .before in
     let e = k .before .before .before in
     let a = e .before .before .before .args in
-    let r = room 52224 (a .state .now) (a .events .now) (not-false _ (e .if1 .left)) in
-    let s = words-whole 9507 (a .state .now) _ _ (r .0) refl (k .words-of .ensures) in
-    ((search needs, search needs, value-few (d .interface4w-up .result) _ (d .interface4w-up .ensures .0) (up-emitted _ 13056 (a .clock)), r .0, r .1), stays-from 1 (a .state .now) _ _ (upCall 13056 _ _) (d .interface4w-up .result) (r .0) (e .before .before .slice-known .given) s (d .interface4w-up .ensures .0) (d .interface4w-up .ensures .1 .0) (up-stays _ 13056 _))
+    let r = room (4 * eventRoom) (a .state .now) (a .events .now) (not-false _ (e .if1 .left)) in
+    let s = words-whole stateSize (a .state .now) _ _ (r .0) refl (k .words-of .ensures) in
+    ((search needs, search needs, value-few (d .interface4w-up .result) _ (d .interface4w-up .ensures .0) (up-emitted _ eventRoom (a .clock)), r .0, r .1), stays-from 1 (a .state .now) _ _ (upCall eventRoom _ _) (d .interface4w-up .result) (r .0) (e .before .before .slice-known .given) s (d .interface4w-up .ensures .0) (d .interface4w-up .ensures .1 .0) (up-stays _ eventRoom _))
 
 same-length : tie.Need-same-length
 same-length c = search needs
@@ -72,10 +74,10 @@ returns-2 c =
     let e = k .before .before .before in
     let a = e .before .before .before .args in
     let f = changeFits (a .state .now) (a .events .now) in
-    let r = room 52224 (a .state .now) (a .events .now) (not-false _ (e .if1 .left)) in
-    let s = words-whole 9507 (a .state .now) _ _ (r .0) refl (k .words-of .ensures) in
-    let y = changed-yes (a .state .now) (a .events .now) f (upCall 13056 (a .clock) _) (d .interface4w-up .result) _ _ _ _ _ (not-false _ (e .if1 .left)) (up-emitted _ 13056 (a .clock)) (d .interface4w-up .ensures .0) (d .interface4w-up .ensures .1 .0) (d .interface4w-up .ensures .1 .1) (g .give-back .ensures .0) (g .give-back .ensures .1 .0) (g .give-back .ensures .1 .1) in
-    let x = as-words (a .state .now) (a .events .now) f (upCall 13056 (a .clock)) (d .interface4w-up .result) _ _ _ _ s y in
+    let r = room (4 * eventRoom) (a .state .now) (a .events .now) (not-false _ (e .if1 .left)) in
+    let s = words-whole stateSize (a .state .now) _ _ (r .0) refl (k .words-of .ensures) in
+    let y = changed-yes (a .state .now) (a .events .now) f (upCall eventRoom (a .clock) _) (d .interface4w-up .result) _ _ _ _ _ (not-false _ (e .if1 .left)) (up-emitted _ eventRoom (a .clock)) (d .interface4w-up .ensures .0) (d .interface4w-up .ensures .1 .0) (d .interface4w-up .ensures .1 .1) (g .give-back .ensures .0) (g .give-back .ensures .1 .0) (g .give-back .ensures .1 .1) in
+    let x = as-words (a .state .now) (a .events .now) f (upCall eventRoom (a .clock)) (d .interface4w-up .result) _ _ _ _ s y in
     (x .answer, (x .state, (x .events, x .narrow)))
 
 pub interface4-up-spec : {M : Type 1} → statement M

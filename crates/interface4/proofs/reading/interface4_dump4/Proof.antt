@@ -5,7 +5,7 @@ use Prim.Native.Nat.{ℕ, _*_}
 use mathlib.Core.List.{List}
 use native.Mathlib.Omega.{arith}
 use borrow.Author.Tests.{not-true, not-false}
-use Rattle.definition.specs.Step.{dump4Call}
+use Rattle.definition.specs.Step.{dump4Call, listingRoom}
 use Rattle.endian.specs.Endian.{wordsOf}
 use Rattle.interface4.specs.Answer.{roomFits}
 use Rattle.endian.specs.Laws.{words-whole}
@@ -14,6 +14,7 @@ use Rattle.interface4.specs.Changed.{room, wrote-no, wrote-yes, wrote-on
 use borrow.Author.Needs.{needs}
 use Rattle.interface4.proofs.reading.interface4_dump4.Statement.{statement}
 use Rattle.interface4.proofs.reading.interface4_dump4.Tie as tie
+use Rattle.definition.specs.Words.{stateSize}
 
 refused-requires : tie.Need-refused-requires
 refused-requires c κs = search needs
@@ -21,7 +22,7 @@ refused-requires c κs = search needs
 returns : tie.Need-returns
 returns c =
     let a = c .before .before .before .before .args in
-    let x = wrote-no (roomFits 32768 (a .state .now) (a .listing .now)) (a .listing .now) (dump4Call 8192 (wordsOf (a .state .now)) .reply) (c .refused .result) (not-true _ (c .before .if1 .taken)) (c .refused .ensures) in
+    let x = wrote-no (roomFits (4 * listingRoom) (a .state .now) (a .listing .now)) (a .listing .now) (dump4Call listingRoom (wordsOf (a .state .now)) .reply) (c .refused .result) (not-true _ (c .before .if1 .taken)) (c .refused .ensures) in
     (x .answer, (x .rows, x .narrow))
 
 slice-aggregate-words-of : tie.Need-slice-aggregate-words-of
@@ -31,7 +32,7 @@ words-of-requires : tie.Need-words-of-requires
 words-of-requires c κs =
     let e = c .before in
     let a = e .before .before .before .args in
-    let r = room 32768 (a .state .now) (a .listing .now) (not-false _ (e .if1 .left)) in
+    let r = room (4 * listingRoom) (a .state .now) (a .listing .now) (not-false _ (e .if1 .left)) in
     omega (arith, r .0)
 
 slice-aggregate-interface4w-dump4 : tie.Need-slice-aggregate-interface4w-dump4
@@ -52,8 +53,8 @@ give-rows-requires c κs =
     let k = d .before .before .before .before in
     let e = k .before .before in
     let a = e .before .before .before .args in
-    let r = room 32768 (a .state .now) (a .listing .now) (not-false _ (e .if1 .left)) in
-    let m = listing-words (d .interface4w-dump4 .result) _ (d .interface4w-dump4 .ensures .0) (dump4-lists _ 8192) in
+    let r = room (4 * listingRoom) (a .state .now) (a .listing .now) (not-false _ (e .if1 .left)) in
+    let m = listing-words (d .interface4w-dump4 .result) _ (d .interface4w-dump4 .ensures .0) (dump4-lists _ listingRoom) in
     (m .0, omega (arith, m .0), omega (arith, m .0, r .1))
 
 same-length : tie.Need-same-length
@@ -66,12 +67,12 @@ returns-2 c =
     let k = d .before .before .before .before in
     let e = k .before .before in
     let a = e .before .before .before .args in
-    let f = roomFits 32768 (a .state .now) (a .listing .now) in
-    let r = room 32768 (a .state .now) (a .listing .now) (not-false _ (e .if1 .left)) in
-    let s = words-whole 9507 (a .state .now) _ _ (r .0) refl (k .words-of .ensures) in
-    let m = listing-words (d .interface4w-dump4 .result) _ (d .interface4w-dump4 .ensures .0) (dump4-lists _ 8192) in
-    let y = wrote-yes f (a .listing .now) (dump4Call 8192 _ .reply) (d .interface4w-dump4 .result) _ _ _ (32 * d .interface4w-dump4 .result .value) (not-false _ (e .if1 .left)) (m .1) (d .interface4w-dump4 .ensures .0) (d .interface4w-dump4 .ensures .1) (g .give-rows .ensures .0) (g .give-rows .ensures .1) in
-    let x = wrote-on f (a .listing .now) (λ (u : List ℕ). dump4Call 8192 u .reply) (d .interface4w-dump4 .result) _ _ _ s y in
+    let f = roomFits (4 * listingRoom) (a .state .now) (a .listing .now) in
+    let r = room (4 * listingRoom) (a .state .now) (a .listing .now) (not-false _ (e .if1 .left)) in
+    let s = words-whole stateSize (a .state .now) _ _ (r .0) refl (k .words-of .ensures) in
+    let m = listing-words (d .interface4w-dump4 .result) _ (d .interface4w-dump4 .ensures .0) (dump4-lists _ listingRoom) in
+    let y = wrote-yes f (a .listing .now) (dump4Call listingRoom _ .reply) (d .interface4w-dump4 .result) _ _ _ (32 * d .interface4w-dump4 .result .value) (not-false _ (e .if1 .left)) (m .1) (d .interface4w-dump4 .ensures .0) (d .interface4w-dump4 .ensures .1) (g .give-rows .ensures .0) (g .give-rows .ensures .1) in
+    let x = wrote-on f (a .listing .now) (λ (u : List ℕ). dump4Call listingRoom u .reply) (d .interface4w-dump4 .result) _ _ _ s y in
     (x .answer, (x .rows, x .narrow))
 
 pub interface4-dump4-spec : {M : Type 1} → statement M

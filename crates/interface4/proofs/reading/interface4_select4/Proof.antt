@@ -7,6 +7,7 @@ use Rattle.definition.specs.Step.{select4Call}
 use borrow.Author.Needs.{needs}
 use Rattle.interface4.proofs.reading.interface4_select4.Statement.{statement}
 use Rattle.interface4.proofs.reading.interface4_select4.Tie as tie
+use Rattle.definition.specs.Words.{stateSize}
 
 refused-requires : tie.Need-refused-requires
 refused-requires c κs = search needs
@@ -33,7 +34,7 @@ returns-2 c =
     let k = c .before .before .before in
     let e = k .before .before in
     let a = e .before .before .args in
-    let s = words-whole 9507 (a .state .now) _ _ (e .if1 .left) refl (k .words-of .ensures) in
+    let s = words-whole stateSize (a .state .now) _ _ (e .if1 .left) refl (k .words-of .ensures) in
     c .interface4w-select4 .ensures ∙ bytes-yes (a .state .now) (select4Call (a .dst-present) (a .dst) (a .scope)) _ (e .if1 .left) s
 
 pub interface4-select4-spec : {M : Type 1} → statement M

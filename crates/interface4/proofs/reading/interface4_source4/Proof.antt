@@ -12,6 +12,7 @@ use Rattle.definition.specs.Step.{source4Call}
 use borrow.Author.Needs.{needs}
 use Rattle.interface4.proofs.reading.interface4_source4.Statement.{statement}
 use Rattle.interface4.proofs.reading.interface4_source4.Tie as tie
+use Rattle.definition.specs.Words.{stateSize}
 
 refused-requires : tie.Need-refused-requires
 refused-requires c κs = search needs
@@ -48,7 +49,7 @@ returns-2 c =
     let k = t .before .before in
     let e = k .before .before in
     let a = e .before .before .before .args in
-    let s = words-whole 9507 (a .state .now) _ _ (e .if1 .left) refl (k .words-of .ensures) in
+    let s = words-whole stateSize (a .state .now) _ _ (e .if1 .left) refl (k .words-of .ensures) in
     c .interface4w-source4 .ensures ∙ bytes-yes (a .state .now) (source4Call [] (a .ip)) _ (e .if1 .left) s ∙ ap (λ (x : List ℕ). replyOf (onBytes (stateFits (a .state .now)) (source4Call x (a .ip) (wordsOf (a .state .now)) .reply))) (row-no 128 (a .row .now) (t .if2 .taken))
 
 slice-aggregate-words-of-2 : tie.Need-slice-aggregate-words-of-2
@@ -73,7 +74,7 @@ returns-3 c =
     let k = f .before .before in
     let e = k .before .before in
     let a = e .before .before .before .args in
-    let s = words-whole 9507 (a .state .now) _ _ (e .if1 .left) refl (k .words-of .ensures) in
+    let s = words-whole stateSize (a .state .now) _ _ (e .if1 .left) refl (k .words-of .ensures) in
     let r = words-whole 32 (a .row .now) _ _ (f .if2 .left) refl (j .words-of2 .ensures) in
     c .interface4w-source42 .ensures ∙ bytes-yes (a .state .now) (source4Call _ (a .ip)) _ (e .if1 .left) s ∙ ap (λ (x : List ℕ). replyOf (onBytes (stateFits (a .state .now)) (source4Call x (a .ip) (wordsOf (a .state .now)) .reply))) (r ∙ row-yes 128 (a .row .now) (f .if2 .left))
 
