@@ -141,8 +141,8 @@ fn halves(stamp: u64) -> [u32; 2] {
     [stamp as u32, (stamp >> 32) as u32]
 }
 
-fn whole(words: &[u32]) -> u64 {
-    u64::from(words[0]) | u64::from(words[1]) << 32
+fn whole(low: u32, high: u32) -> u64 {
+    u64::from(low) | u64::from(high) << 32
 }
 
 /// A byte field of a row that the library wrote.
@@ -150,12 +150,12 @@ fn byte(word: u32) -> u8 {
     u8::try_from(word).expect("a byte field of a well-formed row")
 }
 
-fn present(words: &[u32]) -> Option<Ipv4Addr> {
-    (words[0] == 1).then(|| words[1].into())
+fn there(present: u32, value: u32) -> Option<Ipv4Addr> {
+    (present == 1).then(|| value.into())
 }
 
 /// The address of a well-formed row.
-pub(crate) fn address(row: &[u32]) -> V4 {
+pub(crate) fn address(row: &[u32; ADDRESS_WORDS]) -> V4 {
     let mut label = [0; 16];
     for (four, word) in label.as_chunks_mut().0.iter_mut().zip(&row[9..13]) {
         *four = word.to_le_bytes();
@@ -164,7 +164,7 @@ pub(crate) fn address(row: &[u32]) -> V4 {
         local: row[0].into(),
         address: row[1].into(),
         prefix: byte(row[2]),
-        broadcast: present(&row[3..5]),
+        broadcast: there(row[3], row[4]),
         scope: byte(row[5]),
         flags: row[6],
         proto: byte(row[7]),
@@ -173,14 +173,14 @@ pub(crate) fn address(row: &[u32]) -> V4 {
         life: Life {
             valid: row[14],
             preferred: row[15],
-            created: whole(&row[16..18]),
-            changed: whole(&row[18..20]),
+            created: whole(row[16], row[17]),
+            changed: whole(row[18], row[19]),
         },
     }
 }
 
 /// The route of a well-formed row.
-pub(crate) fn route(row: &[u32]) -> Route4 {
+pub(crate) fn route(row: &[u32; ROUTE_WORDS]) -> Route4 {
     let mut metrics = [0; 17];
     metrics.copy_from_slice(&row[15..ROUTE_WORDS]);
     Route4 {
@@ -192,8 +192,8 @@ pub(crate) fn route(row: &[u32]) -> Route4 {
         kind: Kind::of(byte(row[5])).expect("a kind of a well-formed row"),
         proto: byte(row[6]),
         scope: byte(row[7]),
-        prefsrc: present(&row[8..10]),
-        gateway: present(&row[10..12]),
+        prefsrc: there(row[8], row[9]),
+        gateway: there(row[10], row[11]),
         device: row[12] == 1,
         onlink: row[13] == 1,
         uses_gateway: row[14] == 1,
@@ -203,15 +203,21 @@ pub(crate) fn route(row: &[u32]) -> Route4 {
 
 /// The event of a row that the library wrote.
 pub(crate) fn event(row: &[u32; EVENT_WORDS]) -> Event {
-    let (head, rest) = row.split_at(2);
-    match head[0] {
-        1 => Event::NewAddr4(address(rest)),
-        2 => Event::DelAddr4(address(rest)),
+    let [what, flags, rest @ ..] = row;
+    match what {
+        1 => Event::NewAddr4(address_in(rest)),
+        2 => Event::DelAddr4(address_in(rest)),
         3 => Event::NewRoute4(
             route(rest),
-            u16::try_from(head[1]).expect("an event's flags have 16 bits"),
+            u16::try_from(*flags).expect("an event's flags have 16 bits"),
         ),
         4 => Event::DelRoute4(route(rest)),
         other => panic!("an event row begins with 1 to 4, not {other}"),
     }
+}
+
+/// The address in the place of a route, with zeros behind it.
+fn address_in(words: &[u32; ROUTE_WORDS]) -> V4 {
+    let (row, _) = words.split_first_chunk().expect("an address is shorter");
+    address(row)
 }

@@ -21,11 +21,11 @@ macro_rules! rows {
         impl Iterator for $name<'_> {
             type Item = $record;
             fn next(&mut self) -> Option<$record> {
-                self.0.next().map(|row| $made(row))
+                self.0.next().map($made)
             }
             // no record is made of a row that is passed over
             fn nth(&mut self, n: usize) -> Option<$record> {
-                self.0.nth(n).map(|row| $made(row))
+                self.0.nth(n).map($made)
             }
             fn last(mut self) -> Option<$record> {
                 self.next_back()
@@ -39,7 +39,7 @@ macro_rules! rows {
         }
         impl DoubleEndedIterator for $name<'_> {
             fn next_back(&mut self) -> Option<$record> {
-                self.0.next_back().map(|row| $made(row))
+                self.0.next_back().map($made)
             }
         }
         impl ExactSizeIterator for $name<'_> {}
