@@ -37,7 +37,7 @@ impl Addresses {
     #[must_use]
     pub fn new() -> Self {
         Self {
-            state: no_words(),
+            state: boxed(vec![0; STATE_WORDS]),
             events: Box::default(),
         }
     }
@@ -49,9 +49,10 @@ impl Addresses {
     /// [`Refused::UNFIT_STATE`] for words that are not well-formed.
     pub fn from_words(state: &[u32]) -> Result<Self, Refused> {
         words::check(state).accepted()?;
-        let mut all = Self::new();
-        all.state.copy_from_slice(state);
-        Ok(all)
+        Ok(Self {
+            state: boxed(state.to_vec()),
+            events: Box::default(),
+        })
     }
 
     /// All words of the state, to be kept and given to
@@ -89,7 +90,11 @@ impl Addresses {
     /// [`Self::words`] as little-endian bytes.
     #[must_use]
     pub fn to_bytes(&self) -> Vec<u8> {
-        self.state.iter().flat_map(|w| w.to_le_bytes()).collect()
+        let mut bytes = vec![0; 4 * STATE_WORDS];
+        for (four, word) in bytes.as_chunks_mut().0.iter_mut().zip(&self.state[..]) {
+            *four = word.to_le_bytes();
+        }
+        bytes
     }
 
     /// The loopback comes up at `now`: 127.0.0.1/8 if it isn't there, and
@@ -331,9 +336,9 @@ impl Addresses {
     }
 }
 
-/// A state's words, all 0; never on the stack.
-fn no_words() -> Box<[u32; STATE_WORDS]> {
-    let words = vec![0; STATE_WORDS].into_boxed_slice();
+/// A state's words where they are: never on the stack.
+fn boxed(words: Vec<u32>) -> Box<[u32; STATE_WORDS]> {
+    let words = words.into_boxed_slice();
     words.try_into().expect("as many words as a state has")
 }
 
