@@ -128,7 +128,11 @@ fn swap(usual: &[states::Measured], special: &[states::Measured], rounds: usize)
         eprintln!("no call has that in its name\n{USAGE}");
         return ExitCode::FAILURE;
     }
-    for (what, all) in [("Every call", usual), ("The longest jobs", special)] {
+    let parts = [
+        ("Every call", usual, &states::SIZES[..]),
+        ("The longest jobs", special, &[]),
+    ];
+    for (what, all, sizes) in parts {
         if all.is_empty() {
             continue;
         }
@@ -159,11 +163,13 @@ fn swap(usual: &[states::Measured], special: &[states::Measured], rounds: usize)
         }
         println!();
         summary("`Addresses`", &measured, Way::Addresses, OWN);
-        // the sizes stand behind the last comma
-        for [a, r, t] in states::SIZES {
+        // a size stands at its names' end
+        for [a, r, t] in sizes {
             let size = format!(", {a}/{r}/{t}");
-            let (of_size, _): (Vec<_>, Vec<_>) =
-                measured.iter().partition(|(name, _)| name.ends_with(&size));
+            let of_size: Vec<_> = measured
+                .iter()
+                .filter(|(name, _)| name.ends_with(&size))
+                .collect();
             if !of_size.is_empty() {
                 let what = format!("`Addresses` at {a}/{r}/{t}");
                 summary(&what, of_size, Way::Addresses, OWN);
