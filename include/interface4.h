@@ -4,8 +4,9 @@
  * used from C99 or C++. Each is proved to do what document 01 says for any
  * lent words at all.
  *
- * Each call is there twice: interface4w_* on words of 32 bits, which copies
- * nothing, and interface4_* on bytes, each word as four, the lowest first.
+ * Each call is there twice: interface4w_* on words of 32 bits where they are,
+ * and interface4_* on bytes, each word as four, the lowest first, which copies
+ * them to words and back.
  *
  * What is lent. A slice is a pointer and a length in elements: words for
  * interface4w_*, bytes for interface4_*. The pointer is never NULL, not even

@@ -165,7 +165,7 @@ pub mod bytes {
     exported! { u8, "interface4_" }
 }
 
-/// The calls on words: nothing is copied.
+/// The calls on words, where they are.
 ///
 /// ```
 /// use naskrefim::{EVENT_BUFFER_WORDS, STATE_WORDS, words};
