@@ -1,6 +1,7 @@
 //! Finds the port's static library, sees that it exports every function,
 //! and has it linked. NASKREFIM_LIB names the file; without it, it is looked
-//! for where `rt staticlib interface4` writes it.
+//! for where `rt staticlib interface4` writes it. A target for which there
+//! is no library stops the build.
 
 use std::path::{Path, PathBuf};
 use std::{env, fs, process};
@@ -11,6 +12,13 @@ const DEFAULT: &str = "target/staticlib/libinterface4.a";
 const PREFIXES: [&str; 2] = ["interface4_", "interface4w_"];
 const CALLS: &str = "up down add_v4 del_v4 expire add_route4 del_route4 dump4 lookup4 \
                      lookup4_flow local4 source4 source select4 left check";
+/// What the library is compiled for: cargo's name of each, and its value.
+const TARGET: [(&str, &str); 4] = [
+    ("ARCH", "x86_64"),
+    ("OS", "linux"),
+    ("POINTER_WIDTH", "64"),
+    ("ENDIAN", "little"),
+];
 
 fn main() {
     println!("cargo::rerun-if-changed=build.rs");
@@ -22,6 +30,16 @@ fn main() {
 }
 
 fn build() -> Result<(), String> {
+    for (name, only) in TARGET {
+        let of = env::var(format!("CARGO_CFG_TARGET_{name}")).unwrap_or_default();
+        if of != only {
+            return Err(format!(
+                "the port's library is for 64-bit x86 Linux, words little-endian; this build is for \
+                 another target ({}: {of} in place of {only})",
+                env::var("TARGET").unwrap_or_default()
+            ));
+        }
+    }
     let here = env::var_os("CARGO_MANIFEST_DIR").ok_or("CARGO_MANIFEST_DIR is not set")?;
     let (library, named) = match env::var_os("NASKREFIM_LIB") {
         Some(path) => (PathBuf::from(path), "NASKREFIM_LIB names"),

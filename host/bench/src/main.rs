@@ -1,11 +1,11 @@
 //! How long each call takes: the unchanged Rust on its own lists, the Rust
 //! doing the port's job on lent words (plainly, and tuned), the port on
-//! words and on bytes. The tables are Markdown.
+//! words, on bytes and through `Addresses`. The tables are Markdown.
 mod measure;
 mod same_job;
 mod states;
 
-use measure::{Times, enough, measure, median, section};
+use measure::{Times, Way, enough, measure, median, section};
 use naskrefim::words;
 use oracle::call::Call;
 use oracle::generate::cases::{Cases, USUAL};
@@ -13,7 +13,9 @@ use oracle::model::{NO_SPACE, model};
 use std::hint::black_box;
 use std::process::ExitCode;
 
-const USAGE: &str = "usage: bench [--rounds N] [--only TEXT]
+const USAGE: &str = "usage: bench [--addresses] [--rounds N] [--only TEXT]
+  --addresses    only what a host gets that puts `Addresses` in the place of
+                 the Rust on its own lists
   --rounds N     501 if it isn't said
   --only TEXT    only calls whose name has TEXT in it; check: the check of a
                  state alone";
@@ -27,7 +29,12 @@ const WORDS_MEAN: f64 = 0.25;
 
 fn main() -> ExitCode {
     let arguments: Vec<String> = std::env::args().skip(1).collect();
-    let Some((rounds, only)) = options(&arguments) else {
+    let Some(Options {
+        rounds,
+        only,
+        addresses,
+    }) = options(&arguments)
+    else {
         eprintln!("{USAGE}");
         return ExitCode::FAILURE;
     };
@@ -37,10 +44,12 @@ fn main() -> ExitCode {
     };
     println!("interface.rs: sha256 {}", reference::INTERFACE_SHA256);
     println!("library: {}", naskrefim::LIBRARY);
-    println!(
-        "The Rust on lent words: alike with the model on {} cases.",
-        same_job_is_right()
-    );
+    if !addresses {
+        println!(
+            "The Rust on lent words: alike with the model on {} cases.",
+            same_job_is_right()
+        );
+    }
     println!(
         "Medians of {rounds} rounds, all ways in turn. Calls that may change their state are \
          timed one by one, the state put back before each, outside the timed part; the others \
@@ -48,6 +57,9 @@ fn main() -> ExitCode {
          After a call's name: addresses, routes, tables."
     );
     let (usual, special) = (wanted(states::usual()), wanted(states::special()));
+    if addresses {
+        return swap(&usual, &special, rounds);
+    }
     let check = "check".contains(only.as_str());
     if usual.is_empty() && special.is_empty() && !check {
         eprintln!("no call has {only} in its name\n{USAGE}");
@@ -60,11 +72,14 @@ fn main() -> ExitCode {
              at most {WORDS_MEAN}; on bytes of at most {BYTES_MEAN}, and no call above \
              {BYTES_MOST}.\n"
         );
-        let plain: (&str, Part) = ("on lent words, plain", |t| t.plain);
-        let tuned: (&str, Part) = ("on lent words, tuned", |t| t.tuned);
-        let bytes: (&str, Part) = ("on lent bytes, plain", |t| t.plain_bytes);
-        summary("words", &usual, |t| t.words, [plain, tuned]);
-        summary("bytes", &usual, |t| t.bytes, [plain, bytes]);
+        let plain = ("the Rust on lent words, plain", Way::Plain);
+        let tuned = ("the Rust on lent words, tuned", Way::Tuned);
+        let bytes = ("the Rust on lent bytes, plain", Way::PlainBytes);
+        summary("the port on words", &usual, Way::Words, plain);
+        summary("the port on words", &usual, Way::Words, tuned);
+        summary("the port on bytes", &usual, Way::Bytes, plain);
+        summary("the port on bytes", &usual, Way::Bytes, bytes);
+        summary("`Addresses`", &usual, Way::Addresses, OWN);
     }
     if !special.is_empty() {
         println!("\nThe longest jobs:");
@@ -80,19 +95,88 @@ fn main() -> ExitCode {
     ExitCode::SUCCESS
 }
 
-/// The rounds, and what a name must have in it.
-fn options(arguments: &[String]) -> Option<(usize, String)> {
-    let (mut rounds, mut only) = (501, String::new());
-    for pair in arguments.chunks(2) {
-        match pair {
-            [option, value] if option == "--rounds" => {
-                rounds = value.parse().ok().filter(|n| *n > 0)?;
-            }
-            [option, value] if option == "--only" => only.clone_from(value),
+struct Options {
+    rounds: usize,
+    /// What a name must have in it.
+    only: String,
+    addresses: bool,
+}
+
+fn options(arguments: &[String]) -> Option<Options> {
+    let mut options = Options {
+        rounds: 501,
+        only: String::new(),
+        addresses: false,
+    };
+    let mut rest = arguments.iter();
+    while let Some(option) = rest.next() {
+        match option.as_str() {
+            "--addresses" => options.addresses = true,
+            "--rounds" => options.rounds = rest.next()?.parse().ok().filter(|n| *n > 0)?,
+            "--only" => options.only.clone_from(rest.next()?),
             _ => return None,
         }
     }
-    Some((rounds, only))
+    Some(options)
+}
+
+const OWN: (&str, Way) = ("the Rust on its own lists", Way::Own);
+
+/// What a host gets that puts `Addresses` in the Rust's place.
+fn swap(usual: &[states::Measured], special: &[states::Measured], rounds: usize) -> ExitCode {
+    if usual.is_empty() && special.is_empty() {
+        eprintln!("no call has that in its name\n{USAGE}");
+        return ExitCode::FAILURE;
+    }
+    let parts = [
+        ("Every call", usual, &states::SIZES[..]),
+        ("The longest jobs", special, &[]),
+    ];
+    for (what, all, sizes) in parts {
+        if all.is_empty() {
+            continue;
+        }
+        println!("\n{what}:\n");
+        println!(
+            "| call | the Rust, own lists | `Addresses` | ratio | the library's part | of it the check |"
+        );
+        println!("|---|---:|---:|---:|---:|---:|");
+        let mut measured = Vec::new();
+        for one in all {
+            let ways = [Way::Own, Way::Addresses, Way::Words, Way::Check];
+            let times = measure(one, rounds, &ways);
+            let stateless = matches!(one.call, Call::Left { .. });
+            println!(
+                "| {} | {} | {} | {} | {} | {} |",
+                one.name,
+                time(times.of(Way::Own)),
+                time(times.of(Way::Addresses)),
+                ratio(times.of(Way::Addresses), times.of(Way::Own)),
+                time(times.of(Way::Words)),
+                if stateless {
+                    "-".to_string()
+                } else {
+                    time(times.of(Way::Check))
+                }
+            );
+            measured.push((one.name.clone(), times));
+        }
+        println!();
+        summary("`Addresses`", &measured, Way::Addresses, OWN);
+        // a size stands at its names' end
+        for [a, r, t] in sizes {
+            let size = format!(", {a}/{r}/{t}");
+            let of_size: Vec<_> = measured
+                .iter()
+                .filter(|(name, _)| name.ends_with(&size))
+                .collect();
+            if !of_size.is_empty() {
+                let what = format!("`Addresses` at {a}/{r}/{t}");
+                summary(&what, of_size, Way::Addresses, OWN);
+            }
+        }
+    }
+    ExitCode::SUCCESS
 }
 
 /// Compares it with the model on generated cases, and gives their number.
@@ -128,26 +212,32 @@ fn same_job_is_right() -> usize {
 fn table(all: &[states::Measured], rounds: usize) -> Vec<(String, Times)> {
     println!(
         "\n| call | the Rust, own lists | on lent words, plain | tuned | on lent bytes, plain \
-         | the port, words | bytes | words / plain | words / tuned | bytes / plain \
-         | bytes / plain on bytes |"
+         | the port, words | bytes | `Addresses` | words / plain | words / tuned \
+         | bytes / plain | bytes / plain on bytes | `Addresses` / own lists |"
     );
-    println!("|---|---:|---:|---:|---:|---:|---:|---:|---:|---:|---:|");
+    println!("|---|---:|---:|---:|---:|---:|---:|---:|---:|---:|---:|---:|---:|");
     let mut measured = Vec::new();
     for one in all {
-        let times = measure(one, rounds);
+        let times = measure(one, rounds, &Way::ALL[..7]);
+        let [own, plain, tuned, plain_bytes] =
+            [Way::Own, Way::Plain, Way::Tuned, Way::PlainBytes].map(|way| times.of(way));
+        let [words, bytes, addresses] =
+            [Way::Words, Way::Bytes, Way::Addresses].map(|way| times.of(way));
         println!(
-            "| {} | {} | {} | {} | {} | {} | {} | {} | {} | {} | {} |",
+            "| {} | {} | {} | {} | {} | {} | {} | {} | {} | {} | {} | {} | {} |",
             one.name,
-            time(times.own),
-            time(times.plain),
-            time(times.tuned),
-            time(times.plain_bytes),
-            time(times.words),
-            time(times.bytes),
-            ratio(times.words, times.plain),
-            ratio(times.words, times.tuned),
-            ratio(times.bytes, times.plain),
-            ratio(times.bytes, times.plain_bytes)
+            time(own),
+            time(plain),
+            time(tuned),
+            time(plain_bytes),
+            time(words),
+            time(bytes),
+            time(addresses),
+            ratio(words, plain),
+            ratio(words, tuned),
+            ratio(bytes, plain),
+            ratio(bytes, plain_bytes),
+            ratio(addresses, own)
         );
         measured.push((one.name.clone(), times));
     }
@@ -166,27 +256,27 @@ fn ratio(port: f64, rust: f64) -> String {
     format!("{:.2}", port / rust)
 }
 
-type Part = fn(&Times) -> f64;
-
-/// The geometric mean and the greatest ratio, against two of the Rust's.
-fn summary(what: &str, all: &[(String, Times)], port: Part, rusts: [(&str, Part); 2]) {
-    for (against, rust) in rusts {
-        let ratios: Vec<(&str, f64)> = all
-            .iter()
-            .map(|(name, t)| (name.as_str(), port(t) / rust(t)))
-            .collect();
-        let most = ratios.iter().max_by(|a, b| a.1.total_cmp(&b.1));
-        let most = most.expect("a row at least");
-        let logarithms = ratios.iter().map(|(_, r)| r.ln()).sum::<f64>();
-        println!(
-            "- the port on {what}, against the Rust {against}, {} rows: geometric mean {:.2}, \
-             greatest {:.2} ({})",
-            ratios.len(),
-            (logarithms / ratios.len() as f64).exp(),
-            most.1,
-            most.0
-        );
-    }
+/// The geometric mean and the greatest ratio, against one way of the Rust's.
+fn summary<'a>(
+    what: &str,
+    all: impl IntoIterator<Item = &'a (String, Times)>,
+    way: Way,
+    (against, rust): (&str, Way),
+) {
+    let ratios: Vec<(&str, f64)> = all
+        .into_iter()
+        .map(|(name, t)| (name.as_str(), t.of(way) / t.of(rust)))
+        .collect();
+    let most = ratios.iter().max_by(|a, b| a.1.total_cmp(&b.1));
+    let most = most.expect("a row at least");
+    let logarithms = ratios.iter().map(|(_, r)| r.ln()).sum::<f64>();
+    println!(
+        "- {what}, against {against}, {} rows: geometric mean {:.2}, greatest {:.2} ({})",
+        ratios.len(),
+        (logarithms / ratios.len() as f64).exp(),
+        most.1,
+        most.0
+    );
 }
 
 fn check_alone(rounds: usize) {

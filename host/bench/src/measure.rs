@@ -1,24 +1,25 @@
-//! One call measured six ways, in turn, many times over.
+//! One call measured in several ways, in turn, many times over.
 use crate::same_job::call as job;
 use crate::states::Measured;
-use naskrefim::{bytes, words};
+use naskrefim::{Addresses, bytes, words};
 use oracle::call::{Buffer, Call, Reply};
 use oracle::compare::filled;
 use oracle::port::bytes as bytes_of;
 use oracle::words::{ADDRESSES_AT, ROUTES_AT, TABLES_AT};
 use oracle::{fit, model};
+use port::typed;
 use reference::{Arguments, Native};
 use std::hint::black_box;
 use std::time::Instant;
 
-/// Nanoseconds for a call: medians.
-pub struct Times {
-    pub own: f64,
-    pub plain: f64,
-    pub tuned: f64,
-    pub plain_bytes: f64,
-    pub words: f64,
-    pub bytes: f64,
+/// Nanoseconds for a call, each way: medians, 0 for a way that wasn't
+/// measured.
+pub struct Times([f64; Way::ALL.len()]);
+
+impl Times {
+    pub fn of(&self, way: Way) -> f64 {
+        self.0[way as usize]
+    }
 }
 
 /// What a timed part of many calls shall take, in nanoseconds.
@@ -58,6 +59,9 @@ struct Stage<'a> {
     arguments: Arguments,
     template: Native,
     native: Native,
+    records: typed::Arguments,
+    first_addresses: Addresses,
+    addresses: Addresses,
     state: Vec<u32>,
     buffer: Vec<u32>,
     request: Vec<u8>,
@@ -66,24 +70,37 @@ struct Stage<'a> {
     buffer_bytes: Vec<u8>,
 }
 
+/// How a call is made.
 #[derive(Clone, Copy, PartialEq, Eq)]
-enum Way {
+pub enum Way {
+    /// The unchanged Rust on its own lists.
     Own,
+    /// The Rust on lent words, plainly and tuned.
     Plain,
     Tuned,
+    /// The Rust on lent bytes, plainly.
     PlainBytes,
+    /// The library.
     Words,
     Bytes,
+    /// The library through `naskrefim::Addresses`.
+    Addresses,
+    /// Not the call, but the check of its state alone.
+    Check,
 }
 
-const WAYS: [Way; 6] = [
-    Way::Own,
-    Way::Plain,
-    Way::Tuned,
-    Way::PlainBytes,
-    Way::Words,
-    Way::Bytes,
-];
+impl Way {
+    pub const ALL: [Self; 8] = [
+        Self::Own,
+        Self::Plain,
+        Self::Tuned,
+        Self::PlainBytes,
+        Self::Words,
+        Self::Bytes,
+        Self::Addresses,
+        Self::Check,
+    ];
+}
 
 impl<'a> Stage<'a> {
     fn new(measured: &'a Measured) -> Self {
@@ -103,6 +120,9 @@ impl<'a> Stage<'a> {
             arguments: Arguments::of(&request),
             template: native(),
             native: native(),
+            records: typed::Arguments::of(call),
+            first_addresses: Addresses::from_words(state).expect("what is measured is fit"),
+            addresses: Addresses::new(),
             state: state.clone(),
             request: bytes_of(call.lent().unwrap_or(&[])),
             first_bytes: bytes_of(state),
@@ -120,6 +140,8 @@ impl<'a> Stage<'a> {
                 self.state.copy_from_slice(&self.measured.state)
             }
             Way::PlainBytes | Way::Bytes => self.state_bytes.copy_from_slice(&self.first_bytes),
+            Way::Addresses => self.addresses.clone_from(&self.first_addresses),
+            Way::Check => {}
         }
     }
 
@@ -143,6 +165,14 @@ impl<'a> Stage<'a> {
             Way::Bytes => {
                 let (state, buffer) = (&mut self.state_bytes, &mut self.buffer_bytes);
                 black_box(on_bytes(call, state, &self.request, buffer));
+            }
+            Way::Addresses => {
+                drop(black_box(
+                    black_box(&self.records).call(&mut self.addresses),
+                ));
+            }
+            Way::Check => {
+                black_box(words::check(black_box(&self.measured.state)));
             }
         }
     }
@@ -169,40 +199,50 @@ impl<'a> Stage<'a> {
             assert!((found, s) == (reply, bytes_of(&state)), "{name}: on bytes");
             assert!(b == bytes_of(&buffer), "{name}: on bytes, the buffer");
         }
+        let (mut lo, mut b) = (self.first_addresses.clone(), self.buffer.clone());
+        let found = self.records.call(&mut lo).write(&mut b);
+        assert!(
+            (found, &lo.words()[..]) == (reply, &state[..]),
+            "{name}: Addresses"
+        );
+        assert!(b == buffer, "{name}: Addresses, what it gave");
     }
 }
 
-/// Measures the call each way, in `rounds` rounds. Where a call may change
+/// Measures the call these ways, in `rounds` rounds. Where a call may change
 /// its state, each is timed alone, with the state put back before, outside
 /// the timed part; others are timed many at once.
-pub fn measure(measured: &Measured, rounds: usize) -> Times {
+pub fn measure(measured: &Measured, rounds: usize, ways: &[Way]) -> Times {
     let mut stage = Stage::new(measured);
     stage.check();
     let changing = measured.call.buffer() == Buffer::Events;
     let clock = clock();
-    let mut calls = [1; WAYS.len()];
-    if !changing {
-        calls = WAYS.map(|way| enough(|| stage.run(way)));
-    }
-    let mut times: [Vec<f64>; WAYS.len()] = Default::default();
+    let calls: Vec<usize> = ways
+        .iter()
+        .map(|&way| {
+            stage.restore(way);
+            if changing {
+                1
+            } else {
+                enough(|| stage.run(way))
+            }
+        })
+        .collect();
+    let mut times = vec![Vec::with_capacity(rounds); ways.len()];
     for round in 0..rounds {
-        for k in 0..WAYS.len() {
-            let i = (round + k) % WAYS.len();
-            let way = WAYS[i];
+        for k in 0..ways.len() {
+            let i = (round + k) % ways.len();
+            let way = ways[i];
             stage.restore(way);
             let time = section(calls[i], || stage.run(way));
             times[i].push((time - clock / calls[i] as f64).max(0.0));
         }
     }
-    let [own, plain, tuned, plain_bytes, words, bytes] = times.map(median);
-    Times {
-        own,
-        plain,
-        tuned,
-        plain_bytes,
-        words,
-        bytes,
+    let mut medians = [0.0; Way::ALL.len()];
+    for (way, times) in ways.iter().zip(times) {
+        medians[*way as usize] = median(times);
     }
+    Times(medians)
 }
 
 fn plain(call: &Call, state: &mut [u32], buffer: &mut [u32]) -> Reply {

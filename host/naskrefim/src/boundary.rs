@@ -7,15 +7,39 @@
 //! and keeps nothing.
 #![allow(unsafe_code)]
 
+use crate::Refused;
+
 /// What every call replies: `number` is 0, or document 01's number of the
 /// refusal, and then the rest is 0.
 #[repr(C)]
-#[derive(Clone, Copy, Debug, Default, PartialEq, Eq)]
+#[derive(Clone, Copy, Debug, Default, PartialEq, Eq, Hash)]
 pub struct Reply {
+    /// 0, or why the call was refused.
     pub number: u32,
+    /// Whether `value` is there, of `source4` and `select4`.
     pub present: u32,
+    /// What the call answers: see there.
     pub value: u32,
+    /// The valid lifetime, of `left`.
     pub second: u32,
+}
+
+impl Reply {
+    /// Itself, unless the call was refused.
+    ///
+    /// # Errors
+    /// The refusal.
+    ///
+    /// ```
+    /// use naskrefim::{Refused, words};
+    /// assert_eq!(words::check(&[]).accepted(), Err(Refused::UNFIT_BUFFER));
+    /// ```
+    pub const fn accepted(self) -> Result<Self, Refused> {
+        match Refused::of(self.number) {
+            None => Ok(self),
+            Some(refused) => Err(refused),
+        }
+    }
 }
 
 macro_rules! lent {
@@ -34,6 +58,7 @@ macro_rules! raw {
 /// A safe function for each exported one: slices, then numbers.
 macro_rules! calls {
     ($element:ty, $prefix:literal: $(
+        $(#[$doc:meta])*
         $name:ident($($slice:ident: $how:ident),*; $($number:ident: $of:ty),*);
     )*) => {
         use super::Reply;
@@ -48,7 +73,10 @@ macro_rules! calls {
             }
         }
         $(
+            $(#[$doc])*
+            ///
             #[doc = concat!("Calls `", $prefix, stringify!($name), "`.")]
+            #[must_use = "a refusal is told by nothing else"]
             pub fn $name($($slice: lent!($how $element),)* $($number: $of),*) -> Reply {
                 $(let $slice: raw!($how [$element]) = $slice;)*
                 // SAFETY: each pointer and length are those of one borrowed
@@ -64,32 +92,87 @@ macro_rules! calls {
 macro_rules! exported {
     ($element:ty, $prefix:literal) => {
         calls! { $element, $prefix:
+            /// The device goes up at the clock `now`: see
+            /// [`Addresses::up`](crate::Addresses::up). `value` is the
+            /// number of event rows.
             up(state: write, events: write; now: u64);
+            /// The device goes down: see
+            /// [`Addresses::down`](crate::Addresses::down).
             down(state: write, events: write;);
+            /// An address is added, or changed: see
+            /// [`Addresses::add_v4`](crate::Addresses::add_v4). `value` is
+            /// the number of event rows.
             add_v4(state: write, request: read, events: write; now: u64);
+            /// An address goes: see
+            /// [`Addresses::del_v4`](crate::Addresses::del_v4). `value` is
+            /// the number of event rows.
             del_v4(state: write, request: read, events: write;);
+            /// Addresses run out at the clock `now`: see
+            /// [`Addresses::expire`](crate::Addresses::expire). `value` is
+            /// the number of event rows.
             expire(state: write, events: write; now: u64);
+            /// A route is added: see
+            /// [`Addresses::add_route4`](crate::Addresses::add_route4).
+            /// `value` is the number of event rows.
             add_route4(state: write, request: read, events: write;);
+            /// A route goes: see
+            /// [`Addresses::del_route4`](crate::Addresses::del_route4).
+            /// `value` is the number of event rows.
             del_route4(state: write, request: read, events: write;);
+            /// The routes are listed: see
+            /// [`Addresses::dump4`](crate::Addresses::dump4). `value` is
+            /// the number of rows.
             dump4(state: read, listing: write;);
+            /// The route to `ip` is written to `row`: see
+            /// [`Addresses::lookup4`](crate::Addresses::lookup4).
             lookup4(state: read, row: write; ip: u32);
+            /// The route of a flow is written to `row`: see
+            /// [`Addresses::lookup4_flow`](crate::Addresses::lookup4_flow).
             lookup4_flow(state: read, row: write; ip: u32, tos: u32, oif: u32);
+            /// Whether `ip` is the loopback's own: `value` is 1 or 0.
             local4(state: read; ip: u32);
+            /// The source of packets to `ip` by the route in `row`:
+            /// `present` is 1 and `value` the address, if there is one.
             source4(state: read, row: read; ip: u32);
+            /// The source of packets to `ip`: `value` is the address.
             source(state: read; ip: u32);
+            /// The address chosen for `dst`, if `dst_present` is 1, and
+            /// `scope`: `present` is 1 and `value` the address, if there is
+            /// one.
             select4(state: read; dst_present: u32, dst: u32, scope: u32);
+            /// The lifetimes that the address in `row` has left at the
+            /// clock `now`: `value` is the preferred one, `second` the
+            /// valid one.
             left(row: read; now: u64);
+            /// Looks at a state and does nothing else: `number` is 200 for
+            /// a wrong length, 201 for words that are not well-formed,
+            /// else 0.
             check(state: read;);
         }
     };
 }
 
 /// The calls on bytes: all words little-endian, slices of any alignment.
+/// They copy the state to the stack and back: see [Stack](crate#stack).
+///
+/// ```
+/// use naskrefim::{EVENT_BUFFER_WORDS, STATE_WORDS, bytes};
+/// let (mut state, mut events) = ([0; 4 * STATE_WORDS], [0; 4 * EVENT_BUFFER_WORDS]);
+/// assert_eq!(bytes::up(&mut state, &mut events, 0).value, 4);
+/// assert_eq!(bytes::local4(&state, 0x7f000001).value, 1);
+/// ```
 pub mod bytes {
     exported! { u8, "interface4_" }
 }
 
-/// The calls on words: nothing is copied.
+/// The calls on words, where they are.
+///
+/// ```
+/// use naskrefim::{EVENT_BUFFER_WORDS, STATE_WORDS, words};
+/// let (mut state, mut events) = ([0; STATE_WORDS], [0; EVENT_BUFFER_WORDS]);
+/// assert_eq!(words::up(&mut state, &mut events, 0).value, 4);
+/// assert_eq!(words::source(&state, 0x0a000001).value, 0x7f000001);
+/// ```
 pub mod words {
     exported! { u32, "interface4w_" }
 }

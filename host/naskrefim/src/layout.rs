@@ -1,7 +1,13 @@
 //! Records as document 01's words, and back.
-use crate::records::{Ask4, Event, Kind, Life, Route4, Select4, V4};
-use crate::{ADDRESS_WORDS, EVENT_WORDS, ROUTE_WORDS};
+use crate::records::{Ask4, Event, Kind, Life, Lifetimes, Route4, Select4, V4};
+use crate::{ADD_ROUTE4_WORDS, ADD_V4_WORDS, DEL_ROUTE4_WORDS, DEL_V4_WORDS};
+use crate::{ADDRESS_LIMIT, ADDRESS_WORDS, EVENT_WORDS, ROUTE_LIMIT, ROUTE_WORDS};
 use core::net::Ipv4Addr;
+
+/// Where a state's lists begin, behind its three counts.
+pub(crate) const ADDRESSES_AT: usize = 3;
+pub(crate) const ROUTES_AT: usize = ADDRESSES_AT + ADDRESS_LIMIT * ADDRESS_WORDS;
+pub(crate) const TABLES_AT: usize = ROUTES_AT + ROUTE_LIMIT * ROUTE_WORDS;
 
 fn optional(value: Option<Ipv4Addr>) -> [u32; 2] {
     [u32::from(value.is_some()), value.map_or(0, u32::from)]
@@ -37,14 +43,30 @@ fn address_words(a: &V4, words: &mut [u32]) {
 pub(crate) fn address_row(a: &V4) -> [u32; ADDRESS_WORDS] {
     let mut row = [0; ADDRESS_WORDS];
     address_words(a, &mut row);
-    row[14..16].copy_from_slice(&[a.life.valid, a.life.preferred]);
-    row[16..18].copy_from_slice(&halves(a.life.created));
-    row[18..20].copy_from_slice(&halves(a.life.changed));
+    life_words(&a.life, &mut row);
     row
 }
 
-pub(crate) fn add_v4(new: &V4, valid: u32, preferred: u32, replace: bool, up: bool) -> [u32; 18] {
-    let mut words = [0; 18];
+/// The row of an address that has nothing but a life.
+pub(crate) fn life_row(life: &Life) -> [u32; ADDRESS_WORDS] {
+    let mut row = [0; ADDRESS_WORDS];
+    life_words(life, &mut row);
+    row
+}
+
+fn life_words(life: &Life, row: &mut [u32; ADDRESS_WORDS]) {
+    row[14..16].copy_from_slice(&[life.valid, life.preferred]);
+    row[16..18].copy_from_slice(&halves(life.created));
+    row[18..20].copy_from_slice(&halves(life.changed));
+}
+
+pub(crate) fn add_v4(
+    new: &V4,
+    Lifetimes { valid, preferred }: Lifetimes,
+    replace: bool,
+    up: bool,
+) -> [u32; ADD_V4_WORDS] {
+    let mut words = [0; ADD_V4_WORDS];
     address_words(new, &mut words);
     words[14..].copy_from_slice(&[valid, preferred, replace.into(), up.into()]);
     words
@@ -55,8 +77,8 @@ pub(crate) fn del_v4(
     address: Option<Ipv4Addr>,
     prefix: u8,
     label: Option<&[u8]>,
-) -> [u32; 11] {
-    let mut words = [0; 11];
+) -> [u32; DEL_V4_WORDS] {
+    let mut words = [0; DEL_V4_WORDS];
     words[..2].copy_from_slice(&optional(local));
     words[2..4].copy_from_slice(&optional(address));
     words[4] = prefix.into();
@@ -89,8 +111,8 @@ pub(crate) fn route_row(r: &Route4) -> [u32; ROUTE_WORDS] {
     row
 }
 
-pub(crate) fn add_route4(ask: &Ask4, up: bool) -> [u32; 34] {
-    let mut words = [0; 34];
+pub(crate) fn add_route4(ask: &Ask4, up: bool) -> [u32; ADD_ROUTE4_WORDS] {
+    let mut words = [0; ADD_ROUTE4_WORDS];
     route_words!(ask, ask.kind, words);
     words[12..15].copy_from_slice(&[ask.oif, ask.flags, ask.request.into()]);
     match &ask.metrics {
@@ -101,8 +123,8 @@ pub(crate) fn add_route4(ask: &Ask4, up: bool) -> [u32; 34] {
     words
 }
 
-pub(crate) fn del_route4(select: &Select4) -> [u32; 49] {
-    let mut words = [0; 49];
+pub(crate) fn del_route4(select: &Select4) -> [u32; DEL_ROUTE4_WORDS] {
+    let mut words = [0; DEL_ROUTE4_WORDS];
     route_words!(select, select.kind, words);
     words[12] = select.oif;
     if let Some(pairs) = &select.metrics {
@@ -119,8 +141,8 @@ fn halves(stamp: u64) -> [u32; 2] {
     [stamp as u32, (stamp >> 32) as u32]
 }
 
-fn whole(words: &[u32]) -> u64 {
-    u64::from(words[0]) | u64::from(words[1]) << 32
+fn whole(low: u32, high: u32) -> u64 {
+    u64::from(low) | u64::from(high) << 32
 }
 
 /// A byte field of a row that the library wrote.
@@ -128,38 +150,37 @@ fn byte(word: u32) -> u8 {
     u8::try_from(word).expect("a byte field of a well-formed row")
 }
 
-fn present(words: &[u32]) -> Option<Ipv4Addr> {
-    (words[0] == 1).then(|| words[1].into())
+fn there(present: u32, value: u32) -> Option<Ipv4Addr> {
+    (present == 1).then(|| value.into())
 }
 
 /// The address of a well-formed row.
-pub(crate) fn address(row: &[u32]) -> V4 {
-    let mut label = Vec::with_capacity(16);
-    for word in &row[9..13] {
-        label.extend_from_slice(&word.to_le_bytes());
+pub(crate) fn address(row: &[u32; ADDRESS_WORDS]) -> V4 {
+    let mut label = [0; 16];
+    for (four, word) in label.as_chunks_mut().0.iter_mut().zip(&row[9..13]) {
+        *four = word.to_le_bytes();
     }
-    label.truncate(row[8] as usize);
     V4 {
         local: row[0].into(),
         address: row[1].into(),
         prefix: byte(row[2]),
-        broadcast: present(&row[3..5]),
+        broadcast: there(row[3], row[4]),
         scope: byte(row[5]),
         flags: row[6],
         proto: byte(row[7]),
-        label,
+        label: label[..row[8] as usize].to_vec(),
         priority: row[13],
         life: Life {
             valid: row[14],
             preferred: row[15],
-            created: whole(&row[16..18]),
-            changed: whole(&row[18..20]),
+            created: whole(row[16], row[17]),
+            changed: whole(row[18], row[19]),
         },
     }
 }
 
 /// The route of a well-formed row.
-pub(crate) fn route(row: &[u32]) -> Route4 {
+pub(crate) fn route(row: &[u32; ROUTE_WORDS]) -> Route4 {
     let mut metrics = [0; 17];
     metrics.copy_from_slice(&row[15..ROUTE_WORDS]);
     Route4 {
@@ -171,8 +192,8 @@ pub(crate) fn route(row: &[u32]) -> Route4 {
         kind: Kind::of(byte(row[5])).expect("a kind of a well-formed row"),
         proto: byte(row[6]),
         scope: byte(row[7]),
-        prefsrc: present(&row[8..10]),
-        gateway: present(&row[10..12]),
+        prefsrc: there(row[8], row[9]),
+        gateway: there(row[10], row[11]),
         device: row[12] == 1,
         onlink: row[13] == 1,
         uses_gateway: row[14] == 1,
@@ -182,15 +203,21 @@ pub(crate) fn route(row: &[u32]) -> Route4 {
 
 /// The event of a row that the library wrote.
 pub(crate) fn event(row: &[u32; EVENT_WORDS]) -> Event {
-    let (head, rest) = row.split_at(2);
-    match head[0] {
-        1 => Event::NewAddr4(address(rest)),
-        2 => Event::DelAddr4(address(rest)),
+    let [what, flags, rest @ ..] = row;
+    match what {
+        1 => Event::NewAddr4(address_in(rest)),
+        2 => Event::DelAddr4(address_in(rest)),
         3 => Event::NewRoute4(
             route(rest),
-            u16::try_from(head[1]).expect("an event's flags have 16 bits"),
+            u16::try_from(*flags).expect("an event's flags have 16 bits"),
         ),
         4 => Event::DelRoute4(route(rest)),
         other => panic!("an event row begins with 1 to 4, not {other}"),
     }
+}
+
+/// The address in the place of a route, with zeros behind it.
+fn address_in(words: &[u32; ROUTE_WORDS]) -> V4 {
+    let (row, _) = words.split_first_chunk().expect("an address is shorter");
+    address(row)
 }

@@ -1,6 +1,6 @@
 //! Why a call said no.
-use std::fmt;
-use std::num::NonZero;
+use core::fmt;
+use core::num::NonZero;
 
 /// A refusal: one of document 01's numbers, or the metrics error that a
 /// request carried in. Nothing was changed, except that the table which a
@@ -36,6 +36,9 @@ numbers! {
     NO_CREATE_FLAG = 2, "a new route without the create flag";
     /// ESRCH: a deletion finds no such route or table.
     NO_SUCH_ROUTE = 3, "no such route or table";
+    /// EAGAIN: what a throw route is ([`Kind::error`](crate::Kind::error));
+    /// no call gives it.
+    NEXT_TABLE = 11, "a throw: the next table is asked";
     /// EACCES: a route prohibits it.
     PROHIBITED = 13, "a route prohibits it";
     /// EEXIST: the address or the route is there.
@@ -68,6 +71,7 @@ numbers! {
 
 impl Refused {
     /// The refusal with this number; none has 0.
+    #[must_use]
     pub const fn of(number: u32) -> Option<Self> {
         match NonZero::new(number) {
             Some(number) => Some(Self(number)),
@@ -75,6 +79,7 @@ impl Refused {
         }
     }
     /// Document 01's number.
+    #[must_use]
     pub const fn number(self) -> u32 {
         self.0.get()
     }
@@ -92,4 +97,4 @@ impl fmt::Display for Refused {
     }
 }
 
-impl std::error::Error for Refused {}
+impl core::error::Error for Refused {}

@@ -1,17 +1,12 @@
 //! Holds the linked library against the Rust: on bytes, on words, and
 //! through `Addresses`. The exit status is 0 only if nothing was found.
-mod guarded;
-mod library;
-mod records;
-mod typed;
-
-use library::{OnBytes, OnWords};
 use oracle::call::{KINDS, NAMES};
 use oracle::campaign::{Campaign, Kinds, Summary};
 use oracle::port::{Bytes, Port};
+use port::library::{OnBytes, OnWords};
+use port::typed::Typed;
 use std::process::ExitCode;
 use std::time::{Duration, Instant, SystemTime};
-use typed::Typed;
 
 const USAGE: &str = "usage: port [OPTION VALUE]..
   --seconds S        generated cases and pairs for S seconds (60 if nothing
@@ -102,6 +97,7 @@ fn run(options: &Options) -> Result<(), String> {
     println!("library: {}", naskrefim::LIBRARY);
     println!("seed {}", options.seed);
     println!("compared: {}", compared(options));
+    port::constants::compare()?;
     let mut ports: [Box<dyn Port>; 3] = [
         Box::new(OnBytes::default()),
         Box::new(Bytes(OnWords::default())),

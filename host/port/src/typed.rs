@@ -2,12 +2,14 @@
 //! go by its records, and what those cannot say (wrong lengths, fields over
 //! their width) by the words.
 use crate::library::OnWords;
-use crate::records::{address, ask, event_words, label, route, route_words, select, there};
-use naskrefim::{Addresses, Event, Lifetimes, Refused};
+use crate::records::{address, address_words, ask, event_words, label};
+use crate::records::{route, route_words, select, there};
+use naskrefim::{Addresses, Ask4, Event, Lifetimes, PERMANENT, Refused, Route4, Select4, V4};
 use oracle::call::{Call, Reply};
 use oracle::port::WordPort;
-use oracle::words::STATE_WORDS;
+use oracle::words::{ADDRESSES_AT, ROUTES_AT, STATE_WORDS, TABLES_AT};
 use oracle::{fit, well_formed};
+use std::net::Ipv4Addr;
 
 #[derive(Default)]
 pub struct Typed(OnWords);
@@ -20,24 +22,26 @@ impl WordPort for Typed {
         if !sayable(call, state.len(), buffer.len()) {
             return self.0.call(call, state, buffer);
         }
-        if let Call::Left { row, now } = call {
-            return match address(row).left(*now) {
-                Ok((preferred, valid)) => Reply {
-                    second: valid,
-                    ..Reply::value(preferred)
-                },
-                Err(refused) => Reply::refused(refused.number()),
-            };
+        // no call replies so: the comparison stops there
+        let amiss = Reply::refused(u32::MAX);
+        let arguments = Arguments::of(call);
+        if let Arguments::Left(own, now) = &arguments {
+            let alike = own.flags & PERMANENT != 0 || own.left(*now) == Ok(own.life.left(*now));
+            let told = arguments.call(&mut Addresses::new());
+            return if alike { told.write(buffer) } else { amiss };
         }
         let mut lo = match Addresses::from_words(state) {
-            // no call replies so: the comparison stops here
-            Ok(_) if !well_formed::state(state) => return Reply::refused(u32::MAX),
+            Ok(_) if !well_formed::state(state) => return amiss,
             Ok(lo) => lo,
             Err(refused) => return Reply::refused(refused.number()),
         };
-        let reply = answer(&mut lo, call, buffer);
+        let told = arguments.call(&mut lo);
         state.copy_from_slice(lo.words());
-        reply.unwrap_or_else(|refused| Reply::refused(refused.number()))
+        if shown(&lo, state) {
+            told.write(buffer)
+        } else {
+            amiss
+        }
     }
 }
 
@@ -53,66 +57,143 @@ fn sayable(call: &Call, state: usize, buffer: usize) -> bool {
     row && state && buffer >= call.buffer().least() && fit::request(call).is_some()
 }
 
-fn answer(lo: &mut Addresses, call: &Call, buffer: &mut [u32]) -> Result<Reply, Refused> {
-    let told = match call {
-        Call::Up { now } => lo.up(*now)?,
-        Call::Down => lo.down(),
-        Call::AddV4 { request: w, now } => {
-            let lifetimes = Lifetimes {
-                valid: w[14],
-                preferred: w[15],
-            };
-            lo.add_v4(address(&w[..14]), lifetimes, w[16] == 1, w[17] == 1, *now)?
-        }
-        Call::DelV4 { request: w } => {
-            let label = (w[5] == 1).then(|| label(w[6], &w[7..]));
-            let prefix = u8::try_from(w[4]).expect("a byte field was checked");
-            lo.del_v4(
+/// Whether the rows and tables that `lo` shows are those of `state`.
+fn shown(lo: &Addresses, state: &[u32]) -> bool {
+    let [a, r, t] = [0, 1, 2].map(|i| state[i] as usize);
+    lo.addresses().len() == a
+        && lo.routes().len() == r
+        && lo.tables().eq(state[TABLES_AT..][..t].iter().copied())
+        && lo
+            .addresses()
+            .zip(state[ADDRESSES_AT..].chunks(20))
+            .all(|(own, row)| address_words(&own) == row)
+        && lo
+            .routes()
+            .zip(state[ROUTES_AT..].chunks(32))
+            .all(|(route, row)| route_words(&route) == row)
+}
+
+/// A call with its arguments as `Addresses` takes them.
+pub enum Arguments {
+    Up(u64),
+    Down,
+    AddV4(V4, Lifetimes, bool, bool, u64),
+    DelV4(Option<Ipv4Addr>, Option<Ipv4Addr>, u8, Option<Vec<u8>>),
+    Expire(u64),
+    AddRoute4(Ask4, bool),
+    DelRoute4(Select4),
+    Dump4,
+    Lookup4(Ipv4Addr),
+    Lookup4Flow(Ipv4Addr, u8, u32),
+    Local4(Ipv4Addr),
+    Source4(Route4, Ipv4Addr),
+    Source(Ipv4Addr),
+    Select4(Option<Ipv4Addr>, u8),
+    Left(V4, u64),
+}
+
+/// What a call gave.
+pub enum Told {
+    Events(Result<Vec<Event>, Refused>),
+    Rows(Vec<Route4>),
+    Row(Result<Route4, Refused>),
+    Yes(bool),
+    Address(Ipv4Addr),
+    Chosen(Result<Option<Ipv4Addr>, Refused>),
+    Left(Result<(u32, u32), Refused>),
+}
+
+impl Arguments {
+    /// Those of a fit call.
+    pub fn of(call: &Call) -> Self {
+        let byte = |word: u32| u8::try_from(word).expect("a byte field was checked");
+        match call {
+            Call::Up { now } => Self::Up(*now),
+            Call::Down => Self::Down,
+            Call::AddV4 { request: w, now } => {
+                let lifetimes = Lifetimes {
+                    valid: w[14],
+                    preferred: w[15],
+                };
+                Self::AddV4(address(&w[..14]), lifetimes, w[16] == 1, w[17] == 1, *now)
+            }
+            Call::DelV4 { request: w } => Self::DelV4(
                 there(w[0], w[1]),
                 there(w[2], w[3]),
-                prefix,
-                label.as_deref(),
-            )?
+                byte(w[4]),
+                (w[5] == 1).then(|| label(w[6], &w[7..])),
+            ),
+            Call::Expire { now } => Self::Expire(*now),
+            Call::AddRoute4 { request: w } => Self::AddRoute4(ask(w), w[33] == 1),
+            Call::DelRoute4 { request: w } => Self::DelRoute4(select(w)),
+            Call::Dump4 => Self::Dump4,
+            Call::Lookup4 { ip } => Self::Lookup4((*ip).into()),
+            Call::Lookup4Flow { ip, tos, oif } => Self::Lookup4Flow((*ip).into(), byte(*tos), *oif),
+            Call::Local4 { ip } => Self::Local4((*ip).into()),
+            Call::Source4 { row, ip } => Self::Source4(route(row), (*ip).into()),
+            Call::Source { ip } => Self::Source((*ip).into()),
+            Call::Select4 {
+                present,
+                dst,
+                scope,
+            } => Self::Select4(there(*present, *dst), byte(*scope)),
+            Call::Left { row, now } => Self::Left(address(row), *now),
         }
-        Call::Expire { now } => lo.expire(*now)?,
-        Call::AddRoute4 { request: w } => lo.add_route4(&ask(w), w[33] == 1)?,
-        Call::DelRoute4 { request: w } => lo.del_route4(&select(w))?,
-        _ => return read(lo, call, buffer),
-    };
-    Ok(written(buffer, told.iter().map(|e: &Event| event_words(e))))
+    }
+
+    pub fn call(&self, lo: &mut Addresses) -> Told {
+        match self {
+            Self::Up(now) => Told::Events(lo.up(*now)),
+            Self::Down => Told::Events(Ok(lo.down())),
+            Self::AddV4(new, lifetimes, replace, up, now) => {
+                Told::Events(lo.add_v4(new.clone(), *lifetimes, *replace, *up, *now))
+            }
+            Self::DelV4(local, address, prefix, label) => {
+                Told::Events(lo.del_v4(*local, *address, *prefix, label.as_deref()))
+            }
+            Self::Expire(now) => Told::Events(lo.expire(*now)),
+            Self::AddRoute4(ask, up) => Told::Events(lo.add_route4(ask, *up)),
+            Self::DelRoute4(select) => Told::Events(lo.del_route4(select)),
+            Self::Dump4 => Told::Rows(lo.dump4()),
+            Self::Lookup4(ip) => Told::Row(lo.lookup4(*ip)),
+            Self::Lookup4Flow(ip, tos, oif) => Told::Row(lo.lookup4_flow(*ip, *tos, *oif)),
+            Self::Local4(ip) => Told::Yes(lo.local4(*ip)),
+            Self::Source4(route, ip) => Told::Chosen(lo.source4(route, *ip)),
+            Self::Source(ip) => Told::Address(lo.source(*ip)),
+            Self::Select4(dst, scope) => Told::Chosen(Ok(lo.select4(*dst, *scope))),
+            Self::Left(own, now) => Told::Left(own.left(*now)),
+        }
+    }
 }
 
-fn read(lo: &Addresses, call: &Call, buffer: &mut [u32]) -> Result<Reply, Refused> {
-    let chosen = |source: Option<std::net::Ipv4Addr>| Reply {
-        present: u32::from(source.is_some()),
-        ..Reply::value(source.map_or(0, u32::from))
-    };
-    let byte = |word: &u32| u8::try_from(*word).expect("a byte field was checked");
-    Ok(match call {
-        Call::Dump4 => written(buffer, lo.dump4().iter().map(route_words)),
-        Call::Lookup4 { ip } => {
-            let found = lo.lookup4((*ip).into())?;
-            written(buffer, [route_words(&found)].into_iter());
-            Reply::default()
+impl Told {
+    /// Writes rows from the buffer's start on; gives the reply.
+    pub fn write(&self, buffer: &mut [u32]) -> Reply {
+        match self {
+            Self::Events(Err(refused))
+            | Self::Row(Err(refused))
+            | Self::Chosen(Err(refused))
+            | Self::Left(Err(refused)) => Reply::refused(refused.number()),
+            Self::Events(Ok(told)) => written(buffer, told.iter().map(event_words)),
+            Self::Rows(rows) => written(buffer, rows.iter().map(route_words)),
+            Self::Row(Ok(found)) => {
+                written(buffer, [route_words(found)].into_iter());
+                Reply::default()
+            }
+            Self::Yes(yes) => Reply::value(u32::from(*yes)),
+            Self::Address(source) => Reply::value((*source).into()),
+            Self::Chosen(Ok(source)) => Reply {
+                present: u32::from(source.is_some()),
+                ..Reply::value(source.map_or(0, u32::from))
+            },
+            Self::Left(Ok((preferred, valid))) => Reply {
+                second: *valid,
+                ..Reply::value(*preferred)
+            },
         }
-        Call::Lookup4Flow { ip, tos, oif } => {
-            let found = lo.lookup4_flow((*ip).into(), byte(tos), *oif)?;
-            written(buffer, [route_words(&found)].into_iter());
-            Reply::default()
-        }
-        Call::Local4 { ip } => Reply::value(u32::from(lo.local4((*ip).into()))),
-        Call::Source4 { row, ip } => chosen(lo.source4(&route(row), (*ip).into())?),
-        Call::Source { ip } => Reply::value(lo.source((*ip).into()).into()),
-        Call::Select4 {
-            present,
-            dst,
-            scope,
-        } => chosen(lo.select4(there(*present, *dst), byte(scope))),
-        _ => unreachable!("calls that change the state were made before"),
-    })
+    }
 }
 
-/// Writes rows from the buffer's start on; replies how many.
 fn written(buffer: &mut [u32], rows: impl Iterator<Item = Vec<u32>>) -> Reply {
     let (mut at, mut count) = (0, 0);
     for row in rows {

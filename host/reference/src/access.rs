@@ -25,6 +25,19 @@ pub(crate) fn kind_error(code: u8) -> Option<Option<u32>> {
     })
 }
 
+/// The constants that are public in the Rust and concern IPv4.
+pub(crate) fn constants() -> Vec<(&'static str, u32)> {
+    macro_rules! named {
+        ($($name:ident)*) => { vec![$((stringify!($name), $name.into())),*] };
+    }
+    named! {
+        SECONDARY NO_PREFIX_ROUTE PERMANENT DEPRECATED FOREVER
+        SCOPE_UNIVERSE SCOPE_LINK SCOPE_HOST SCOPE_NOWHERE
+        TABLE_DEFAULT TABLE_MAIN TABLE_LOCAL PROTO_KERNEL
+        F_REPLACE F_EXCL F_CREATE F_APPEND
+    }
+}
+
 /// The row of an IPv4 event; the IPv6 ones are struck out.
 fn event_row(event: &Event) -> Option<EventRow> {
     let mut row = [0; 34];

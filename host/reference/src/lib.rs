@@ -103,3 +103,8 @@ pub fn mask(prefix: u8) -> u32 {
 pub fn kind_error(code: u8) -> Option<Option<u32>> {
     interface::access::kind_error(code)
 }
+
+/// The constants that are public in the Rust and concern IPv4, by name.
+pub fn constants() -> Vec<(&'static str, u32)> {
+    interface::access::constants()
+}
