@@ -19,7 +19,7 @@ fn show_listing(s: &[u32], out: &mut [u8]) -> usize
     ensures { λ _. ⌜ now (out .exit) ≡ put 0 (shownWords (now (s .entry))) (now (out .entry)) ⌝ }
 {
     let mut listing = [0u32; LISTING_BUFFER];
-    let n = state_listed::list(s, &mut listing);
+    let n = state_read::list(s, &mut listing);
     let e = ROUTE_WORDS * n;
     text::render(out, &listing[..e], n)
 }

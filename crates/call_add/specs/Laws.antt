@@ -15,8 +15,8 @@ use Rattle.definition.specs.Preservation.Numbers.{Numbered}
 use Rattle.definition.specs.Laws.Refusals.{Leaves}
 use Rattle.definition.specs.Preservation.Encode.{Good, good-decode}
 use Rattle.step_events.specs.Emits.{Emits}
-use Rattle.step_laws.specs.EmitsOrFull.{EmitsOrFull}
-use Rattle.step_laws.specs.declared.Told as Told
+use Rattle.step_events.specs.EmitsOrFull.{EmitsOrFull}
+use Rattle.step_events.specs.declared.Told as Told
 use Rattle.step_add_v4.specs.declared.Done as step-add-v4
 use Rattle.step_add_v4.specs.Comes.{Comes}
 use Rattle.call_read.specs.Laws.{checked, passed}

@@ -49,7 +49,7 @@ pub fn up(state: &mut [u32], events: &mut [u32], clock: u64) -> Done
     }
     let emitted = step_add_v4_atomic::up(state, events, Nanoseconds(clock));
     match emitted {
-        step_laws::Told::Rows(k) => Done::Rows(k),
-        step_laws::Told::Full => Done::Refused(203),
+        step_events::Told::Rows(k) => Done::Rows(k),
+        step_events::Told::Full => Done::Refused(203),
     }
 }

@@ -23,6 +23,6 @@ pub fn dump4(state: &[u32], listing: &mut [u32]) -> Listed
     if n != 0 {
         return Listed::Refused(n);
     }
-    let rows = state_listed::list(state, listing);
+    let rows = state_read::list(state, listing);
     Listed::Rows(rows)
 }

@@ -3,21 +3,26 @@ use layout::ADDRESS_WORDS;
 use layout::ADDRESSES_AT;
 use layout::ROUTE_WORDS;
 use layout::ROUTES_AT;
+use layout::TABLE_COUNT;
+use layout::TABLES_AT;
 use rows_lookup::Flow;
 use rows_lookup::Looked;
 use rows_source::Selected;
 ghost use mathlib.Core.Path.{_≡_};
-ghost use Prim.Native.Nat.{_+_, _*_};
+ghost use Prim.Native.Nat.{_+_, _*_, _≤_};
 ghost use lib.ListN.{length};
 ghost use Rattle.rows_lookup.specs.Flow.{flowOf};
 ghost use Rattle.rows_lookup.specs.Answer.{foundBy, placed};
 ghost use Rattle.definition.specs.State.{State};
-ghost use Rattle.definition.specs.Words.{routeCount};
+ghost use Rattle.definition.specs.Words.{routeCount, decode, wellFormed, baseSize};
 ghost use Rattle.rows_source.specs.Selected.{localIn, wanted};
 ghost use Rattle.definition.specs.Reference.Lookup.{lookupIn, local4};
-ghost use Rattle.definition.specs.Reference.Source.{select4, source4, source};
+ghost use Rattle.definition.specs.Reference.Source.{select4, source4, source, dump4};
 ghost use Rattle.state.specs.Represents.{Represents, Valid};
 ghost use Rattle.state_read.specs.Parts.{addressPart, routePart};
+ghost use mathlib.Core.Bool.{true};
+ghost use Rattle.lists.specs.Lists.{flat, put};
+ghost use Rattle.definition.specs.Step.{listingRoom};
 
 // The words of the routes in use.
 pub fn routes(s: &[u32]) -> &[u32]
@@ -93,4 +98,14 @@ pub fn source(s: &[u32], ip: u32) -> u32
         listed,
         ip,
     )
+}
+
+// The rows of a well-formed state in the order of a listing; how many is returned.
+pub fn list(s: &[u32], listing: &mut [u32]) -> usize
+    requires { ⌜ (length (now s) ≡ baseSize) × (wellFormed (now s) ≡ true) × (listingRoom ≤ length (now listing)) ⌝ }
+    ensures { λ r. ⌜ r ≡ length (dump4 (decode (now (s .entry)))) ⌝ }
+    ensures { λ _. ⌜ now (listing .exit) ≡ put 0 (flat (dump4 (decode (now (s .entry))))) (now (listing .entry)) ⌝ }
+{
+    let e = TABLES_AT + state::wide(s[TABLE_COUNT]);
+    rows_dump::dump4(routes(s), state::route_count(s), &s[TABLES_AT..e], listing)
 }

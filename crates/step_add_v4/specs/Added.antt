@@ -17,10 +17,10 @@ use Rattle.definition.specs.Preservation.Keeps.{Keeps}
 use Rattle.definition.specs.Preservation.Addresses.{addV4-keeps, step-kept, loopback-fit}
 use Rattle.rows_place.specs.Rows.{freshRow}
 use Rattle.state.specs.Represents.{Represents}
-use Rattle.step_laws.specs.EmitsOrFull.{EmitsOrFull}
-use Rattle.step_laws.specs.declared.Told.{Told}
-use Rattle.step_add_v4.specs.declared.Done.{Done}
-use Rattle.step_add_v4.specs.declared.Done.the-variants.{Refused}
+use Rattle.step_events.specs.EmitsOrFull.{EmitsOrFull}
+use Rattle.step_events.specs.declared.Told.{Told}
+use Rattle.step_events.specs.declared.Done.{Done}
+use Rattle.step_events.specs.declared.Done.the-variants.{Refused}
 use Rattle.step_add_v4.specs.Comes.{Comes, doneOf, comes-goes, comes-refused, comes-step}
 
 module _ (q : Row) (clock : ℕ) (st : State) (place : ℕ) (found : place ≡ placeOf (sameAddress q) (st .addresses)) where

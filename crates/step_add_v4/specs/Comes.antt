@@ -11,11 +11,11 @@ use Rattle.definition.specs.Words.{within}
 use Rattle.definition.specs.Reference.Addresses.{Outcome, goes, refused, step}
 use Rattle.state.specs.Represents.{Represents}
 use Rattle.step_events.specs.Emits.{Emits}
-use Rattle.step_laws.specs.EmitsOrFull.{EmitsOrFull, rowsOf, adds-none}
-use Rattle.step_laws.specs.declared.Told.{Told}
-use Rattle.step_laws.specs.declared.Told.the-variants as Tell
-use Rattle.step_add_v4.specs.declared.Done.{Done}
-use Rattle.step_add_v4.specs.declared.Done.the-variants.{Rows, Refused, Full}
+use Rattle.step_events.specs.EmitsOrFull.{EmitsOrFull, rowsOf, adds-none}
+use Rattle.step_events.specs.declared.Told.{Told}
+use Rattle.step_events.specs.declared.Told.the-variants as Tell
+use Rattle.step_events.specs.declared.Done.{Done}
+use Rattle.step_events.specs.declared.Done.the-variants.{Rows, Refused, Full}
 
 abbrev pub answerOf : Outcome → Done
 answerOf (goes o) = cond (within (o .peak)) (Rows (length (o .emitted))) Full

@@ -24,10 +24,10 @@ use Rattle.definition.specs.Preservation.Addresses.{bring-keeps}
 use Rattle.definition.specs.Preservation.Growing as Growing
 use Rattle.state.specs.Represents.{Represents, count-addresses, Sound}
 use Rattle.step_events.specs.Emits.{does-length, rest}
-use Rattle.step_laws.specs.EmitsOrFull.{EmitsOrFull, joined, holds-within, adds-rows, adds-also, adds-stop}
-use Rattle.step_laws.specs.Through.{Covered, covered-through, adds-start, adds-next, adds-full-end, adds-end}
-use Rattle.step_laws.specs.declared.Told.{Told}
-use Rattle.step_laws.specs.declared.Told.the-variants.{Rows, Full}
+use Rattle.step_events.specs.EmitsOrFull.{EmitsOrFull, joined, holds-within, adds-rows, adds-also, adds-stop}
+use Rattle.step_events.specs.Through.{Covered, covered-through, adds-start, adds-next, adds-full-end, adds-end}
+use Rattle.step_events.specs.declared.Told.{Told}
+use Rattle.step_events.specs.declared.Told.the-variants.{Rows, Full}
 use Rattle.step_kernel_add.specs.Add.{kernelAdd4-covered}
 use Rattle.step_new_address.specs.Sound.{AddsFrom, Leaves, adds-sound, through-leaves, kernelAdd4-leaves}
 use Rattle.step_new_address.specs.Bring.{block-rows, block-ready}

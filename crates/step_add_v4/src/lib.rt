@@ -5,7 +5,8 @@ use layout::ROUTE_WORDS;
 use layout::add_v4;
 use life::Lifetimes;
 use life::Nanoseconds;
-use step_laws::Told;
+use step_events::Done;
+use step_events::Told;
 ghost use mathlib.Core.Path.{_≡_};
 ghost use mathlib.Core.Bool.{true};
 ghost use Prim.Native.Nat.{_+_, _*_, _≤_, _<_};
@@ -15,18 +16,11 @@ ghost use Rattle.definition.specs.State.{State};
 ghost use Rattle.definition.specs.Words.{fitState, addressCount};
 ghost use Rattle.definition.specs.Reference.Addresses.{addV4, up};
 ghost use Rattle.state.specs.Represents.{Represents, Sound};
-ghost use Rattle.step_laws.specs.EmitsOrFull.{rowsOf};
+ghost use Rattle.step_events.specs.EmitsOrFull.{rowsOf};
 ghost use Rattle.step_new_address.specs.Sound.{AddsFrom};
 ghost use Rattle.step_add_v4.specs.Comes.{Comes, doneRows, doneOf, emittedOf};
 ghost use Rattle.step_add_v4.specs.Every.{every, turnAt};
 ghost use Rattle.definition.specs.Step.{eventRoom};
-
-// What a call came to: the event rows told, a refusal's number, or that a list had no room.
-pub enum Done {
-    Rows(usize),
-    Refused(u32),
-    Full,
-}
 
 fn call_of(emitted: Told) -> Done
     ensures { λ r. ⌜ r ≡ doneOf emitted ⌝ }

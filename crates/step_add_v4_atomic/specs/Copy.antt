@@ -17,11 +17,11 @@ use Rattle.definition.specs.Reference.Addresses.{Outcome, goes, refused}
 use Rattle.definition.specs.Step.{roomy}
 use Rattle.state.specs.Represents.{Represents, holds-long, Sound}
 use Rattle.step_events.specs.Emits.{Emits, does-length}
-use Rattle.step_laws.specs.EmitsOrFull.{EmitsOrFull, adds-rows, adds-full, does-adds, full-adds}
-use Rattle.step_laws.specs.declared.Told.{Told}
-use Rattle.step_laws.specs.declared.Told.the-variants as Tell
-use Rattle.step_add_v4.specs.declared.Done.{Done}
-use Rattle.step_add_v4.specs.declared.Done.the-variants.{Rows, Refused, Full}
+use Rattle.step_events.specs.EmitsOrFull.{EmitsOrFull, adds-rows, adds-full, does-adds, full-adds}
+use Rattle.step_events.specs.declared.Told.{Told}
+use Rattle.step_events.specs.declared.Told.the-variants as Tell
+use Rattle.step_events.specs.declared.Done.{Done}
+use Rattle.step_events.specs.declared.Done.the-variants.{Rows, Refused, Full}
 use Rattle.step_add_v4.specs.Comes.{Comes, doneRows}
 
 -- the copy is the words

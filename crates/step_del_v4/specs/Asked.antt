@@ -23,8 +23,8 @@ use Rattle.state.specs.Represents.{Represents, count-addresses}
 use Rattle.step_events.specs.EmitsWithin.{Fits, EmitsWithin}
 use Rattle.lists.specs.Front.{any-here}
 use Rattle.step_remove_v4.specs.One.{addressRow, lent-address}
-use Rattle.step_del_v4.specs.declared.Deleted.{Deleted}
-use Rattle.step_del_v4.specs.declared.Deleted.the-variants.{Rows, Nothing}
+use Rattle.step_events.specs.declared.Done.{Done}
+use Rattle.step_events.specs.declared.Done.the-variants.{Rows, Refused, Full}
 
 -- ---- four words are the same where their number is
 low-high : (x y p q : ℕ) → x < 2 ^ 32 → p < 2 ^ 32 → x + y * 2 ^ 32 ≡ p + q * 2 ^ 32 → (x ≡ p) × (y ≡ q)
@@ -62,15 +62,16 @@ pub record Went (q : Row) (st : State) (s ev₀ ev : List ℕ) (n : ℕ) : Type 
   pub is : delV4 q st ≡ goes out
   pub step : EmitsWithin potential st out s ev₀ ev n
 
-abbrev pub Deletes : Row → State → List ℕ → List ℕ → List ℕ → Deleted → Type 0
+abbrev pub Deletes : Row → State → List ℕ → List ℕ → List ℕ → Done → Type 0
 Deletes q st s ev₀ ev (Rows n) = Went q st s ev₀ ev n
-Deletes q st s ev₀ ev Nothing = (delV4 q st ≡ refused 99 st) × Represents s st × (ev ≡ ev₀)
+Deletes q st s ev₀ ev (Refused n) = (delV4 q st ≡ refused n st) × Represents s st × (ev ≡ ev₀)
+Deletes q st s ev₀ ev Full = ⊥
 
 module _ (q : Row) {st : State} {s ev : List ℕ} (f : Fits potential st s ev) (n i : ℕ) (en : n ≡ addressCount s) (e : i ≡ placeOf (deletes q) (st .addresses)) where
   place : first (deletes q) (st .addresses) ≡ getElem? (st .addresses) i
   place = first-at (deletes q) (st .addresses) ∙ ap (getElem? (st .addresses)) (sym e)
 
-  pub deleted-none : n ≤ i → Deletes q st s ev ev Nothing
+  pub deleted-none : n ≤ i → Deletes q st s ev ev (Refused 99)
   unfolding delV4
   deleted-none b = (rw (place, nothing-from (st .addresses) i (omega (arith, count-addresses (f .holds)))), f .holds, refl)
 

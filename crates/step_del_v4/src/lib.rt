@@ -3,6 +3,7 @@ use layout::ADDRESS_WORDS;
 use layout::ADDRESSES_AT;
 use layout::address;
 use layout::del_v4;
+use step_events::Done;
 ghost use mathlib.Core.Path.{_≡_};
 ghost use mathlib.Core.List.{List};
 ghost use Prim.Native.Nat.{_+_, _*_, _^_, _≤_, _<_};
@@ -17,12 +18,6 @@ ghost use Rattle.definition.specs.Reference.Removal.{deletes};
 ghost use Rattle.definition.specs.Preservation.Shrinking.{potential};
 ghost use Rattle.step_events.specs.EmitsWithin.{Fits, Ready};
 ghost use Rattle.step_del_v4.specs.Asked.{Deletes};
-
-// What came of a deletion: the number of rows told, or that no address meets the conditions.
-pub enum Deleted {
-    Rows(usize),
-    Nothing,
-}
 
 // Whether four words are the same, each as part of one number.
 fn same_four(a: u32, b: u32, c: u32, d: u32, p: u32, q: u32, r: u32, s: u32) -> bool
@@ -72,7 +67,7 @@ fn find(rows: &[u32], n: usize, q: &[u32]) -> usize
     n
 }
 
-pub fn del_v4(s: &mut [u32], ev: &mut [u32], q: &[u32]) -> Deleted
+pub fn del_v4(s: &mut [u32], ev: &mut [u32], q: &[u32]) -> Done
     requires { ⌜ Ready potential (now s) (now ev) ⌝ }
     requires { ⌜ length (now q) ≡ 11 ⌝ }
     ensures { λ r. ⌜ ((st : State) → Fits potential st (now (s .entry)) (now (ev .entry)) → Deletes (now (q .entry)) st (now (s .exit)) (now (ev .entry)) (now (ev .exit)) r) ⌝ }
@@ -80,12 +75,12 @@ pub fn del_v4(s: &mut [u32], ev: &mut [u32], q: &[u32]) -> Deleted
     let n = state::address_count(s);
     let i = find(state_read::addresses(s), n, q);
     if n <= i {
-        return Deleted::Nothing;
+        return Done::Refused(layout::NO_SUCH_ADDRESS);
     }
     let at = ADDRESSES_AT + ADDRESS_WORDS * i;
     let end = at + ADDRESS_WORDS;
     let mut row = [0u32; ADDRESS_WORDS];
     words::store(&mut row, 0, &s[at..end]);
     let k = step_remove_v4::remove_v4(s, ev, &row);
-    Deleted::Rows(k)
+    Done::Rows(k)
 }

@@ -25,9 +25,9 @@ use Rattle.step_insert.specs.Plan.{answerOf, rowsAfter, InsertedInto}
 use Rattle.step_insert.specs.declared.Inserted.{Inserted}
 use Rattle.step_insert.specs.declared.Inserted.the-variants.{Put, Nothing, Refused, Full}
 use Rattle.step_events.specs.Emits.{does-one}
-use Rattle.step_laws.specs.EmitsOrFull.{EmitsOrFull, holds-within, does-adds, full-adds, adds-none}
-use Rattle.step_laws.specs.Through.{Covered}
-use Rattle.step_laws.specs.declared.Told.the-variants as Tell
+use Rattle.step_events.specs.EmitsOrFull.{EmitsOrFull, holds-within, does-adds, full-adds, adds-none}
+use Rattle.step_events.specs.Through.{Covered}
+use Rattle.step_events.specs.declared.Told.the-variants as Tell
 
 -- a list past its limit
 tables-pass : (a b c : Bool) → c ≡ false → (a && b && c) ≡ false

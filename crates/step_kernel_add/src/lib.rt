@@ -1,8 +1,8 @@
 // The kernel's own routes: added with their table listed, and told.
 use layout::TABLE_LIMIT;
 use layout::route;
+use step_events::Told;
 use step_insert::Inserted;
-use step_laws::Told;
 ghost use mathlib.Core.Path.{_≡_};
 ghost use mathlib.Core.Bool.{true};
 ghost use Prim.Native.Nat.{_≤_, _<_};
@@ -12,7 +12,7 @@ ghost use Rattle.definition.specs.State.{State};
 ghost use Rattle.definition.specs.Words.{fitState};
 ghost use Rattle.definition.specs.Reference.Insert.{kernelAdd4};
 ghost use Rattle.state.specs.Represents.{Represents, Valid};
-ghost use Rattle.step_laws.specs.EmitsOrFull.{EmitsOrFull, rowsOf};
+ghost use Rattle.step_events.specs.EmitsOrFull.{EmitsOrFull, rowsOf};
 
 const CREATE_APPEND: u32 = 0xc00;
 

@@ -21,10 +21,10 @@ use Rattle.definition.specs.Preservation.Keeps.{Keeps, through-keeps, keeps-fit
 use Rattle.definition.specs.Preservation.Addresses.{kernelAdd4-keeps}
 use Rattle.state.specs.Represents.{Valid, Sound, sound-valid}
 use Rattle.step_events.specs.Emits.{does-length, rest}
-use Rattle.step_laws.specs.EmitsOrFull.{EmitsOrFull, joined, holds-within, adds-rows}
-use Rattle.step_laws.specs.Through.{adds-start, adds-next, adds-full-end, adds-end}
-use Rattle.step_laws.specs.declared.Told.{Told}
-use Rattle.step_laws.specs.declared.Told.the-variants.{Rows, Full}
+use Rattle.step_events.specs.EmitsOrFull.{EmitsOrFull, joined, holds-within, adds-rows}
+use Rattle.step_events.specs.Through.{adds-start, adds-next, adds-full-end, adds-end}
+use Rattle.step_events.specs.declared.Told.{Told}
+use Rattle.step_events.specs.declared.Told.the-variants.{Rows, Full}
 use Rattle.step_kernel_add.specs.Add.{kernelAdd4-covered}
 use Rattle.step_new_address.specs.Sound.{AddsFrom, adds-holds, adds-sound}
 

@@ -30,9 +30,9 @@ use Rattle.row_candidates.specs.Rows.{subnetRoute}
 use Rattle.state.specs.Represents.{Represents, count-addresses, Sound}
 use Rattle.state.specs.Change.{address-at}
 use Rattle.step_events.specs.Emits.{Emits, does-one, rest}
-use Rattle.step_laws.specs.EmitsOrFull.{EmitsOrFull, holds-within, does-adds, adds-none, adds-also, adds-stop, adds-rows}
-use Rattle.step_laws.specs.declared.Told.{Told}
-use Rattle.step_laws.specs.declared.Told.the-variants.{Rows, Full}
+use Rattle.step_events.specs.EmitsOrFull.{EmitsOrFull, holds-within, does-adds, adds-none, adds-also, adds-stop, adds-rows}
+use Rattle.step_events.specs.declared.Told.{Told}
+use Rattle.step_events.specs.declared.Told.the-variants.{Rows, Full}
 use Rattle.step_new_address.specs.Sound.{AddsFrom, adds-holds, adds-sound, also-leaves, kernelAdd4-leaves}
 use Rattle.step_new_address.specs.New.{length-emitted}
 

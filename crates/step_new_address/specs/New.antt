@@ -25,9 +25,9 @@ use Rattle.definition.specs.Preservation.Addresses.{place4-fit}
 use Rattle.definition.specs.Preservation.Growing.{length-place4}
 use Rattle.state.specs.Represents.{Represents, count-addresses}
 use Rattle.step_events.specs.Emits.{does-one, rest}
-use Rattle.step_laws.specs.EmitsOrFull.{EmitsOrFull, joined, holds-within, does-adds, full-adds, adds-also, adds-stop}
-use Rattle.step_laws.specs.declared.Told.{Told}
-use Rattle.step_laws.specs.declared.Told.the-variants.{Rows, Full}
+use Rattle.step_events.specs.EmitsOrFull.{EmitsOrFull, joined, holds-within, does-adds, full-adds, adds-also, adds-stop}
+use Rattle.step_events.specs.declared.Told.{Told}
+use Rattle.step_events.specs.declared.Told.the-variants.{Rows, Full}
 use Rattle.step_new_address.specs.Sound.{AddsFrom}
 use Rattle.step_new_address.specs.Bring.{block-rows, block-ready}
 

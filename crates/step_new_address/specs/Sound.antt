@@ -15,9 +15,9 @@ use Rattle.definition.specs.Reference.Insert as Insert
 use Rattle.definition.specs.Reference.Insert.{create4, insert4, inserted, kernelAdd4}
 use Rattle.definition.specs.Preservation.Keeps.{Keeps, keeps-fit}
 use Rattle.state.specs.Represents.{Represents, Sound}
-use Rattle.step_laws.specs.EmitsOrFull.{EmitsOrFull, rowsOf, joined, adds-rows}
-use Rattle.step_laws.specs.declared.Told.{Told}
-use Rattle.step_laws.specs.declared.Told.the-variants.{Rows, Full}
+use Rattle.step_events.specs.EmitsOrFull.{EmitsOrFull, rowsOf, joined, adds-rows}
+use Rattle.step_events.specs.declared.Told.{Told}
+use Rattle.step_events.specs.declared.Told.the-variants.{Rows, Full}
 use Rattle.layout.specs.Route.{table}
 
 -- what is left of a buffer

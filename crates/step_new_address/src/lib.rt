@@ -6,7 +6,7 @@ use layout::EVENT_WORDS;
 use layout::ROUTE_WORDS;
 use layout::address;
 use life::Nanoseconds;
-use step_laws::Told;
+use step_events::Told;
 ghost use mathlib.Core.Path.{_≡_};
 ghost use mathlib.Core.Bool.{true};
 ghost use mathlib.Core.List.{List, []};
@@ -22,7 +22,7 @@ ghost use Rattle.definition.specs.State.{State};
 ghost use Rattle.definition.specs.Words.{fitState, addressCount};
 ghost use Rattle.definition.specs.Reference.Addresses.{bring, newAddress, moved, changeV4, sameAddress};
 ghost use Rattle.state.specs.Represents.{Represents, Sound};
-ghost use Rattle.step_laws.specs.EmitsOrFull.{EmitsOrFull, rowsOf, joined};
+ghost use Rattle.step_events.specs.EmitsOrFull.{EmitsOrFull, rowsOf, joined};
 ghost use Rattle.step_new_address.specs.Sound.{AddsFrom};
 
 // The answer of one step after another that told k rows.

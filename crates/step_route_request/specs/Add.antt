@@ -34,8 +34,8 @@ use Rattle.request_gateway.specs.declared.Reached.the-variants as Reached
 use Rattle.request_gateway.specs.declared.Reached.the-variants.{By}
 use Rattle.step_route_request.specs.Done.{doneOf, Requested, request-refused, request-goes, request-full, one-event}
 use Rattle.step_route_request.specs.Check.{checkAll, goesOn, add-goes}
-use Rattle.step_route_request.specs.declared.Done as Result
-use Rattle.step_route_request.specs.declared.Done.the-variants as Done
+use Rattle.step_events.specs.declared.Done as Result
+use Rattle.step_events.specs.declared.Done.the-variants as Done
 
 -- ---- what is told of an insertion
 abbrev pub fullOf : Inserted → Bool

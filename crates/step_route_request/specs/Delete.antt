@@ -22,7 +22,7 @@ use Rattle.state.specs.Change.{route-at, fit-route-at}
 use Rattle.state_tables.specs.Listed.{tablesOf}
 use Rattle.state_read.specs.Parts.{listed-there}
 use Rattle.step_route_request.specs.Done.{Requested, request-refused, request-emitted}
-use Rattle.step_route_request.specs.declared.Done.the-variants.{Rows, Refused}
+use Rattle.step_events.specs.declared.Done.the-variants.{Rows, Refused}
 
 -- row i, as it is lent
 abbrev pub routeRow : List ℕ → ℕ → Row

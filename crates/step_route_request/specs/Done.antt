@@ -13,9 +13,9 @@ use Rattle.definition.specs.State.{State, sizes, becomes}
 use Rattle.definition.specs.Words.{within}
 use Rattle.definition.specs.Reference.Addresses.{Outcome, goes, refused}
 use Rattle.state.specs.Represents.{Represents}
-use Rattle.step_laws.specs.EmitsOrFull.{holds-within}
-use Rattle.step_route_request.specs.declared.Done.{Done}
-use Rattle.step_route_request.specs.declared.Done.the-variants.{Rows, Refused, Full}
+use Rattle.step_events.specs.EmitsOrFull.{holds-within}
+use Rattle.step_events.specs.declared.Done.{Done}
+use Rattle.step_events.specs.declared.Done.the-variants.{Rows, Refused, Full}
 
 abbrev pub doneOf : Outcome → Done
 doneOf (goes o) = cond (within (o .peak)) (Rows (length (o .emitted))) Full

@@ -5,6 +5,7 @@ use layout::TABLE_LIMIT;
 use layout::add_route4;
 use layout::route;
 use request_gateway::Reached;
+use step_events::Done;
 use step_insert::Inserted;
 ghost use mathlib.Core.Path.{_≡_};
 ghost use mathlib.Core.Bool.{true, _||_};
@@ -24,13 +25,6 @@ ghost use Rattle.definition.specs.Words.{fitState};
 ghost use Rattle.step_route_request.specs.Done.{Requested};
 ghost use Rattle.step_route_request.specs.Add.{fullOf, Tells};
 ghost use Rattle.step_route_request.specs.Check.{prefsrcCheck, checkAll};
-
-// How many event rows were told, a refusal's number, or that a list has no room: then all is as it was.
-pub enum Done {
-    Rows(usize),
-    Refused(u32),
-    Full,
-}
 
 // The first row that the request names goes. No table is listed.
 pub fn del_route4(s: &mut [u32], ev: &mut [u32], q: &[u32]) -> Done

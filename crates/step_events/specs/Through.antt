@@ -11,11 +11,11 @@ use Rattle.lists.specs.Split.{take-more}
 use Rattle.definition.specs.State.{State, Out, sizes, stays, also, through}
 use Rattle.definition.specs.Words.{within}
 use Rattle.state.specs.Represents.{Represents}
 use Rattle.step_events.specs.Emits.{does-same, rest}
 use Rattle.step_events.specs.Turns.{Like, like-refl, like-sym, like-trans, also-like, through-one, through-append}
-use Rattle.step_laws.specs.EmitsOrFull.{EmitsOrFull, joined, within-also, adds-rows, adds-full, does-adds, full-adds, adds-none, adds-also}
-use Rattle.step_laws.specs.declared.Told.{Told}
-use Rattle.step_laws.specs.declared.Told.the-variants.{Rows, Full}
+use Rattle.step_events.specs.EmitsOrFull.{EmitsOrFull, joined, within-also, adds-rows, adds-full, does-adds, full-adds, adds-none, adds-also}
+use Rattle.step_events.specs.declared.Told.{Told}
+use Rattle.step_events.specs.declared.Told.the-variants.{Rows, Full}
 
 -- two steps that leave and tell the same, within the limits alike
 pub record Alike (o p : Out) : Type 0 where

@@ -9,11 +9,11 @@ use lib.ListN.{length}
 use Rattle.lists.specs.Lists.{Row, flat, put}
 use Rattle.definition.specs.Words.{decode}
 use Rattle.state.specs.Represents.{holds-decode, sizes-valid}
 use Rattle.state_read.specs.Parts.{of-routes}
-use Rattle.state_listed.specs.Listing.{valid, dump-ready, dumped}
+use Rattle.state_read.specs.Listing.{valid, dump-ready, dumped}
 use borrow.Author.Needs.{needs}
-use Rattle.state_listed.proofs.list.Statement.{statement}
-use Rattle.state_listed.proofs.list.Tie as tie
+use Rattle.state_read.proofs.list.Statement.{statement}
+use Rattle.state_read.proofs.list.Tie as tie
 
 shared-slice-read-wide : tie.Need-shared-slice-read-wide
 shared-slice-read-wide c = search needs

@@ -12,9 +12,9 @@ use Rattle.lists.specs.Bools.{test-case, true-false, and-iff}
 use Rattle.definition.specs.State.{State, Sizes, Out, sizes, most, stays, also}
 use Rattle.definition.specs.Words.{within}
 use Rattle.state.specs.Represents.{Represents}
 use Rattle.step_events.specs.Emits.{Emits, does-none, does-also, rest}
-use Rattle.step_laws.specs.declared.Told.{Told}
-use Rattle.step_laws.specs.declared.Told.the-variants.{Rows, Full}
+use Rattle.step_events.specs.declared.Told.{Told}
+use Rattle.step_events.specs.declared.Told.the-variants.{Rows, Full}
 
 pub record EmitsOrFull (o : Out) (w ev₀ ev : List ℕ) (r : Told) : Type 0 where
   pub answer : r ≡ cond (within (o .peak)) (Rows (length (o .emitted))) Full

@@ -1,2 +1,0 @@
-pub mod EmitsOrFull
-pub mod Through
