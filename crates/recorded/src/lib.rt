@@ -37,7 +37,7 @@ pub fn whole(r: &[u32]) -> bool
         return false;
     }
     (r[0] == check(&r[1..]))
-        & (state::wide(r[1]) == r.len())
+        & (words::wide(r[1]) == r.len())
         & (1 <= r[2])
         & (r[2] <= 15)
         & (r[3] <= 1)
@@ -46,7 +46,7 @@ pub fn whole(r: &[u32]) -> bool
         & (16 <= r[10])
         & (r[10] <= r[11])
         & (r[11] <= r[12])
-        & (state::wide(r[12]) <= r.len())
+        & (words::wide(r[12]) <= r.len())
 }
 
 // The number of the record's call, 0 where there is none.
@@ -63,7 +63,7 @@ pub fn code(r: &[u32]) -> u32
 fn set_word(s: &mut [u32], at: u32, v: u32)
     ensures { λ _. ⌜ now (s .exit) ≡ set (now (s .entry)) at v ⌝ }
 {
-    let i = state::wide(at);
+    let i = words::wide(at);
     if s.len() <= i {
         return;
     }
@@ -86,7 +86,7 @@ fn sets(r: &[u32]) -> &[u32]
     requires { ⌜ Fit (now r) ⌝ }
     ensures { λ p. ⌜ now p ≡ setsOf (now (r .entry)) ⌝ }
 {
-    let e = state::wide(r[10]);
+    let e = words::wide(r[10]);
     &r[16..e]
 }
 
@@ -94,8 +94,8 @@ fn lent(r: &[u32]) -> &[u32]
     requires { ⌜ Fit (now r) ⌝ }
     ensures { λ p. ⌜ now p ≡ lentOf (now (r .entry)) ⌝ }
 {
-    let a = state::wide(r[10]);
-    let e = state::wide(r[11]);
+    let a = words::wide(r[10]);
+    let e = words::wide(r[11]);
     &r[a..e]
 }
 
@@ -103,8 +103,8 @@ fn changed(r: &[u32]) -> &[u32]
     requires { ⌜ Fit (now r) ⌝ }
     ensures { λ p. ⌜ now p ≡ changesOf (now (r .entry)) ⌝ }
 {
-    let a = state::wide(r[11]);
-    let e = state::wide(r[12]);
+    let a = words::wide(r[11]);
+    let e = words::wide(r[12]);
     &r[a..e]
 }
 
@@ -112,7 +112,7 @@ fn rows(r: &[u32]) -> &[u32]
     requires { ⌜ Fit (now r) ⌝ }
     ensures { λ p. ⌜ now p ≡ rowsOf (now (r .entry)) ⌝ }
 {
-    let a = state::wide(r[12]);
+    let a = words::wide(r[12]);
     &r[a..]
 }
 
@@ -144,8 +144,8 @@ fn answer(r: &[u32], held: &mut [u32], buffer: &mut [u32]) -> Reply
     ensures { λ _. ⌜ now (held .exit) ≡ heldBy (now (r .entry)) (now (held .entry)) ⌝ }
     ensures { λ _. ⌜ now (buffer .exit) ≡ bufferBy (now (r .entry)) (now (held .entry)) (now (buffer .entry)) ⌝ }
 {
-    let n = state::wide(r[4]);
-    let m = state::wide(r[5]);
+    let n = words::wide(r[4]);
+    let m = words::wide(r[5]);
     call_dispatch::call(
         r[2],
         &mut held[..n],

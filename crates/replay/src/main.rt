@@ -35,7 +35,7 @@ fn next(fd: i32, r: &mut [u32]) -> usize
     if !read_words(fd, &mut r[..2]) {
         return 0;
     }
-    let n = state::wide(r[1]);
+    let n = words::wide(r[1]);
     if n < 2 {
         return 0;
     }
@@ -111,7 +111,7 @@ fn say_kind(code: u32, same: u64, other: u64) {
 fn count(counts: &mut [u64; 16], code: u32)
     ensures { λ _. ⌜ (code < 16 → now (counts .exit) ≡ set (now (counts .entry)) code ((getD (now (counts .entry)) code 0 + 1) % 2 ^ 64)) ⌝ }
 {
-    let k = state::wide(code);
+    let k = words::wide(code);
     if 16 <= k {
         return;
     }

@@ -91,7 +91,7 @@ fn fit_pairs(q: &[u32]) -> bool
     requires { ⌜ (length (now q) ≡ 49) × (pairCount (now q) ≤ 17) ⌝ }
     ensures { λ r. ⌜ r ≡ fitPairs (now (q .entry)) ⌝ }
 {
-    let n = wide(q[del_route4::PAIR_COUNT]);
+    let n = words::wide(q[del_route4::PAIR_COUNT]);
     let mut fit = true;
     let mut i = 0usize;
     while i < n {
@@ -99,12 +99,6 @@ fn fit_pairs(q: &[u32]) -> bool
         i += 1;
     }
     fit
-}
-
-fn wide(n: u32) -> usize
-    ensures { λ r. ⌜ r ≡ n ⌝ }
-{
-    n as usize
 }
 
 // The count is looked at before the pairs that it counts.

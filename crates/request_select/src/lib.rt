@@ -42,22 +42,16 @@ fn same_fields(q: &[u32], r: &[u32]) -> bool
             | ((r[route::GATEWAY_PRESENT] == 1) & (r[route::GATEWAY] == q[route::GATEWAY])))
 }
 
-fn wide(n: u32) -> usize
-    ensures { λ r. ⌜ r ≡ n ⌝ }
-{
-    n as usize
-}
-
 // The metrics that the request names, pair by pair.
 fn has_metrics(q: &[u32], r: &[u32]) -> bool
     requires { ⌜ (length (now q) ≡ 49) × (fitDelRoute4 (now q) ≡ true) × (length (now r) ≡ 32) ⌝ }
     ensures { λ b. ⌜ b ≡ hasMetrics (now (q .entry)) (now (r .entry)) ⌝ }
 {
-    let n = wide(q[del_route4::PAIR_COUNT]);
+    let n = words::wide(q[del_route4::PAIR_COUNT]);
     let mut same = q[del_route4::LIST_PRESENT] == 1;
     let mut i = 0usize;
     while i < n {
-        let index = wide(q[del_route4::PAIRS + 2 * i]);
+        let index = words::wide(q[del_route4::PAIRS + 2 * i]);
         same = same & (r[route::METRICS + index] == q[del_route4::PAIR_VALUES + 2 * i]);
         i += 1;
     }

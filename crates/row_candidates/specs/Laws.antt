@@ -54,8 +54,6 @@ append-join : (xs ys : List Row) {k m r : ℕ} {o mid after : List ℕ} → size
 append-join xs ys {k = k} {m = m} {r = r} {o = o} p q room x y =
     let longx : length (flat xs) ≡ 32 * length xs = length-flat 32 xs p in
     let longy : length (flat ys) ≡ 32 * length ys = length-flat 32 ys q in
-    let cx = x .count in
-    let cy = y .count in
     let place : 32 * m ≡ 32 * k + length (flat xs) = omega arith in
     record {
       count = y .count ∙ ap (λ (n : ℕ). n + length ys) (x .count) ∙ add-assoc k (length xs) (length ys) ∙ ap (λ (n : ℕ). k + n) (sym (length-append xs ys));

@@ -17,25 +17,18 @@ ghost use Rattle.definition.specs.State.{State, withAddresses, withRoutes};
 ghost use Rattle.definition.specs.Words.{addressCount, routeCount, baseSize};
 ghost use Rattle.state.specs.Represents.{Represents, Valid};
 
-// A count as a place.
-pub fn wide(n: u32) -> usize
-    ensures { λ r. ⌜ r ≡ n ⌝ }
-{
-    n as usize
-}
-
 pub fn address_count(s: &[u32]) -> usize
     requires { ⌜ length (now s) ≡ baseSize ⌝ }
     ensures { λ r. ⌜ r ≡ addressCount (now (s .entry)) ⌝ }
 {
-    wide(s[ADDRESS_COUNT])
+    words::wide(s[ADDRESS_COUNT])
 }
 
 pub fn route_count(s: &[u32]) -> usize
     requires { ⌜ length (now s) ≡ baseSize ⌝ }
     ensures { λ r. ⌜ r ≡ routeCount (now (s .entry)) ⌝ }
 {
-    wide(s[ROUTE_COUNT])
+    words::wide(s[ROUTE_COUNT])
 }
 
 // A row before row i.
@@ -49,7 +42,7 @@ pub fn insert_address(s: &mut [u32], i: usize, row: &[u32])
     words::insert(
         s,
         ADDRESSES_AT + ADDRESS_WORDS * i,
-        ADDRESS_WORDS * (wide(n) - i),
+        ADDRESS_WORDS * (words::wide(n) - i),
         row,
     );
     s[ADDRESS_COUNT] = n + 1;
@@ -66,7 +59,7 @@ pub fn remove_address(s: &mut [u32], i: usize)
         s,
         ADDRESSES_AT + ADDRESS_WORDS * i,
         ADDRESS_WORDS,
-        ADDRESS_WORDS * (wide(n) - i),
+        ADDRESS_WORDS * (words::wide(n) - i),
     );
     s[ADDRESS_COUNT] = n;
 }
@@ -91,7 +84,7 @@ pub fn insert_route(s: &mut [u32], i: usize, row: &[u32])
     words::insert(
         s,
         ROUTES_AT + ROUTE_WORDS * i,
-        ROUTE_WORDS * (wide(n) - i),
+        ROUTE_WORDS * (words::wide(n) - i),
         row,
     );
     s[ROUTE_COUNT] = n + 1;
@@ -107,7 +100,7 @@ pub fn remove_route(s: &mut [u32], i: usize)
         s,
         ROUTES_AT + ROUTE_WORDS * i,
         ROUTE_WORDS,
-        ROUTE_WORDS * (wide(n) - i),
+        ROUTE_WORDS * (words::wide(n) - i),
     );
     s[ROUTE_COUNT] = n;
 }

@@ -106,6 +106,6 @@ pub fn list(s: &[u32], listing: &mut [u32]) -> usize
     ensures { λ r. ⌜ r ≡ length (dump4 (decode (now (s .entry)))) ⌝ }
     ensures { λ _. ⌜ now (listing .exit) ≡ put 0 (flat (dump4 (decode (now (s .entry))))) (now (listing .entry)) ⌝ }
 {
-    let e = TABLES_AT + state::wide(s[TABLE_COUNT]);
+    let e = TABLES_AT + words::wide(s[TABLE_COUNT]);
     rows_dump::dump4(routes(s), state::route_count(s), &s[TABLES_AT..e], listing)
 }

@@ -72,7 +72,6 @@ module _ (p : Row → Bool) (base k : ℕ) (w : List ℕ) (i : ℕ) (h : base + 
       → (cond b (put (base + k * length kept) row (put base (flat kept) w)) (put base (flat kept) w) ≡ put base (flat (kept ++ keep p (row ∷ []))) w)
       × (length kept + cond b 1 0 ≡ length (kept ++ keep p (row ∷ [])))
   then true e =
-      let long = length-kept in
       let wide : length row ≡ k = length-span (base + k * i) k w (omega arith) in (
         rw e
             (ap (λ (n : ℕ). put (base + n) row (put base (flat kept) w)) (sym length-kept)

@@ -81,7 +81,7 @@ fn retain(s: &mut [u32], host: bool)
     requires { ⌜ Valid (now s) ⌝ }
     ensures { λ _. ⌜ ((st : State) → Represents (now (s .entry)) st → Represents (now (s .exit)) (withRoutes (keep (remains host) (st .routes)) st)) ⌝ }
 {
-    let n = state::wide(s[ROUTE_COUNT]);
+    let n = words::wide(s[ROUTE_COUNT]);
     let mut j = 0usize;
     let mut i = 0usize;
     while i < n {

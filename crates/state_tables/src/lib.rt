@@ -14,7 +14,7 @@ pub fn listed(s: &[u32], t: u32) -> bool
     requires { ⌜ Valid (now s) ⌝ }
     ensures { λ r. ⌜ r ≡ among t (tablesOf (now (s .entry))) ⌝ }
 {
-    let n = state::wide(s[TABLE_COUNT]);
+    let n = words::wide(s[TABLE_COUNT]);
     let e = TABLES_AT + n;
     words::among(&s[TABLES_AT..e], t)
 }
@@ -29,7 +29,7 @@ pub fn add_table(s: &mut [u32], t: u32)
         return;
     }
     let n = s[TABLE_COUNT];
-    let e = TABLES_AT + state::wide(n);
+    let e = TABLES_AT + words::wide(n);
     s[e] = t;
     s[TABLE_COUNT] = n + 1;
 }
@@ -40,9 +40,9 @@ fn with_table(s: &[u32], t: u32) -> usize
     ensures { λ r. ⌜ r ≡ length (addTable t (tablesOf (now (s .entry)))) ⌝ }
 {
     if listed(s, t) {
-        return state::wide(s[TABLE_COUNT]);
+        return words::wide(s[TABLE_COUNT]);
     }
-    state::wide(s[TABLE_COUNT]) + 1
+    words::wide(s[TABLE_COUNT]) + 1
 }
 
 // How many tables there are once t is listed, and with 255 also 254: past 32 they have no room.

@@ -174,9 +174,9 @@ fn unused_zero(s: &[u32]) -> bool
     requires { ⌜ (length (now s) ≡ baseSize) × (addressCount (now s) ≤ 64) × (routeCount (now s) ≤ 256) × (tableCount (now s) ≤ 32) ⌝ }
     ensures { λ r. ⌜ r ≡ unusedZero (now (s .entry)) ⌝ }
 {
-    let a = ADDRESSES_AT + ADDRESS_WORDS * state::wide(s[ADDRESS_COUNT]);
-    let r = ROUTES_AT + ROUTE_WORDS * state::wide(s[ROUTE_COUNT]);
-    let t = TABLES_AT + state::wide(s[TABLE_COUNT]);
+    let a = ADDRESSES_AT + ADDRESS_WORDS * words::wide(s[ADDRESS_COUNT]);
+    let r = ROUTES_AT + ROUTE_WORDS * words::wide(s[ROUTE_COUNT]);
+    let t = TABLES_AT + words::wide(s[TABLE_COUNT]);
     words::all_zero(&s[a..ROUTES_AT]) & words::all_zero(&s[r..TABLES_AT]) & words::all_zero(&s[t..])
 }
 
@@ -184,9 +184,9 @@ pub fn well_formed(s: &[u32]) -> bool
     requires { ⌜ length (now s) ≡ baseSize ⌝ }
     ensures { λ r. ⌜ r ≡ wellFormed (now (s .entry)) ⌝ }
 {
-    let a = state::wide(s[ADDRESS_COUNT]);
-    let r = state::wide(s[ROUTE_COUNT]);
-    let t = state::wide(s[TABLE_COUNT]);
+    let a = words::wide(s[ADDRESS_COUNT]);
+    let r = words::wide(s[ROUTE_COUNT]);
+    let t = words::wide(s[TABLE_COUNT]);
     if ADDRESS_LIMIT < a {
         return false;
     }

@@ -37,7 +37,7 @@ fn has_room(s: &[u32], rows: usize) -> bool
 {
     let addresses = state::address_count(s);
     let routes = state::route_count(s);
-    let tables = state::wide(s[TABLE_COUNT]);
+    let tables = words::wide(s[TABLE_COUNT]);
     (addresses < ADDRESS_LIMIT) & (routes + rows <= ROUTE_LIMIT) & (tables <= TABLES_BEFORE)
 }
 

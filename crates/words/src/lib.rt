@@ -6,6 +6,19 @@ ghost use lib.Dec.{eqb};
 ghost use lib.ListN.{length};
 ghost use Rattle.lists.specs.Lists.{put, span, zeros, allZero, eqRow, among};
 
+// A word as a place, and as a wider number.
+pub fn wide(n: u32) -> usize
+    ensures { λ r. ⌜ r ≡ n ⌝ }
+{
+    n as usize
+}
+
+pub fn long(n: u32) -> u64
+    ensures { λ r. ⌜ r ≡ n ⌝ }
+{
+    n as u64
+}
+
 // The words vs from the place at on.
 pub fn store(s: &mut [u32], at: usize, vs: &[u32])
     requires { ⌜ at + length (now vs) ≤ length (now s) ⌝ }

@@ -45,8 +45,6 @@ change-v4-requires c κs =
     let p = c .before .before .before .before .before in
     let n = p .before .before .before in
     let s = n .before .before .before .before .before in
-    let a = s .args in
-    let q = a .q .now in
     (s .pre .0, (omega (arith, c .before .before .before .before .if1 .taken, n .address-count .ensures), (s .pre .1 .0, omega (arith, s .pre .1 .1))))
 
 call-of-requires : tie.Need-call-of-requires
@@ -83,8 +81,6 @@ fresh-requires c κs =
     let p = c .before .before .before .before in
     let n = p .before .before .before in
     let s = n .before .before .before .before .before in
-    let a = s .args in
-    let q = a .q .now in
     (ready-addresses _ (n .address-count .result) (sound-valid (s .pre .0)) (c .before .addresses2 .ensures) (n .address-count .ensures), (s .pre .1 .0, refl))
 
 shared-slice-read-up : tie.Need-shared-slice-read-up

@@ -29,9 +29,6 @@ loop-holds c =
 mul-from : tie.Need-mul-from Inv-loop μ-loop
 mul-from c =
     let k = c .before in
-    let n = k .before in
-    let s = n .before .before .before .before in
-    let v = s .pre .0 in
     let inv = k .loop .inv in
     omega (arith, inv .1 .0)
 
@@ -46,7 +43,6 @@ part-bring-at-start c =
     let k = c .before .before in
     let n = k .before in
     let s = n .before .before .before .before in
-    let v = s .pre .0 in
     let inv = k .loop .inv in
     omega (arith, inv .1 .0, inv .1 .1 .1 .0, s .pre .1)
 
@@ -75,9 +71,6 @@ add-emitted c =
     let t = c .before in
     let w = t .before .before .before .before .before .before in
     let k = w .before .before .before .before in
-    let n = k .before in
-    let s = n .before .before .before .before in
-    let v = s .pre .0 in
     let inv = k .loop .inv in
     omega (arith, inv .1 .0, rows-are 4 (w .bring-at .result) (t .came .given .0 .0) (t .came .given .1) (w .bring-at .ensures .0))
 
@@ -95,8 +88,6 @@ returns c =
     let w = c .before .before .before .before .before .before in
     let k = w .before .before .before .before in
     let n = k .before in
-    let s = n .before .before .before .before in
-    let v = s .pre .0 in
     let inv = k .loop .inv in
     (omega arith, sofar-full (inv .1 .1 .1 .1) (omega (arith, n .address-count .ensures, w .before .before .before .loop-test .taken)) (w .bring-at .ensures .1) (c .enum-told .given .1))
 
@@ -128,8 +119,6 @@ returns-2 : tie.Need-returns-2 Inv-loop μ-loop
 returns-2 c =
     let k = c .before in
     let n = k .before in
-    let s = n .before .before .before .before in
-    let v = s .pre .0 in
     let inv = k .loop .inv in
     (inv .1 .0, sofar-end (inv .1 .1 .1 .1) (omega (arith, n .address-count .ensures, c .loop-test .left)))
 

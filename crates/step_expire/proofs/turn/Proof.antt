@@ -86,7 +86,6 @@ mark-requires c κs =
     let w = c .before .before .before .before .before .before .before .before .before .before in
     let z = address-end (s .pre .0) (s .args .i) (s .pre .1) in
     let q = w .store .ensures ∙ put-row (addressRow (s .args .s .now) (s .args .i)) _ (z .3) refl in
-    let row = w .store .last .0 in
     (ready-valid (s .pre .0), (s .pre .1, some-room (s .pre .0) (s .args .i) (s .pre .1), ap fitAddress q ∙ z .2))
 
 same-length-3 : tie.Need-same-length-3

@@ -42,10 +42,8 @@ returns c =
 insert-route-requires : tie.Need-insert-route-requires
 insert-route-requires c κs =
     let s = c .before .before .before .before .before .before .before .before .before .before .before .before in
-    let a = s .args in
     let v = s .pre .0 in
     let n = c .before .before .before .before .before .before .before .before .route-count .ensures in
-    let e = c .before .before .before .before .before .before .routes .ensures in
     let p = c .before .before .before .before .before .plan4 in
     let i = c .before .before .before .plan .given in
     (v, ((omega (arith, add-place (c .before .before .before .before .before .before .before .before .route-count .result) (p .result) (i .0 .0) (i .0 .1 .0) (p .ensures .0) (i .1), n), omega (arith, n, sizes-valid v, c .before .if1 .left)), s .pre .1))
@@ -56,10 +54,8 @@ enum-known-plan-2 c = search needs
 replace-route-requires : tie.Need-replace-route-requires
 replace-route-requires c κs =
     let s = c .before .before .before .before .before .before .before .before .before .before .before in
-    let a = s .args in
     let v = s .pre .0 in
     let n = c .before .before .before .before .before .before .before .route-count .ensures in
-    let e = c .before .before .before .before .before .routes .ensures in
     let p = c .before .before .before .before .plan4 in
     let i = c .before .before .plan2 .given in
     (v, (omega (arith, replace-place (c .before .before .before .before .before .before .before .route-count .result) (p .result) (i .0 .0) (p .ensures .0) (i .1), n), s .pre .1))
@@ -97,7 +93,6 @@ returns-3 c =
     let s = c .before .before .before .before .before .before .before .before .before .before .before .before .before .before in
     let a = s .args in
     let v = s .pre .0 in
-    let n = c .before .before .before .before .before .before .before .before .before .before .route-count .ensures in
     let e = c .before .before .before .before .before .before .before .before .routes .ensures in
     let p = c .before .before .before .before .before .before .before .plan4 in
     let i = c .before .before .before .before .before .plan2 .given in
@@ -115,7 +110,6 @@ returns-4 c =
     let s = c .before .before .before .before .before .before .before .before .before in
     let a = s .args in
     let v = s .pre .0 in
-    let n = c .before .before .before .before .before .route-count .ensures in
     let e = c .before .before .before .routes .ensures in
     let p = c .before .before .plan4 in
     (v, λ st h g. into-kept (a .new .now) (a .flags) st (p .result) (p .ensures .1 (st .routes) (of-routes _ h e) (in-order st g)) h (c .enum-told .given .1))
@@ -128,7 +122,6 @@ returns-5 c =
     let s = c .before .before .before .before .before .before .before .before .before .before in
     let a = s .args in
     let v = s .pre .0 in
-    let n = c .before .before .before .before .before .before .route-count .ensures in
     let e = c .before .before .before .before .routes .ensures in
     let p = c .before .before .before .plan4 in
     let i = c .before .plan3 .given in

@@ -49,11 +49,7 @@ addresses-requires-2 c κs =
     let p = i .before .before in
     let n = p .before .before .before .before in
     let s = n .before .before .before .before .before in
-    let a = s .args in
-    let new = a .new .now in
     let v = s .pre .0 in
-    let fit = s .pre .1 .0 in
-    let l = p .before .addresses .ensures in
     record { state = _; holds = i .insert-address .ensures (v .state) (v .holds) }
 
 add-candidates : tie.Need-add-candidates
@@ -142,7 +138,6 @@ returns-2 c =
     let s = n .before .before .before .before .before in
     let a = s .args in
     let new = a .new .now in
-    let v = s .pre .0 in
     let fit = s .pre .1 .0 in
     let l = p .before .addresses .ensures in
     let d = c .before .before .before .before .before .before .before .before .before .before .before in

@@ -48,7 +48,6 @@ returns c = let s = c .before .before .before .before .before .before .before .b
 list-table-requires : tie.Need-list-table-requires
 list-table-requires c κs = let s = c .before .before .before .before .before .before .before .before .before .before .before .before .before .before .before in
     let a = s .args in
-    let q = now (a .q) in
     let i = c .before .before .before .before .before .insert4 in
     let v = s .pre .0 in
     (i .ensures .0, room-kept (a .t) _ (v .holds) (i .ensures .1 (v .state) (v .holds) (v .fits) .holds) (s .pre .1 .0))

@@ -32,7 +32,6 @@ listed-requires-2 c κs = search needs
 
 route-count-requires : tie.Need-route-count-requires
 route-count-requires c κs = let s = c .before .before .before .before .before .before .before in
-    let a = s .args in
     sizes-valid (s .pre .0) .long
 
 routes-requires : tie.Need-routes-requires
@@ -51,7 +50,6 @@ enum-known-reached-2 c = search needs
 
 prefsrc-check-requires : tie.Need-prefsrc-check-requires
 prefsrc-check-requires c κs = let s = c .before .before .before .before .before .before .before .before .before .before .before .before .before in
-    let a = s .args in
     (s .pre .0, (s .pre .1 .0, c .before .before .before .before .before .before .before .before .table-named .ensures))
 
 returns-2 : tie.Need-returns-2

@@ -37,7 +37,6 @@ returns-2 c = let s = c .before .before .before .before .before .before .before 
 
 route-count-requires : tie.Need-route-count-requires
 route-count-requires c κs = let s = c .before .before .before .before .before .before .before .before .before .before in
-    let a = s .args in
     sizes-valid (s .pre .0) .long
 
 routes-requires : tie.Need-routes-requires
@@ -45,7 +44,6 @@ routes-requires c κs = search needs
 
 select-route-requires : tie.Need-select-route-requires
 select-route-requires c κs = let s = c .before .before .before .before .before .before .before .before .before .before .before .before .before in
-    let a = s .args in
     (ready-routes _ _ (s .pre .0) (c .routes .ensures) (c .before .before .route-count .ensures), s .pre .1 .0)
 
 same-length-3 : tie.Need-same-length-3
@@ -58,22 +56,18 @@ returns-3 c = let s = c .before .before .before .before .before .before .before 
 
 mul-at : tie.Need-mul-at
 mul-at c = let s = c .before .before .before .before .before .before .before .before .before .before .before .before .before .before .before in
-    let a = s .args in
     omega (arith, sizes-valid (s .pre .0), c .before .before .before .before .route-count .ensures)
 
 add-at : tie.Need-add-at
 add-at c = let s = c .before .before .before .before .before .before .before .before .before .before .before .before .before .before .before in
-    let a = s .args in
     omega (arith, sizes-valid (s .pre .0), c .before .before .before .before .route-count .ensures)
 
 add-del-route4 : tie.Need-add-del-route4
 add-del-route4 c = let s = c .before .before .before .before .before .before .before .before .before .before .before .before .before .before .before .before in
-    let a = s .args in
     omega (arith, sizes-valid (s .pre .0), c .before .before .before .before .before .route-count .ensures)
 
 mul-del-route4 : tie.Need-mul-del-route4
 mul-del-route4 c = let s = c .before .before .before .before .before .before .before .before .before .before .before .before .before .before .before .before in
-    let a = s .args in
     omega (arith, sizes-valid (s .pre .0), c .before .before .before .before .before .route-count .ensures)
 
 sub-del-route4 : tie.Need-sub-del-route4
@@ -84,17 +78,14 @@ part-del-route4-start c = search needs
 
 part-del-route4-end : tie.Need-part-del-route4-end
 part-del-route4-end c = let s = c .before .before .before .before .before .before .before .before .before .before .before .before .before .before .before .before .before in
-    let a = s .args in
     omega (arith, row-end (s .pre .0) (c .before .before .before .select-route .result) (omega (arith, c .before .before .before .before .before .before .route-count .ensures, c .before .before .if3 .left)))
 
 del-route4-requires : tie.Need-del-route4-requires
 del-route4-requires c κs = let s = c .before .before .before .before .before .before .before .before .before .before .before .before .before .before .before .before .before .before in
-    let a = s .args in
     (s .pre .1 .1, row-long (s .pre .0) (c .before .before .before .before .select-route .result) (omega (arith, c .before .before .before .before .before .before .before .route-count .ensures, c .before .before .before .if3 .left)))
 
 remove-route-requires : tie.Need-remove-route-requires
 remove-route-requires c κs = let s = c .before .before .before .before .before .before .before .before .before .before .before .before .before .before .before .before .before .before .before .before .before .before in
-    let a = s .args in
     (s .pre .0, (omega (arith, c .before .before .before .before .before .before .before .before .before .before .before .route-count .ensures, c .before .before .before .before .before .before .before .if3 .left)))
 
 same-length-4 : tie.Need-same-length-4

@@ -27,7 +27,6 @@ listed-requires c κs = search needs
 
 route-count-requires : tie.Need-route-count-requires
 route-count-requires c κs = let s = c .before .before .before .before .before .before in
-    let a = s .args in
     sizes-valid (s .pre .0) .long
 
 routes-requires : tie.Need-routes-requires
@@ -35,7 +34,6 @@ routes-requires c κs = search needs
 
 valid-prefsrc4-requires : tie.Need-valid-prefsrc4-requires
 valid-prefsrc4-requires c κs = let s = c .before .before .before .before .before .before .before .before in
-    let a = s .args in
     (ready-routes _ _ (s .pre .0) (c .routes .ensures) (c .before .route-count .ensures), omega (arith, s .pre .1 .0))
 
 returns-2 : tie.Need-returns-2

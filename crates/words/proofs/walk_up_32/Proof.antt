@@ -70,7 +70,6 @@ returns : tie.Need-returns Inv-loop μ-loop
 returns c =
     let w = c .before in
     let none : w .loop .i ≡ 0 = omega arith in
-    let a = w .before .args in
     w .loop .inv .2 ∙ rw (none, add-zero)
 
 pub walk-up-32-spec : {M : Type 1} → statement M
