@@ -121,14 +121,14 @@ pub fn primary_of(addresses: &[V4], a: V4) -> u32
 }
 
 // The first n of 64 records, lent: whoever calls this needs no walk by hand.
-fn lend_select4(rows: [V4; 64], n: usize, dst_present: bool, dst: u32, scope: u32) -> Selected
+pub fn lend_select4(rows: [V4; 64], n: usize, dst_present: bool, dst: u32, scope: u32) -> Selected
     requires { ⌜ n ≤ 64 ⌝ }
     ensures { λ r. ⌜ localIn r ≡ select4 (map rowOf (take n rows)) (wanted «dst_present» dst) scope ⌝ }
 {
     select4(&rows[..n], dst_present, dst, scope)
 }
 
-fn lend_primary_of(rows: [V4; 64], n: usize, a: V4) -> u32
+pub fn lend_primary_of(rows: [V4; 64], n: usize, a: V4) -> u32
     requires { ⌜ n ≤ 64 ⌝ }
     ensures { λ r. ⌜ r ≡ primaryOf (map rowOf (take n rows)) (rowOf a) ⌝ }
 {
