@@ -1,4 +1,4 @@
-// What the printing program prints: a state's listing, or why the bytes are refused.
+// What the printing program prints: a state's listing, or why the bytes are refused. And the program itself, on any input.
 use layout::BASE_WORDS;
 use layout::LISTING_BUFFER;
 use layout::ROUTE_WORDS;
@@ -49,4 +49,34 @@ pub fn show(bytes: &[u8], out: &mut [u8; 19220]) -> usize
     let mut s = [0u32; BASE_WORDS];
     endian::words_of(bytes, &mut s);
     show_words(&s, out)
+}
+
+// Whether nothing is left to read. A read that fails is no end.
+fn at_end(fd: i32) -> bool {
+    let mut byte = [0u8; 1];
+    libc::read(fd, &mut byte) == 0
+}
+
+fn write(text: &[u8]) {
+    if !io::write_all(1, text) {
+        os::fail(b"standard output");
+    }
+}
+
+fn print_bytes(bytes: &[u8]) {
+    let mut text = [0u8; 19220];
+    let k = show(bytes, &mut text);
+    write(&text[..k]);
+}
+
+// Prints what an input says, on standard output. One byte more than a state is read, so that an input with too many is seen. An input
+// that can't be read is no short one: nothing is printed of it, and standard error says why, as it does of a write that fails.
+pub fn print(fd: i32, name: &[u8]) {
+    let mut bytes = [0u8; 38029];
+    let n = io::read_full(fd, &mut bytes);
+    if (n < 38029) & !at_end(fd) {
+        os::fail(name);
+        return;
+    }
+    print_bytes(&bytes[..n]);
 }

@@ -123,7 +123,7 @@ pub fn primary_of(addresses: &[V4], a: V4) -> u32
 }
 
 // The first n of 64 records, lent: whoever calls this needs no walk by hand.
-fn lend_select4(
+pub fn lend_select4(
     rows: [V4; ADDRESS_LIMIT],
     n: usize,
     dst_present: bool,
@@ -136,7 +136,7 @@ fn lend_select4(
     select4(&rows[..n], dst_present, dst, scope)
 }
 
-fn lend_primary_of(rows: [V4; ADDRESS_LIMIT], n: usize, a: V4) -> u32
+pub fn lend_primary_of(rows: [V4; ADDRESS_LIMIT], n: usize, a: V4) -> u32
     requires { ⌜ n ≤ 64 ⌝ }
     ensures { λ r. ⌜ r ≡ primaryOf (map rowOf (take n rows)) (rowOf a) ⌝ }
 {

@@ -18,7 +18,7 @@ use Rattle.call_reply.specs.declared.Reply.{Reply}
 use Rattle.call_reply.specs.Answer.{replyOf}
 use Rattle.call_dispatch.specs.Numbered.{callBy, Did}
 use Rattle.recorded.specs.declared.Verdict.the-variants.{Damaged, Other, Same}
-use Rattle.recorded.specs.Record.{checkFrom, fit, Fit, setAll, setsOf, restarted, beforeOf, lentOf, changesOf, rowsOf, resultOf, heldBy, bufferBy, part, checkOf, afterOf, sameReply, agrees, verdictOf, heldAfter}
+use Rattle.recorded.specs.Record.{checkFrom, fit, Fit, setAll, setsOf, restarted, beforeOf, lentOf, changesOf, rowsOf, resultOf, heldBy, bufferBy, part, checkOf, afterOf, sameReply, agrees, verdictOf, heldAfter, bufferAfter}
 
 -- the check of the words so far and one more
 pub check-next : (l : List ℕ) (i sum : ℕ) → i < length l → checkFrom sum (drop i l) ≡ checkFrom ((sum * 16777619 + getD l i 0) % 4294967296) (drop (i + 1) l)
@@ -116,7 +116,7 @@ after-long r h l {h₁} e f = ap length f ∙ length-setAll l h₁ ∙ ap length
 -- what the comparison of everything says
 pub agreed : (r : Row) (h b : List ℕ) (h₁ lent left changes h₂ rows room wanted b′ : List ℕ) (reply : Reply) (x y z : Bool) → h₁ ≡ beforeOf r h → lent ≡ h₁ → room ≡ b → rows ≡ rowsOf r
     → wanted ≡ put 0 rows room → reply ≡ replyOf (resultOf r lent .reply) → left ≡ heldBy r lent → b′ ≡ bufferBy r lent b → changes ≡ changesOf r → h₂ ≡ setAll changes h₁
-    → x ≡ sameReply r reply → y ≡ eqRow left h₂ → z ≡ eqRow b′ wanted → (x && y && z ≡ agrees r h b) × (h₂ ≡ afterOf r h)
+    → x ≡ sameReply r reply → y ≡ eqRow left h₂ → z ≡ eqRow b′ wanted → (x && y && z ≡ agrees r h b) × ((h₂ ≡ afterOf r h) × (b′ ≡ bufferBy r (beforeOf r h) b))
 unfolding agrees
 agreed r h b h₁ lent left changes h₂ rows room wanted b′ reply x y z begins copies fills says stores answers leaves writes changed sets ex ey ez =
     let before : lent ≡ beforeOf r h = copies ∙ begins in
@@ -125,11 +125,12 @@ agreed r h b h₁ lent left changes h₂ rows room wanted b′ reply x y z begin
     let f : y ≡ eqRow (heldBy r (beforeOf r h)) (afterOf r h) =
     ey ∙ ap (λ (l : List ℕ). eqRow l h₂) (leaves ∙ ap (heldBy r) before) ∙ ap (eqRow (heldBy r (beforeOf r h))) after in
     let w : wanted ≡ put 0 (rowsOf r) b = stores ∙ ap (λ (l : List ℕ). put 0 l room) says ∙ ap (put 0 (rowsOf r)) fills in
+    let filled : b′ ≡ bufferBy r (beforeOf r h) b = writes ∙ ap (λ (l : List ℕ). bufferBy r l b) before in
     let g : z ≡ eqRow (bufferBy r (beforeOf r h) b) (put 0 (rowsOf r) b) =
-    ez ∙ ap (λ (l : List ℕ). eqRow l wanted) (writes ∙ ap (λ (l : List ℕ). bufferBy r l b) before) ∙ ap (eqRow (bufferBy r (beforeOf r h) b)) w in (
+    ez ∙ ap (λ (l : List ℕ). eqRow l wanted) filled ∙ ap (eqRow (bufferBy r (beforeOf r h) b)) w in (
       ap (λ (t : Bool). t && y && z) e ∙ ap (λ (t : Bool). sameReply r (replyOf (resultOf r (beforeOf r h) .reply)) && t && z) f
           ∙ ap (λ (t : Bool). sameReply r (replyOf (resultOf r (beforeOf r h) .reply)) && eqRow (heldBy r (beforeOf r h)) (afterOf r h) && t) g,
-      after,
+      (after, filled),
     )
 
 -- the tests behind those of the length
@@ -141,19 +142,22 @@ tests r k n m h i ek en em = rw (ek, en, em, le-leb 16 (length r) h, le-leb (len
 
 -- ---- the verdict
 module _ (r : Row) (h b : List ℕ) (w : Bool) (e : w ≡ fit r) where
-  pub damaged : w ≡ false → (Damaged ≡ verdictOf r h b) × (h ≡ heldAfter r h)
+  pub damaged : w ≡ false → (Damaged ≡ verdictOf r h b) × ((h ≡ heldAfter r h) × (b ≡ bufferAfter r h b))
   damaged f =
-      let n = sym e ∙ f in
-      (sym (cond-false (fit r) (cond (agrees r h b) Same Other) Damaged n), sym (cond-false (fit r) (afterOf r h) h n))
+      let n = sym e ∙ f in (
+        sym (cond-false (fit r) (cond (agrees r h b) Same Other) Damaged n),
+        (sym (cond-false (fit r) (afterOf r h) h n), sym (cond-false (fit r) (bufferBy r (beforeOf r h) b) b n)),
+      )
 
-  module _ (a : Bool) (h′ : List ℕ) (s : a ≡ agrees r h b) (k : h′ ≡ afterOf r h) (t : w ≡ true) where
+  module _ (a : Bool) (h′ b′ : List ℕ) (s : a ≡ agrees r h b) (k : h′ ≡ afterOf r h) (l : b′ ≡ bufferBy r (beforeOf r h) b) (t : w ≡ true) where
     whole : fit r ≡ true
     whole = sym e ∙ t
 
-    pub same : a ≡ true → (Same ≡ verdictOf r h b) × (h′ ≡ heldAfter r h)
-    same f =
-        (sym (cond-true (fit r) (cond (agrees r h b) Same Other) Damaged whole ∙ cond-true (agrees r h b) Same Other (sym s ∙ f)), k ∙ sym (cond-true (fit r) (afterOf r h) h whole))
+    left : (h′ ≡ heldAfter r h) × (b′ ≡ bufferAfter r h b)
+    left = (k ∙ sym (cond-true (fit r) (afterOf r h) h whole), l ∙ sym (cond-true (fit r) (bufferBy r (beforeOf r h) b) b whole))
 
-    pub other : a ≡ false → (Other ≡ verdictOf r h b) × (h′ ≡ heldAfter r h)
-    other f =
-        (sym (cond-true (fit r) (cond (agrees r h b) Same Other) Damaged whole ∙ cond-false (agrees r h b) Same Other (sym s ∙ f)), k ∙ sym (cond-true (fit r) (afterOf r h) h whole))
+    pub same : a ≡ true → (Same ≡ verdictOf r h b) × ((h′ ≡ heldAfter r h) × (b′ ≡ bufferAfter r h b))
+    same f = (sym (cond-true (fit r) (cond (agrees r h b) Same Other) Damaged whole ∙ cond-true (agrees r h b) Same Other (sym s ∙ f)), left)
+
+    pub other : a ≡ false → (Other ≡ verdictOf r h b) × ((h′ ≡ heldAfter r h) × (b′ ≡ bufferAfter r h b))
+    other f = (sym (cond-true (fit r) (cond (agrees r h b) Same Other) Damaged whole ∙ cond-false (agrees r h b) Same Other (sym s ∙ f)), left)

@@ -117,3 +117,7 @@ verdictOf r held b = cond (fit r) (cond (agrees r held b) Same Other) Damaged
 -- the held words that the next record begins with
 abbrev pub heldAfter : Row → List ℕ → List ℕ
 heldAfter r held = cond (fit r) (afterOf r held) held
+
+-- the buffer after the call that was made, whether it agrees or not
+abbrev pub bufferAfter : Row → List ℕ → List ℕ → List ℕ
+bufferAfter r held b = cond (fit r) (bufferBy r (beforeOf r held) b) b

@@ -5,7 +5,7 @@ ghost use mathlib.Core.Path.{_≡_};
 ghost use Prim.Native.Nat.{_≤_};
 ghost use lib.ListN.{length, getD, set};
 ghost use Rattle.call_reply.specs.Answer.{replyOf};
-ghost use Rattle.recorded.specs.Record.{checkOf, fit, Fit, setAll, setsOf, lentOf, changesOf, rowsOf, restarted, beforeOf, afterOf, resultOf, heldBy, bufferBy, sameReply, agrees as Record·agrees, verdictOf, heldAfter};
+ghost use Rattle.recorded.specs.Record.{checkOf, fit, Fit, setAll, setsOf, lentOf, changesOf, rowsOf, restarted, beforeOf, afterOf, resultOf, heldBy, bufferBy, sameReply, agrees as Record·agrees, verdictOf, heldAfter, bufferAfter};
 
 // What stands before a run of words, so that damage to it is seen.
 pub fn check(words: &[u32]) -> u32
@@ -172,6 +172,7 @@ fn agrees(r: &[u32], held: &mut [u32], buffer: &mut [u32]) -> bool
     requires { ⌜ Fit (now r) × (length (now held) ≡ 9508) × (length (now buffer) ≡ 13056) ⌝ }
     ensures { λ b. ⌜ b ≡ Record·agrees (now (r .entry)) (now (held .entry)) (now (buffer .entry)) ⌝ }
     ensures { λ _. ⌜ now (held .exit) ≡ afterOf (now (r .entry)) (now (held .entry)) ⌝ }
+    ensures { λ _. ⌜ now (buffer .exit) ≡ bufferBy (now (r .entry)) (beforeOf (now (r .entry)) (now (held .entry))) (now (buffer .entry)) ⌝ }
 {
     begin(r, held);
     let mut left = [0u32; 9508];
@@ -192,10 +193,12 @@ pub enum Verdict {
     Same,
 }
 
-// What is to be said of a record, on the words that the last one left and a buffer that is filled with any words.
+// What is to be said of a record, on the words that the last one left and a buffer that is filled with any words. The buffer is
+// afterwards as the call left it; a record that isn't whole changes nothing.
 pub fn judge(r: &[u32], held: &mut [u32; 9508], buffer: &mut [u32; 13056]) -> Verdict
     ensures { λ v. ⌜ v ≡ verdictOf (now (r .entry)) (now (held .entry)) (now (buffer .entry)) ⌝ }
     ensures { λ _. ⌜ now (held .exit) ≡ heldAfter (now (r .entry)) (now (held .entry)) ⌝ }
+    ensures { λ _. ⌜ now (buffer .exit) ≡ bufferAfter (now (r .entry)) (now (held .entry)) (now (buffer .entry)) ⌝ }
 {
     if whole(r) {
         if agrees(r, held, buffer) {

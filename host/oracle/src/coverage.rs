@@ -11,7 +11,8 @@ use crate::script::written;
 use crate::words::{self, EVENT_WORDS};
 use std::collections::{BTreeMap, BTreeSet};
 
-/// The answers that each call must be seen to give, by its code.
+/// The answers that each call gives, by its code: each must be seen, and no
+/// other. Of the metrics errors that `add_route4` carries, the last.
 const ANSWERS: [&[u32]; 15] = [
     &[0, 200, 201, 203],
     &[0, 200, 201],
@@ -66,16 +67,13 @@ pub fn run(count: usize, seed: u64) -> bool {
         println!("{name:13} {}", text.join(", "));
     }
     println!("most event rows in a call: {:?}", &most_events[..7]);
-    let mut missed = Vec::new();
-    for (answers, code) in ANSWERS.iter().zip(1..) {
-        let unseen = answers.iter().filter(|&&n| !seen.contains_key(&(code, n)));
-        missed.extend(unseen.map(|n| format!("{} {n}", NAMES[code as usize - 1])));
-    }
+    let mut missed = unseen(&seen);
     let unseen = FLAGS.iter().filter(|f| !flags.contains(f));
     missed.extend(unseen.map(|f| format!("flags {f:#x}")));
     if asked.len() < 16 {
         missed.push(format!("{} sets of request flags", 16 - asked.len()));
     }
+    let others = others(&seen);
     let pairs: usize = ANSWERS.iter().map(|a| a.len()).sum();
     println!(
         "generator: {count} cases; {} of {} answers and flags seen; {unfit} of {} damaged \
@@ -87,7 +85,31 @@ pub fn run(count: usize, seed: u64) -> bool {
     if !missed.is_empty() {
         println!("not seen: {}", missed.join("; "));
     }
-    missed.is_empty() && unfit == expected_unfit()
+    if !others.is_empty() {
+        println!("seen, and no answer of the call: {}", others.join("; "));
+    }
+    missed.is_empty() && others.is_empty() && unfit == expected_unfit()
+}
+
+fn answer_text(code: u32, number: u32) -> String {
+    format!("{} {number}", NAMES[code as usize - 1])
+}
+
+/// The answers that are not among those seen.
+pub fn unseen(seen: &BTreeMap<(u32, u32), usize>) -> Vec<String> {
+    let all = (1..).zip(ANSWERS);
+    let pairs = all.flat_map(|(code, answers)| answers.iter().map(move |&n| (code, n)));
+    let missing = pairs.filter(|pair| !seen.contains_key(pair));
+    missing.map(|(code, n)| answer_text(code, n)).collect()
+}
+
+/// Those seen that no call of the kind gives.
+fn others(seen: &BTreeMap<(u32, u32), usize>) -> Vec<String> {
+    let known = |&&(code, n): &&(u32, u32)| {
+        ANSWERS[code as usize - 1].contains(&n) || code == 6 && (1..=133).contains(&n)
+    };
+    let strange = seen.keys().filter(|pair| !known(pair));
+    strange.map(|&(code, n)| answer_text(code, n)).collect()
 }
 
 /// The model's reply, with a buffer cut to whole words as a slice of bytes

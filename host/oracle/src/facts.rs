@@ -3,9 +3,11 @@
 use crate::call::{Call, Reply};
 use crate::checks::{Checks, lines};
 use crate::fit::CLOCK_LIMIT;
+use crate::generate::{calls, states};
+use crate::rng::Rng;
 use crate::script::{NewAddress, Route, Script, address, any, ip, route, started};
 use crate::words::{self, encode};
-use reference::{Lists, Request, RouteRow};
+use reference::{Answer, Arguments, Lists, Native, Request, RouteRow};
 
 pub fn check(checks: &mut Checks) {
     refusal_order(checks);
@@ -17,6 +19,8 @@ pub fn check(checks: &mut Checks) {
     space(checks);
     most_events(checks);
     unfit(checks);
+    ipv6_events(checks);
+    by_the_calls(checks);
 }
 
 fn refusal_order(checks: &mut Checks) {
@@ -503,4 +507,52 @@ fn unfit(checks: &mut Checks) {
     let now = CLOCK_LIMIT + 1;
     let call = Call::Expire { now };
     refused("P6 a clock within 20 ms of its end", s, call, 202);
+}
+
+/// The Rust's own lists go from call to call, with what IPv6 has in them.
+fn ipv6_events(checks: &mut Checks) {
+    let mut lo = Native::of(&[], &[], &[]);
+    let mut s = Script::default();
+    let mut told = |name: &str, call: Call, request: Request, rows: u32, struck_out: usize| {
+        let all = lo.call(&Arguments::of(&request));
+        let found = (s.call(call).reply, all.struck_out());
+        checks.same(name, found, (Reply::value(rows), struck_out));
+    };
+    let (call, request) = (Call::Up { now: 0 }, Request::Up { now: 0 });
+    told("P8 up", call.clone(), request, 4, 2);
+    told("P8 up again", call, request, 0, 0);
+    told("P8 down", Call::Down, Request::Down, 0, 2);
+}
+
+/// What `naskrefim` lacks, made of what it has, on states of any kind.
+fn by_the_calls(checks: &mut Checks) {
+    let mut rng = Rng::new(1);
+    let (mut local, mut bindable) = ([0; 2], [0; 2]);
+    for _ in 0..2_000 {
+        let sizes = states::Sizes::small(&mut rng);
+        let lists = states::direct(&mut rng, sizes);
+        let lo = Native::of(&lists.addresses, &lists.routes, &lists.tables);
+        let ip = calls::destination(&mut rng, &lists);
+        let answer = |request| reference::run(&lists, &request).answer;
+        let own = lists.addresses.iter().any(|a| a[0] == ip)
+            || answer(Request::Local4 { ip }) == Answer::Yes(true);
+        let met = match answer(Request::Lookup4 { ip }) {
+            Answer::Row(row) => row[0] != 253 && matches!(row[5], 2 | 3),
+            _ => false,
+        };
+        let free = met || !lists.tables.contains(&255);
+        local[usize::from(own)] += usize::from(own == lo.is_local4(ip));
+        bindable[usize::from(free)] += usize::from(free == lo.bindable4(ip));
+    }
+    let both = |[no, yes]: [usize; 2]| (no + yes, no > 100, yes > 100);
+    checks.same(
+        "P12 is_local4 by the calls",
+        both(local),
+        (2_000, true, true),
+    );
+    checks.same(
+        "P12 bindable4 by the calls",
+        both(bindable),
+        (2_000, true, true),
+    );
 }

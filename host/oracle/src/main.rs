@@ -17,7 +17,8 @@ const USAGE: &str = "usage: oracle COMMAND
   selftest [SEED]        planted faults, which the comparison must find
   vectors FOLDER [SEED]  writes the fixed list of answers, and damaged ones
   replay FILE            replays such a list against the model and against
-                         planted faults, which it must find
+                         planted faults, which it must find; each answer
+                         of each call must be in it
   cases N SEED [--large PERCENT]
                          prints N random cases as JSON lines
   all                    all of examples, linux, rfc, facts, document,
@@ -119,8 +120,15 @@ fn replayed(data: &[u32]) -> Result<bool, String> {
             found += 1;
         }
     }
-    println!("replay: {records} records alike; {found} planted faults found, {missed} not");
-    Ok(missed == 0)
+    let missing = coverage::unseen(&vectors::answers(data));
+    for answer in &missing {
+        println!("MISSING {answer}");
+    }
+    println!(
+        "replay: {records} records alike; {found} planted faults found, {missed} not; {} answers missing",
+        missing.len()
+    );
+    Ok(missed == 0 && missing.is_empty())
 }
 
 type Part = dyn Fn() -> Result<bool, String>;
@@ -137,7 +145,7 @@ fn all() -> Result<bool, String> {
         ("generator", &|| Ok(coverage::run(CASES, SEED))),
         ("pairs", &|| Ok(pairs::run(PAIRS, SEED))),
         ("selftest", &|| Ok(faults::selftest(SEED))),
-        ("replay", &|| replayed(&vectors::vectors(vectors::SEED).0)),
+        ("replay", &|| replayed(&vectors::vectors(vectors::SEED))),
     ];
     let mut failed = Vec::new();
     for (name, part) in parts {

@@ -134,6 +134,15 @@ impl Native {
         }
     }
 
+    /// What the Rust has beside the reference's calls: whether an address is
+    /// the loopback's, and whether a socket may bind to it.
+    pub fn is_local4(&self, ip: u32) -> bool {
+        self.0.is_local4(ip.into())
+    }
+    pub fn bindable4(&self, ip: u32) -> bool {
+        self.0.bindable4(ip.into())
+    }
+
     pub fn lengths(&self) -> [usize; 3] {
         [self.0.v4.len(), self.0.routes4.len(), self.0.tables4.len()]
     }
@@ -164,6 +173,14 @@ impl Told {
                 preferred: *preferred,
                 valid: *valid,
             },
+        }
+    }
+
+    /// How many of the events told are IPv6's, which no row stands for.
+    pub fn struck_out(&self) -> usize {
+        match &self.0 {
+            Given::Events(Ok(told)) => told.iter().filter(|e| event_row(e).is_none()).count(),
+            _ => 0,
         }
     }
 

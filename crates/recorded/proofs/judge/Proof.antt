@@ -23,7 +23,7 @@ returns c =
     let i = g .before .before .before in
     let k = i .before in
     let a = k .before .before .args in
-    same (now (a .r)) (now (a .held)) (now (a .buffer)) (k .whole .result) (k .whole .ensures) (g .agrees .result) _ (g .agrees .ensures .0) (g .agrees .ensures .1) (i .if1 .taken) (c .if2 .taken)
+    same (now (a .r)) (now (a .held)) (now (a .buffer)) (k .whole .result) (k .whole .ensures) (g .agrees .result) _ _ (g .agrees .ensures .0) (g .agrees .ensures .1 .0) (g .agrees .ensures .1 .1) (i .if1 .taken) (c .if2 .taken)
 
 returns-2 : tie.Need-returns-2
 returns-2 c =
@@ -31,7 +31,7 @@ returns-2 c =
     let i = g .before .before .before in
     let k = i .before in
     let a = k .before .before .args in
-    other (now (a .r)) (now (a .held)) (now (a .buffer)) (k .whole .result) (k .whole .ensures) (g .agrees .result) _ (g .agrees .ensures .0) (g .agrees .ensures .1) (i .if1 .taken) (c .if2 .left)
+    other (now (a .r)) (now (a .held)) (now (a .buffer)) (k .whole .result) (k .whole .ensures) (g .agrees .result) _ _ (g .agrees .ensures .0) (g .agrees .ensures .1 .0) (g .agrees .ensures .1 .1) (i .if1 .taken) (c .if2 .left)
 
 returns-3 : tie.Need-returns-3
 returns-3 c =

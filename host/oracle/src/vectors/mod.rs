@@ -4,11 +4,12 @@ mod damaged;
 mod replay;
 mod traps;
 
-pub use replay::{replay, replay_on};
+pub use replay::{answers, replay, replay_on};
 
 use crate::call::Call;
 use crate::campaign;
 use crate::compare::{Case, filled};
+use crate::coverage;
 use crate::faults;
 use crate::generate::calls::{self, Host};
 use crate::generate::cases::{Cases, Weights};
@@ -47,17 +48,26 @@ struct Writer {
     words: Vec<u32>,
     records: u32,
     held: Vec<u32>,
-    counts: BTreeMap<u32, usize>,
 }
 
-/// Writes the list and the damaged ones into `folder`.
+/// Writes the list and the damaged ones into `folder`; refused if the list
+/// lacks an answer.
 pub fn write(folder: &str, seed: u64) -> Result<(), String> {
-    let (data, counts) = vectors(seed);
+    let data = vectors(seed);
+    let seen = answers(&data);
+    let missing = coverage::unseen(&seen);
+    if !missing.is_empty() {
+        return Err(format!("not in the list: {}", missing.join("; ")));
+    }
     let mut files = damaged::lists(&data);
     files.push(("vectors", bytes(&data)));
     for (name, content) in &files {
         let path = Path::new(folder).join(name);
         fs::write(&path, content).map_err(|e| format!("{}: {e}", path.display()))?;
+    }
+    let mut counts: BTreeMap<u32, usize> = BTreeMap::new();
+    for ((_, number), times) in seen {
+        *counts.entry(number).or_default() += times;
     }
     let text: Vec<String> = counts.iter().map(|(n, k)| format!("{n}: {k}")).collect();
     println!(
@@ -70,13 +80,12 @@ pub fn write(folder: &str, seed: u64) -> Result<(), String> {
     Ok(())
 }
 
-/// The words of the list, and how often each number is answered.
-pub fn vectors(seed: u64) -> (Vec<u32>, BTreeMap<u32, usize>) {
+/// The words of the list.
+pub fn vectors(seed: u64) -> Vec<u32> {
     let mut w = Writer {
         words: vec![MAGIC, seed as u32, (seed >> 32) as u32, 0, 0],
         records: 0,
         held: vec![0; HELD_WORDS],
-        counts: BTreeMap::new(),
     };
     let mut rng = Rng::new(seed);
     w.by_hand();
@@ -87,7 +96,7 @@ pub fn vectors(seed: u64) -> (Vec<u32>, BTreeMap<u32, usize>) {
     w.limits(LIMITS, &mut rng);
     w.close();
     w.faults(seed);
-    (w.words, w.counts)
+    w.words
 }
 
 /// What stands before a run of words so that damage to it is seen: a change
@@ -270,7 +279,6 @@ impl Writer {
         self.held = wanted;
         self.held[..state.len()].copy_from_slice(&state);
         self.records += 1;
-        *self.counts.entry(reply.number).or_default() += 1;
         true
     }
 }

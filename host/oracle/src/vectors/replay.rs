@@ -4,6 +4,7 @@ use crate::call::Call;
 use crate::compare::filled;
 use crate::faults::Run;
 use crate::model::model;
+use std::collections::BTreeMap;
 
 /// Replays a list against the model, as another program would replay it
 /// against a port. Gives how many records there are.
@@ -31,6 +32,17 @@ pub fn replay_on(data: &[u32], run: Run) -> Result<usize, String> {
     } else {
         Err("words after the last record".to_string())
     }
+}
+
+/// How often each call (by its code) gives each number in a list.
+pub fn answers(data: &[u32]) -> BTreeMap<(u32, u32), usize> {
+    let mut seen = BTreeMap::new();
+    let mut rest = data.get(HEAD_WORDS..).unwrap_or(&[]);
+    while let Some((record, after)) = whole(rest) {
+        *seen.entry((record[2], record[6])).or_default() += 1;
+        rest = after;
+    }
+    seen
 }
 
 /// The first record, and what is behind it.

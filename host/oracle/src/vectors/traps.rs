@@ -25,7 +25,7 @@ pub fn all() -> Vec<Sequence> {
 }
 
 /// Document 01's first example, then each kind that rejects, in both sets of
-/// tables.
+/// tables: met by a lookup, by a flow and by a gateway's lookup.
 fn first() -> Vec<Call> {
     let mut calls = vec![Call::Up { now: 0 }, Call::Up { now: 1 }, Call::Dump4];
     for (kind, dst) in [(6, "10.6.0.0/16"), (7, "10.7.0.0/16"), (8, "10.8.0.0/16")] {
@@ -34,7 +34,16 @@ fn first() -> Vec<Call> {
             ask.table = table;
             ask.dst += 254 - table;
             ask.len = 32;
-            calls.extend([add(ask), Call::Lookup4 { ip: ask.dst }]);
+            let (ip, tos, oif) = (ask.dst, 0, 1);
+            let mut by = script::route("10.200.0.0/24").up();
+            by.scope = 0;
+            by.gateway = Some(ip);
+            calls.extend([
+                add(ask),
+                Call::Lookup4 { ip },
+                Call::Lookup4Flow { ip, tos, oif },
+                add(by),
+            ]);
         }
     }
     let ip = script::ip("10.9.0.1");
