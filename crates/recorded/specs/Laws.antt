@@ -13,12 +13,12 @@ use borrow.Author.Tests.{leb-true, le-leb}
 use Rattle.lists.specs.Lists.{Row, flat, put, zeros, eqRow}
 use Rattle.lists.specs.Bools.{and-left, and-right, cond-case, cond-true, cond-false}
 use Rattle.lists.specs.Rows.{length-put, length-zeros}
-use Rattle.definition.specs.Step.{Result}
+use Rattle.definition.specs.Step.{Result, eventRoom}
 use Rattle.call_reply.specs.declared.Reply.{Reply}
 use Rattle.call_reply.specs.Answer.{replyOf}
 use Rattle.call_dispatch.specs.Numbered.{callBy, Did}
 use Rattle.recorded.specs.declared.Verdict.the-variants.{Damaged, Other, Same}
-use Rattle.recorded.specs.Record.{checkFrom, fit, Fit, setAll, setsOf, restarted, beforeOf, lentOf, changesOf, rowsOf, resultOf, heldBy, bufferBy, part, checkOf, afterOf, sameReply, agrees, verdictOf, heldAfter, bufferAfter}
+use Rattle.recorded.specs.Record.{heldSize, checkFrom, fit, Fit, setAll, setsOf, restarted, beforeOf, lentOf, changesOf, rowsOf, resultOf, heldBy, bufferBy, part, checkOf, afterOf, sameReply, agrees, verdictOf, heldAfter, bufferAfter}
 
 -- the check of the words so far and one more
 pub check-next : (l : List ℕ) (i sum : ℕ) → i < length l → checkFrom sum (drop i l) ≡ checkFrom ((sum * 16777619 + getD l i 0) % 4294967296) (drop (i + 1) l)
@@ -70,15 +70,15 @@ unfolding fit
 fits r h =
     let first = leb 16 (length r) in
     let l =
-    leb (length r) 4096 ∷ eqb (getD r 0 0) (checkOf (part 1 (length r) r)) ∷ eqb (getD r 1 0) (length r) ∷ leb 1 (getD r 2 0) ∷ leb (getD r 2 0) 15 ∷ leb (getD r 3 0) 1 ∷ leb (getD r 4 0) 9508
-    ∷ leb (getD r 5 0) 13056 ∷ leb 16 (getD r 10 0) ∷ leb (getD r 10 0) (getD r 11 0) ∷ leb (getD r 11 0) (getD r 12 0) ∷ leb (getD r 12 0) (length r) ∷ []
+    leb (length r) 4096 ∷ eqb (getD r 0 0) (checkOf (part 1 (length r) r)) ∷ eqb (getD r 1 0) (length r) ∷ leb 1 (getD r 2 0) ∷ leb (getD r 2 0) 15 ∷ leb (getD r 3 0) 1 ∷ leb (getD r 4 0) heldSize
+    ∷ leb (getD r 5 0) eventRoom ∷ leb 16 (getD r 10 0) ∷ leb (getD r 10 0) (getD r 11 0) ∷ leb (getD r 11 0) (getD r 12 0) ∷ leb (getD r 12 0) (length r) ∷ []
     in
     let at = ands-at first l h in
     record {
       long = leb-true 16 (length r) (ands-first first l h);
       few = leb-true (length r) 4096 (at 0);
-      state = leb-true (getD r 4 0) 9508 (at 6);
-      buffer = leb-true (getD r 5 0) 13056 (at 7);
+      state = leb-true (getD r 4 0) heldSize (at 6);
+      buffer = leb-true (getD r 5 0) eventRoom (at 7);
       sets = leb-true 16 (getD r 10 0) (at 8);
       lent = leb-true (getD r 10 0) (getD r 11 0) (at 9);
       changes = leb-true (getD r 11 0) (getD r 12 0) (at 10);
@@ -135,7 +135,7 @@ agreed r h b h₁ lent left changes h₂ rows room wanted b′ reply x y z begin
 
 -- the tests behind those of the length
 pub tests : (r : Row) (k n m : ℕ) → 16 ≤ length r → length r ≤ 4096 → k ≡ checkOf (part 1 (length r) r) → n ≡ getD r 1 0 → m ≡ getD r 12 0
-    → eqb (getD r 0 0) k && eqb n (length r) && leb 1 (getD r 2 0) && leb (getD r 2 0) 15 && leb (getD r 3 0) 1 && leb (getD r 4 0) 9508 && leb (getD r 5 0) 13056
+    → eqb (getD r 0 0) k && eqb n (length r) && leb 1 (getD r 2 0) && leb (getD r 2 0) 15 && leb (getD r 3 0) 1 && leb (getD r 4 0) heldSize && leb (getD r 5 0) eventRoom
     && leb 16 (getD r 10 0) && leb (getD r 10 0) (getD r 11 0) && leb (getD r 11 0) (getD r 12 0) && leb m (length r) ≡ fit r
 unfolding fit
 tests r k n m h i ek en em = rw (ek, en, em, le-leb 16 (length r) h, le-leb (length r) 4096 i)

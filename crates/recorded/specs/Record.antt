@@ -5,12 +5,17 @@ use mathlib.Core.List.{List, [], _∷_, _++_}
 use lib.Dec.{eqb, leb}
 use lib.ListN.{length, getD, set, take, drop}
 use Rattle.lists.specs.Lists.{Row, flat, put, zeros, eqRow}
-use Rattle.definition.specs.Step.{Result}
+use Rattle.definition.specs.Words.{stateSize}
+use Rattle.definition.specs.Step.{Result, eventRoom}
 use Rattle.call_reply.specs.declared.Reply.{Reply}
 use Rattle.call_reply.specs.Answer.{replyOf}
 use Rattle.call_dispatch.specs.Numbered.{callBy}
 use Rattle.recorded.specs.declared.Verdict.{Verdict}
 use Rattle.recorded.specs.declared.Verdict.the-variants.{Damaged, Other, Same}
+
+-- the words that the calls are made on: a state's and one more
+abbrev pub heldSize : ℕ
+heldSize = stateSize + 1
 
 -- what stands before a run of words, so that damage to it is seen
 unfoldable pub checkFrom : ℕ → List ℕ → ℕ
@@ -51,8 +56,8 @@ fit r =
     && leb 1 (getD r 2 0)
     && leb (getD r 2 0) 15
     && leb (getD r 3 0) 1
-    && leb (getD r 4 0) 9508
-    && leb (getD r 5 0) 13056
+    && leb (getD r 4 0) heldSize
+    && leb (getD r 5 0) eventRoom
     && leb 16 (getD r 10 0)
     && leb (getD r 10 0) (getD r 11 0)
     && leb (getD r 11 0) (getD r 12 0)
@@ -62,8 +67,8 @@ fit r =
 pub record Fit (r : Row) : Type 0 where
   pub long : 16 ≤ length r
   pub few : length r ≤ 4096
-  pub state : getD r 4 0 ≤ 9508
-  pub buffer : getD r 5 0 ≤ 13056
+  pub state : getD r 4 0 ≤ heldSize
+  pub buffer : getD r 5 0 ≤ eventRoom
   pub sets : 16 ≤ getD r 10 0
   pub lent : getD r 10 0 ≤ getD r 11 0
   pub changes : getD r 11 0 ≤ getD r 12 0

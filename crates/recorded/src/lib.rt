@@ -1,11 +1,25 @@
 // A record of the list of answers (host/README.md): a call with what the unchanged Rust answered. Here the call is made, and its
 // answer and every word that it was lent are compared with the record.
+pub mod record;
+
 use call_reply::Reply;
+use layout::EVENT_BUFFER;
+use layout::STATE_WORDS;
 ghost use mathlib.Core.Path.{_≡_};
 ghost use Prim.Native.Nat.{_≤_};
 ghost use lib.ListN.{length, getD, set};
+ghost use Rattle.definition.specs.Step.{eventRoom};
 ghost use Rattle.call_reply.specs.Answer.{replyOf};
-ghost use Rattle.recorded.specs.Record.{checkOf, fit, Fit, setAll, setsOf, lentOf, changesOf, rowsOf, restarted, beforeOf, afterOf, resultOf, heldBy, bufferBy, sameReply, agrees as Record·agrees, verdictOf, heldAfter, bufferAfter};
+ghost use Rattle.recorded.specs.Record.{heldSize, checkOf, fit, Fit, setAll, setsOf, lentOf, changesOf, rowsOf, restarted, beforeOf, afterOf, resultOf, heldBy, bufferBy, sameReply, agrees as Record·agrees, verdictOf, heldAfter, bufferAfter};
+
+// The words that a list's calls are made on: a state and one word more, so that one too many can be lent.
+pub const HELD_WORDS: usize = STATE_WORDS + 1;
+
+const MOST_HELD: u32 = HELD_WORDS as u32;
+
+const MOST_LENT: u32 = EVENT_BUFFER as u32;
+
+const FIRST_SET: u32 = record::HEAD as u32;
 
 // What stands before a run of words, so that damage to it is seen.
 pub fn check(words: &[u32]) -> u32
@@ -14,39 +28,33 @@ pub fn check(words: &[u32]) -> u32
     let mut sum = 1u64;
     let mut i = 0usize;
     while i < words.len() {
-        sum = (sum * 16777619 + long(words[i])) % 4294967296;
+        sum = (sum * 16777619 + words::long(words[i])) % 4294967296;
         i += 1;
     }
     sum as u32
-}
-
-fn long(x: u32) -> u64
-    ensures { λ r. ⌜ r ≡ x ⌝ }
-{
-    x as u64
 }
 
 // The record's words are all there, and its parts lie in it.
 pub fn whole(r: &[u32]) -> bool
     ensures { λ b. ⌜ b ≡ fit (now (r .entry)) ⌝ }
 {
-    if r.len() < 16 {
+    if r.len() < record::HEAD {
         return false;
     }
     if 4096 < r.len() {
         return false;
     }
-    (r[0] == check(&r[1..]))
-        & (words::wide(r[1]) == r.len())
-        & (1 <= r[2])
-        & (r[2] <= 15)
-        & (r[3] <= 1)
-        & (r[4] <= 9508)
-        & (r[5] <= 13056)
-        & (16 <= r[10])
-        & (r[10] <= r[11])
-        & (r[11] <= r[12])
-        & (words::wide(r[12]) <= r.len())
+    (r[record::CHECK] == check(&r[1..]))
+        & (words::wide(r[record::LENGTH]) == r.len())
+        & (1 <= r[record::CALL])
+        & (r[record::CALL] <= 15)
+        & (r[record::RESTARTS] <= 1)
+        & (r[record::STATE] <= MOST_HELD)
+        & (r[record::BUFFER] <= MOST_LENT)
+        & (FIRST_SET <= r[record::SETS_END])
+        & (r[record::SETS_END] <= r[record::LENT_END])
+        & (r[record::LENT_END] <= r[record::CHANGES_END])
+        & (words::wide(r[record::CHANGES_END]) <= r.len())
 }
 
 // The number of the record's call, 0 where there is none.
@@ -56,7 +64,7 @@ pub fn code(r: &[u32]) -> u32
     if r.len() <= 2 {
         return 0;
     }
-    r[2]
+    r[record::CALL]
 }
 
 // A word put in its place. A place past the end is none.
@@ -86,7 +94,7 @@ fn sets(r: &[u32]) -> &[u32]
     requires { ⌜ Fit (now r) ⌝ }
     ensures { λ p. ⌜ now p ≡ setsOf (now (r .entry)) ⌝ }
 {
-    let e = words::wide(r[10]);
+    let e = words::wide(r[record::SETS_END]);
     &r[16..e]
 }
 
@@ -94,8 +102,8 @@ fn lent(r: &[u32]) -> &[u32]
     requires { ⌜ Fit (now r) ⌝ }
     ensures { λ p. ⌜ now p ≡ lentOf (now (r .entry)) ⌝ }
 {
-    let a = words::wide(r[10]);
-    let e = words::wide(r[11]);
+    let a = words::wide(r[record::SETS_END]);
+    let e = words::wide(r[record::LENT_END]);
     &r[a..e]
 }
 
@@ -103,8 +111,8 @@ fn changed(r: &[u32]) -> &[u32]
     requires { ⌜ Fit (now r) ⌝ }
     ensures { λ p. ⌜ now p ≡ changesOf (now (r .entry)) ⌝ }
 {
-    let a = words::wide(r[11]);
-    let e = words::wide(r[12]);
+    let a = words::wide(r[record::LENT_END]);
+    let e = words::wide(r[record::CHANGES_END]);
     &r[a..e]
 }
 
@@ -112,7 +120,7 @@ fn rows(r: &[u32]) -> &[u32]
     requires { ⌜ Fit (now r) ⌝ }
     ensures { λ p. ⌜ now p ≡ rowsOf (now (r .entry)) ⌝ }
 {
-    let a = words::wide(r[12]);
+    let a = words::wide(r[record::CHANGES_END]);
     &r[a..]
 }
 
@@ -121,7 +129,7 @@ fn restart(r: &[u32], held: &mut [u32])
     requires { ⌜ Fit (now r) ⌝ }
     ensures { λ _. ⌜ now (held .exit) ≡ restarted (now (r .entry)) (now (held .entry)) ⌝ }
 {
-    if r[3] != 1 {
+    if r[record::RESTARTS] != 1 {
         return;
     }
     let n = held.len();
@@ -139,20 +147,20 @@ fn begin(r: &[u32], held: &mut [u32])
 
 // The record's call on the first of the held words and the first of the buffer.
 fn answer(r: &[u32], held: &mut [u32], buffer: &mut [u32]) -> Reply
-    requires { ⌜ Fit (now r) × (length (now held) ≡ 9508) × (length (now buffer) ≡ 13056) ⌝ }
+    requires { ⌜ Fit (now r) × (length (now held) ≡ heldSize) × (length (now buffer) ≡ eventRoom) ⌝ }
     ensures { λ x. ⌜ x ≡ replyOf (resultOf (now (r .entry)) (now (held .entry)) .reply) ⌝ }
     ensures { λ _. ⌜ now (held .exit) ≡ heldBy (now (r .entry)) (now (held .entry)) ⌝ }
     ensures { λ _. ⌜ now (buffer .exit) ≡ bufferBy (now (r .entry)) (now (held .entry)) (now (buffer .entry)) ⌝ }
 {
-    let n = words::wide(r[4]);
-    let m = words::wide(r[5]);
+    let n = words::wide(r[record::STATE]);
+    let m = words::wide(r[record::BUFFER]);
     call_dispatch::call(
-        r[2],
+        r[record::CALL],
         &mut held[..n],
         lent(r),
-        r[13],
-        r[14],
-        r[15],
+        r[record::FIRST],
+        r[record::MIDDLE],
+        r[record::LAST],
         &mut buffer[..m],
     )
 }
@@ -161,23 +169,23 @@ fn same_reply(r: &[u32], reply: Reply) -> bool
     requires { ⌜ 16 ≤ length (now r) ⌝ }
     ensures { λ b. ⌜ b ≡ sameReply (now (r .entry)) reply ⌝ }
 {
-    (reply.number == r[6])
-        & (reply.present == r[7])
-        & (reply.value == r[8])
-        & (reply.second == r[9])
+    (reply.number == r[record::NUMBER])
+        & (reply.present == r[record::PRESENT])
+        & (reply.value == r[record::VALUE])
+        & (reply.second == r[record::SECOND])
 }
 
 // Whether the call answers, changes and writes what the record says, and nothing else. The held words are afterwards as recorded.
 fn agrees(r: &[u32], held: &mut [u32], buffer: &mut [u32]) -> bool
-    requires { ⌜ Fit (now r) × (length (now held) ≡ 9508) × (length (now buffer) ≡ 13056) ⌝ }
+    requires { ⌜ Fit (now r) × (length (now held) ≡ heldSize) × (length (now buffer) ≡ eventRoom) ⌝ }
     ensures { λ b. ⌜ b ≡ Record·agrees (now (r .entry)) (now (held .entry)) (now (buffer .entry)) ⌝ }
     ensures { λ _. ⌜ now (held .exit) ≡ afterOf (now (r .entry)) (now (held .entry)) ⌝ }
     ensures { λ _. ⌜ now (buffer .exit) ≡ bufferBy (now (r .entry)) (beforeOf (now (r .entry)) (now (held .entry))) (now (buffer .entry)) ⌝ }
 {
     begin(r, held);
-    let mut left = [0u32; 9508];
+    let mut left = [0u32; HELD_WORDS];
     words::copy(&mut left, held);
-    let mut wanted = [0u32; 13056];
+    let mut wanted = [0u32; EVENT_BUFFER];
     words::copy(&mut wanted, buffer);
     words::store(&mut wanted, 0, rows(r));
     let reply = answer(r, &mut left, buffer);
@@ -195,7 +203,7 @@ pub enum Verdict {
 
 // What is to be said of a record, on the words that the last one left and a buffer that is filled with any words. The buffer is
 // afterwards as the call left it; a record that isn't whole changes nothing.
-pub fn judge(r: &[u32], held: &mut [u32; 9508], buffer: &mut [u32; 13056]) -> Verdict
+pub fn judge(r: &[u32], held: &mut [u32; HELD_WORDS], buffer: &mut [u32; EVENT_BUFFER]) -> Verdict
     ensures { λ v. ⌜ v ≡ verdictOf (now (r .entry)) (now (held .entry)) (now (buffer .entry)) ⌝ }
     ensures { λ _. ⌜ now (held .exit) ≡ heldAfter (now (r .entry)) (now (held .entry)) ⌝ }
     ensures { λ _. ⌜ now (buffer .exit) ≡ bufferAfter (now (r .entry)) (now (held .entry)) (now (buffer .entry)) ⌝ }

@@ -2,8 +2,14 @@
 // case, with both answers.
 use call_read::Chosen;
 use call_read::Sourced;
+use layout::ADDRESS_COUNT;
+use layout::ADDRESS_LIMIT;
+use layout::ADDRESS_WORDS;
+use layout::ADDRESSES_AT;
+use layout::STATE_WORDS;
 use row_address::V4;
 use rows_source::Selected;
+ghost use Rattle.definition.specs.Words.{stateSize};
 ghost use Prim.Native.Nat.{_+_, _≤_};
 
 fn say(text: &[u8]) {
@@ -89,36 +95,40 @@ struct List {
     n: u32,
 }
 
-fn records(list: List) -> [V4; 64] {
+fn records(list: List) -> [V4; ADDRESS_LIMIT] {
     let a = list.a;
     let b = list.b;
     let c = list.c;
-    let mut rows = [record(a); 64];
+    let mut rows = [record(a); ADDRESS_LIMIT];
     rows[1] = record(b);
     rows[2] = record(c);
     rows
 }
 
-fn put(s: &mut [u32; 9507], at: usize, row: &[u32; 20])
-    requires { ⌜ at + 20 ≤ 9507 ⌝ }
+const SECOND_AT: usize = ADDRESSES_AT + ADDRESS_WORDS;
+
+const THIRD_AT: usize = SECOND_AT + ADDRESS_WORDS;
+
+fn put(s: &mut [u32; STATE_WORDS], at: usize, row: &[u32; ADDRESS_WORDS])
+    requires { ⌜ at + 20 ≤ stateSize ⌝ }
 {
     words::store(s, at, row);
 }
 
-fn state(list: List) -> [u32; 9507] {
+fn state(list: List) -> [u32; STATE_WORDS] {
     let a = list.a;
     let b = list.b;
     let c = list.c;
-    let mut s = [0u32; 9507];
-    s[0] = list.n;
+    let mut s = [0u32; STATE_WORDS];
+    s[ADDRESS_COUNT] = list.n;
     if 0 < list.n {
-        put(&mut s, 3, &a);
+        put(&mut s, ADDRESSES_AT, &a);
     }
     if 1 < list.n {
-        put(&mut s, 23, &b);
+        put(&mut s, SECOND_AT, &b);
     }
     if 2 < list.n {
-        put(&mut s, 43, &c);
+        put(&mut s, THIRD_AT, &c);
     }
     s
 }

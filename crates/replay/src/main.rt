@@ -1,9 +1,13 @@
 // Replays lists of answers (host/README.md): each argument names a file, and where there is none, standard input is read. Printed are
 // the records that the calls don't answer as recorded, how many of each call they do, and how many in all.
+use layout::EVENT_BUFFER;
+use recorded::HELD_WORDS;
 use recorded::Verdict;
+use recorded::record;
 ghost use mathlib.Core.Path.{_≡_};
 ghost use Prim.Native.Nat.{ℕ, _+_, _*_, _%_, _^_, _≤_, _<_};
 ghost use lib.ListN.{length, getD, set};
+ghost use Rattle.definition.specs.Step.{eventRoom};
 ghost use Rattle.io.specs.Counts.{Counts};
 
 // Words of as many bytes; false where the input ends sooner.
@@ -35,7 +39,7 @@ fn next(fd: i32, r: &mut [u32]) -> usize
     if !read_words(fd, &mut r[..2]) {
         return 0;
     }
-    let n = words::wide(r[1]);
+    let n = words::wide(r[record::LENGTH]);
     if n < 2 {
         return 0;
     }
@@ -50,7 +54,7 @@ fn next(fd: i32, r: &mut [u32]) -> usize
 
 // Each word another, so that none is written unseen.
 fn fill(buffer: &mut [u32])
-    requires { ⌜ length (now buffer) ≤ 13056 ⌝ }
+    requires { ⌜ length (now buffer) ≤ eventRoom ⌝ }
     ensures { λ _. ⌜ ((k : ℕ) → k < length (now (buffer .entry)) → getD (now (buffer .exit)) k 0 ≡ 2779054080 + k) ⌝ }
 {
     let mut i = 0usize;
@@ -122,11 +126,11 @@ fn count(counts: &mut [u64; 16], code: u32)
 fn turn(
     i: u32,
     record: &[u32],
-    held: &mut [u32; 9508],
+    held: &mut [u32; HELD_WORDS],
     same: &mut [u64; 16],
     other: &mut [u64; 16],
 ) -> bool {
-    let mut buffer = [0u32; 13056];
+    let mut buffer = [0u32; EVENT_BUFFER];
     fill(&mut buffer);
     let verdict = recorded::judge(record, held, &mut buffer);
     let code = recorded::code(record);
@@ -152,7 +156,7 @@ fn turn(
 fn step(
     fd: i32,
     i: u32,
-    held: &mut [u32; 9508],
+    held: &mut [u32; HELD_WORDS],
     same: &mut [u64; 16],
     other: &mut [u64; 16],
 ) -> bool {
@@ -169,7 +173,7 @@ fn step(
 fn run(
     fd: i32,
     records: u32,
-    held: &mut [u32; 9508],
+    held: &mut [u32; HELD_WORDS],
     same: &mut [u64; 16],
     other: &mut [u64; 16],
 ) -> bool {
@@ -205,7 +209,7 @@ fn at_end(fd: i32) -> bool {
 
 // A list whose head is right.
 fn replay_records(fd: i32, records: u32) {
-    let mut held = [0u32; 9508];
+    let mut held = [0u32; HELD_WORDS];
     let mut same = [0u64; 16];
     let mut other = [0u64; 16];
     let all = run(fd, records, &mut held, &mut same, &mut other);

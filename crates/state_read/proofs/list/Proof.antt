@@ -1,4 +1,4 @@
--- `state_listed::list` meets its contract: the routes and tables in use are lent to the listing over rows.
+-- `state_read::list` meets its contract: the routes and tables in use are lent to the listing over rows.
 -- Assumes nothing.
 use Prim.Native.Nat.{_-_}
 use mathlib.Core.Path.{ap, _∙_}
