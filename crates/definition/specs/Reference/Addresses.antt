@@ -14,7 +14,7 @@ use Rattle.layout.specs.Address.{local, address, prefix, broadcastPresent, scop
 use Rattle.layout.specs.Route as Route
 use Rattle.layout.specs.Event.{newAddr4}
 use Rattle.layout.specs.Request.{validAsked, preferredAsked, replaceAsked, upAtAddV4}
-use Rattle.definition.specs.State.{State, Out, becomes, stays, also, through, withAddresses, withRoutes}
+use Rattle.definition.specs.State.{State, Out, becomes, silently, stays, also, through, withAddresses, withRoutes}
 use Rattle.definition.specs.Reference.Lookup.{localTable, localKind, broadcastKind}
 use Rattle.definition.specs.Reference.Insert.{kernelAdd4, kernelDel4}
 
@@ -257,4 +257,4 @@ up now st =
 -- the routes through the device go, but for those of host scope, without a word
 unfoldable pub down : State → Out
 down st =
-    stays (withRoutes (keep (λ r. not (eqb (Route.device r) 1 && not (eqb (Route.scope r) hostScope))) (st .routes)) st)
+    silently (withRoutes (keep (λ r. not (eqb (Route.device r) 1 && not (eqb (Route.scope r) hostScope))) (st .routes)) st)

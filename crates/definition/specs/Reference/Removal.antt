@@ -14,7 +14,7 @@ use Rattle.layout.specs.Route as Route
 use Rattle.layout.specs.Route.{table, dst, len, kind}
 use Rattle.layout.specs.Event.{newAddr4, delAddr4}
 use Rattle.layout.specs.Request.{localPresent, localGiven, addressPresent, addressGiven, prefixGiven, labelPresent, labelLengthGiven, labelGiven}
-use Rattle.definition.specs.State.{State, Out, becomes, stays, also, through, withAddresses, withRoutes}
+use Rattle.definition.specs.State.{State, Out, becomes, silently, stays, also, through, withAddresses, withRoutes}
 use Rattle.definition.specs.Reference.Lookup.{mainTable, localKind, broadcastKind, listed, local4}
 use Rattle.definition.specs.Reference.Insert.{kernelDel4}
 use Rattle.definition.specs.Reference.Addresses.{covers, sameSubnet, kernelRoute, localRoute, upRoutes, primaryOf, candidates, rewritten, Outcome, goes, refused}
@@ -68,7 +68,7 @@ deviceless st = withRoutes (keep (λ r. not (eqb (Route.device r) 1)) (st .route
 
 -- the last address takes every route through the device with it, without a word
 unfoldable pub disable : State → Out
-disable st = cond (eqb (length (st .addresses)) 0) (stays (deviceless st)) (stays st)
+disable st = cond (eqb (length (st .addresses)) 0) (silently (deviceless st)) (stays st)
 
 -- one address goes: the first row equal to it, told; then its routes that none wants; then what falls with it
 unfoldable pub removeOne : Row → State → Out
