@@ -8,8 +8,7 @@ use lib.ListN.{length}
 use Rattle.lists.specs.Lists.{Row, any, keep, first, until, onward, removeFirst, eqRow}
 use Rattle.life.specs.Life.{reached}
 use Rattle.layout.specs.Flags.{setBit}
-use Rattle.layout.specs.Address as Address
-use Rattle.layout.specs.Address.{local, prefix, flags, secondary, permanent, deprecated, deprecatedBit, labelLength, label, valid, preferred, created, changed}
+use Rattle.layout.specs.Address.{local, prefix, flags, setFlags, secondary, permanent, deprecated, deprecatedBit, labelLength, label, valid, preferred, changed}
 use Rattle.layout.specs.Route as Route
 use Rattle.layout.specs.Route.{table, dst, len, kind}
 use Rattle.layout.specs.Event.{newAddr4, delAddr4}
@@ -17,7 +16,7 @@ use Rattle.layout.specs.Request.{localPresent, localGiven, addressPresent, addr
 use Rattle.definition.specs.State.{State, Out, becomes, silently, stays, also, through, withAddresses, withRoutes}
 use Rattle.definition.specs.Reference.Lookup.{mainTable, localKind, broadcastKind, listed, local4}
 use Rattle.definition.specs.Reference.Insert.{kernelDel4}
-use Rattle.definition.specs.Reference.Addresses.{covers, sameSubnet, kernelRoute, localRoute, upRoutes, primaryOf, candidates, rewritten, Outcome, goes, refused}
+use Rattle.definition.specs.Reference.Addresses.{covers, sameSubnet, kernelRoute, localRoute, upRoutes, primaryOf, candidates, Outcome, goes, refused}
 
 -- ---- the routes that go with an address
 -- the same route, whatever its preferred source and priority
@@ -115,8 +114,7 @@ deprecates allowance now a =
     not (permanent a) && not (deprecated a) && reached allowance (preferred a) (changed a) now
 
 unfoldable pub deprecate : Row → Row
-deprecate a =
-    rewritten a (setBit deprecatedBit (flags a)) (Address.proto a) (Address.priority a) (valid a) (preferred a) (created a) (changed a)
+deprecate a = setFlags (setBit deprecatedBit (flags a)) a
 
 -- the address, marked if it fades
 abbrev pub marked : ℕ → ℕ → Row → Row
