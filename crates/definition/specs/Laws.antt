@@ -4,3 +4,4 @@ pub mod Expire
 pub mod Private
 pub mod Refusals
 pub mod Order
+pub mod Select
