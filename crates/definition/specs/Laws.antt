@@ -5,3 +5,4 @@ pub mod Private
 pub mod Refusals
 pub mod Order
 pub mod Listing
+pub mod Select

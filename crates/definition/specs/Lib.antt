@@ -4,6 +4,7 @@ pub mod Words
 pub mod Call
 pub mod Step
 pub mod Computing
+pub mod Examples
 pub mod Laws
 pub mod Preservation
 pub mod Noninterference

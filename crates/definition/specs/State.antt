@@ -35,7 +35,8 @@ most a b =
       tables = max (a .tables) (b .tables);
     }
 
--- What a step leaves: the state afterwards, the event rows that it told, and the greatest length that each list had at any moment of it
+-- What a step leaves: the state afterwards, the event rows that it told, and the greatest length that each list had after any of
+-- its changes. The start isn't counted: the lists of a call keep to their limits before its first change.
 pub record Out : Type 0 where
   pub state : State
   pub emitted : List Row
@@ -45,9 +46,13 @@ pub record Out : Type 0 where
 abbrev pub becomes : State → List Row → Out
 becomes st rows = record { state = st; emitted = rows; peak = sizes st }
 
--- nothing is done
+-- the state becomes st without a word
+abbrev pub silently : State → Out
+silently st = becomes st []
+
+-- nothing is done: st is the state as it was
 abbrev pub stays : State → Out
-stays st = becomes st []
+stays st = silently st
 
 -- one step and then another on the state that the first left
 unfoldable pub also : Out → (State → Out) → Out

@@ -94,7 +94,7 @@ checked k w = checks (eqb (length w) stateSize && k .buffers) (formed w && k .ro
 abbrev pub unfit : ℕ → Bool
 unfit n = leb 200 n
 
--- what an outcome replies, the state that it leaves, and the greatest length that each list had
+-- what an outcome replies, the state that it leaves, and the greatest length that each list had after a change
 abbrev pub answered : Outcome → Reply
 answered (goes o) = written (o .emitted)
 answered (refused n st) = refusal n
@@ -107,7 +107,7 @@ abbrev pub reaches : Outcome → Sizes
 reaches (goes o) = o .peak
 reaches (refused n st) = sizes st
 
--- every list kept to its limit at every moment
+-- every list kept to its limit after every change
 abbrev pub roomy : Outcome → Bool
 roomy o = within (reaches o)
 

@@ -2,9 +2,9 @@
 use Prim.Native.Nat.{ℕ, _+_, _*_, _^_}
 use mathlib.Core.Bool.{Bool, _&&_, _||_}
 use lib.Dec.{eqb, leb, ltb}
-use lib.ListN.{length, getD}
+use lib.ListN.{length, getD, set}
 use Rattle.lists.specs.Lists.{Row}
-use Rattle.life.specs.Life.{clock}
+use Rattle.life.specs.Life.{clock, lowWord, highWord}
 use Rattle.layout.specs.Flags.{hasBit}
 
 -- the words of a row
@@ -59,6 +59,28 @@ created a = clock (getD a 16 0) (getD a 17 0)
 
 abbrev pub changed : Row → ℕ
 changed a = clock (getD a 18 0) (getD a 19 0)
+
+-- the row with another value in one of its fields
+abbrev pub setFlags : ℕ → Row → Row
+setFlags n a = set a 6 n
+
+abbrev pub setProto : ℕ → Row → Row
+setProto n a = set a 7 n
+
+abbrev pub setPriority : ℕ → Row → Row
+setPriority n a = set a 13 n
+
+abbrev pub setValid : ℕ → Row → Row
+setValid n a = set a 14 n
+
+abbrev pub setPreferred : ℕ → Row → Row
+setPreferred n a = set a 15 n
+
+abbrev pub setCreated : ℕ → Row → Row
+setCreated n a = set (set a 16 (lowWord n)) 17 (highWord n)
+
+abbrev pub setChanged : ℕ → Row → Row
+setChanged n a = set (set a 18 (lowWord n)) 19 (highWord n)
 
 -- rtnetlink's IFA_F_SECONDARY, IFA_F_DEPRECATED, IFA_F_PERMANENT and IFA_F_NOPREFIXROUTE, as bits of the flags
 abbrev pub secondaryBit : ℕ

@@ -4,3 +4,4 @@ pub mod Route
 pub mod Event
 pub mod Request
 pub mod Bits
+pub mod Spelled

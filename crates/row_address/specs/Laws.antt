@@ -2,15 +2,15 @@
 -- Assumes nothing.
 use mathlib.Core.Path.{_≡_, refl, ap, _∙_}
 use mathlib.Core.Bool.{Bool, true, false, _||_, _&&_}
-use mathlib.Core.List.{[], _∷_}
-use Prim.Native.Nat.{ℕ, zero, suc, _≤_}
+use Prim.Native.Nat.{ℕ, zero, suc}
 use native.Mathlib.Omega.{arith}
 use lib.Dec.{eqb}
 use lib.ListN.{length}
 use borrow.Author.Tests.{ne-eqb, lt-leb}
 use Rattle.lists.specs.Lists.{Row}
-use Rattle.layout.specs.Address.{optional, created, secondary, permanent, fitAddress}
-use Rattle.definition.specs.Reference.Addresses.{covers, rewritten, setLife}
+use Rattle.layout.specs.Address.{optional, secondary, permanent, fitAddress}
+use Rattle.layout.specs.Spelled.{by-words}
+use Rattle.definition.specs.Reference.Addresses.{covers, setLife}
 use Rattle.definition.specs.Reference.Source.{left}
 use Rattle.definition.specs.Step.{leftCall}
 use Rattle.row_address.specs.declared.LeftReply.the-variants.{Refused, Left}
@@ -72,15 +72,10 @@ module _ (a : Row) (clock : ℕ) where
       let answer : Refused 201 ≡ leftReply a clock = rw e in
       (answer, ap replyOf answer ∙ left-says)
 
--- the six words before the flags stay, and the clock's two words make the clock again
-pub set-life-v4 : (valid preferred clock : ℕ) (a : Row) → 6 ≤ length a
+-- the clock's two words make the clock again
+pub set-life-v4 : (valid preferred clock : ℕ) (a : Row) → length a ≡ 20
     → v4Of (setLife valid preferred clock a) ≡ setLifeV4 (record { valid = seconds valid; preferred = seconds preferred }) clock (v4Of a)
-unfolding setLife rewritten
-set-life-v4 valid preferred clock (u ∷ v ∷ w ∷ x ∷ y ∷ z ∷ l) h =
-    rw (clock-words (created (u ∷ v ∷ w ∷ x ∷ y ∷ z ∷ l)), clock-words clock)
-set-life-v4 valid preferred clock [] h = absurd (omega arith)
-set-life-v4 valid preferred clock (u ∷ []) h = absurd (omega arith)
-set-life-v4 valid preferred clock (u ∷ v ∷ []) h = absurd (omega arith)
-set-life-v4 valid preferred clock (u ∷ v ∷ w ∷ []) h = absurd (omega arith)
-set-life-v4 valid preferred clock (u ∷ v ∷ w ∷ x ∷ []) h = absurd (omega arith)
-set-life-v4 valid preferred clock (u ∷ v ∷ w ∷ x ∷ y ∷ []) h = absurd (omega arith)
+unfolding setLife
+set-life-v4 valid preferred clock a h =
+    by-words (λ r. v4Of (setLife valid preferred clock r) ≡ setLifeV4 (record { valid = seconds valid; preferred = seconds preferred }) clock (v4Of r)) 20 a h
+    (rw (clock-words clock))

@@ -10,10 +10,10 @@ ghost use Prim.Native.Nat.{_≤_};
 ghost use lib.ListN.{length};
 ghost use Rattle.lists.specs.Lists.{put};
 ghost use Rattle.layout.specs.Flags.{clearBit, setBit};
-ghost use Rattle.layout.specs.Address.{secondaryBit, deprecatedBit};
-ghost use Rattle.definition.specs.Reference.Addresses.{rewritten, asked, asSecondary, changedTo};
+ghost use Rattle.layout.specs.Address.{setFlags, secondaryBit, deprecatedBit};
+ghost use Rattle.definition.specs.Reference.Addresses.{asked, asSecondary, changedTo};
 ghost use Rattle.definition.specs.Reference.Removal.{deprecate};
-ghost use Rattle.row_update.specs.Rows.{flagged, lifetimesOf, begun};
+ghost use Rattle.row_update.specs.Rows.{rewritten, lifetimesOf, begun};
 
 fn as_primary(flags: u32) -> u32
     ensures { λ r. ⌜ r ≡ clearBit secondaryBit flags ⌝ }
@@ -37,7 +37,7 @@ fn deprecated(flags: u32) -> u32
 fn rewritten(out: &mut [u32], a: &[u32], flags: u32, proto: u32, priority: u32, life: Life)
     requires { ⌜ 20 ≤ length (now out) ⌝ }
     requires { ⌜ 14 ≤ length (now a) ⌝ }
-    ensures { λ _. ⌜ now (out .exit) ≡ put 0 (rewritten (now (a .entry)) flags proto priority (life .valid .0) (life .preferred .0) (life .created .0) (life .changed .0)) (now (out .entry)) ⌝ }
+    ensures { λ _. ⌜ now (out .exit) ≡ put 0 (rewritten (now (a .entry)) flags proto priority life) (now (out .entry)) ⌝ }
 {
     let created = life.created;
     let changed = life.changed;
@@ -132,7 +132,7 @@ pub fn changed_to(q: &[u32], old: &[u32], clock: Nanoseconds, out: &mut [u32])
 fn flagged(a: &[u32], flags: u32, out: &mut [u32])
     requires { ⌜ length (now a) ≡ 20 ⌝ }
     requires { ⌜ 20 ≤ length (now out) ⌝ }
-    ensures { λ _. ⌜ now (out .exit) ≡ put 0 (flagged (now (a .entry)) flags) (now (out .entry)) ⌝ }
+    ensures { λ _. ⌜ now (out .exit) ≡ put 0 (setFlags flags (now (a .entry))) (now (out .entry)) ⌝ }
 {
     rewritten(
         out,

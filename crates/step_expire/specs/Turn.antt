@@ -16,12 +16,11 @@ use Rattle.lists.specs.Bools.{or-false, or-left, and-iff, test-case, cond-case,
 use Rattle.lists.specs.All.{any-none, eqRow-refl}
 use Rattle.lists.specs.At.{all-at}
 use Rattle.lists.specs.Count.{tick-one, tick-none, count, count-append, length-removeFirst, length-removeFirst-most}
-use Rattle.life.specs.Laws.{clock-words}
 use Rattle.layout.specs.Flags.{hasBit, setBit, clearBit}
-use Rattle.layout.specs.Address.{fitAddress, deprecated, changed, flags}
+use Rattle.layout.specs.Address.{fitAddress, deprecated, flags}
+use Rattle.layout.specs.Spelled.{spelled, by-words}
 use Rattle.layout.specs.Event.{newAddr4}
 use Rattle.definition.specs.State.{State, Out, becomes, stays, also, through, withAddresses}
-use Rattle.definition.specs.Reference.Addresses.{rewritten}
 use Rattle.definition.specs.Reference.Removal.{removeOne, removeV4, due, deprecates, deprecate, marked, deprecateDue, expire}
 use Rattle.definition.specs.Laws.Expire.{expire-last, expire-again}
 use Rattle.definition.specs.Preservation.Fit.{length-address}
@@ -52,20 +51,11 @@ other-bit f =
     ap (λ (n : ℕ). eqb n 1) same
 
 module _ (allowance now : ℕ) where
-  by-words : (a : Row) → 6 ≤ length a → due allowance now (deprecate a) ≡ due allowance now a
-  unfolding due deprecate rewritten
-  by-words (u ∷ v ∷ w ∷ x ∷ y ∷ z ∷ l) h =
-      rw (clock-words (changed (u ∷ v ∷ w ∷ x ∷ y ∷ z ∷ l)), other-bit (flags (u ∷ v ∷ w ∷ x ∷ y ∷ z ∷ l)))
-  by-words [] h = absurd (omega arith)
-  by-words (u ∷ []) h = absurd (omega arith)
-  by-words (u ∷ v ∷ []) h = absurd (omega arith)
-  by-words (u ∷ v ∷ w ∷ []) h = absurd (omega arith)
-  by-words (u ∷ v ∷ w ∷ x ∷ []) h = absurd (omega arith)
-  by-words (u ∷ v ∷ w ∷ x ∷ y ∷ []) h = absurd (omega arith)
-
   -- it is due as before, and fades no more
   due-deprecate : (a : Row) → fitAddress a ≡ true → due allowance now (deprecate a) ≡ due allowance now a
-  due-deprecate a h = by-words a (omega (arith, length-address a h))
+  unfolding due deprecate
+  due-deprecate a h =
+      by-words (λ r. due allowance now (deprecate r) ≡ due allowance now r) 20 a (length-address a h) (rw (other-bit (flags (spelled 20 a))))
 
   deprecates-deprecate : (a : Row) → fitAddress a ≡ true → deprecates allowance now (deprecate a) ≡ false
   unfolding deprecates

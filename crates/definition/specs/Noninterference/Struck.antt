@@ -53,7 +53,7 @@ module _ (chosen : ℕ → Bool) where
 
   -- what comes of an insertion, where nothing of it is seen
   data Unseen (rows : List Row) : Inserted → Type 0 where
-    unseen : {after : List Row} (flags : ℕ) → keep (outside chosen) after ≡ keep (outside chosen) rows → Unseen rows (put after flags)
+    unseen : {after : List Row} {flags : ℕ} → keep (outside chosen) after ≡ keep (outside chosen) rows → Unseen rows (put after flags)
     idle : Unseen rows nothing
     denied : (n : ℕ) → Unseen rows (Inserted.refused n)
 
@@ -89,11 +89,11 @@ module _ (chosen : ℕ → Bool) where
         (unseen-cond (exclFlag flags) _ _ (denied 17)
         (unseen-cond (replaceFlag flags) _ _
         (unseen-cond (isRow new (first (alike new) rows)) _ _ idle
-        (unseen-cond (any (eqRow new) rows) _ _ (denied 17) (unseen 0x100 (replaceFirst-without (alike new) (outside chosen) alike-chosen new c rows))))
+        (unseen-cond (any (eqRow new) rows) _ _ (denied 17) (unseen (replaceFirst-without (alike new) (outside chosen) alike-chosen new c rows))))
         (unseen-cond (any (eqRow new) rows) _ _ (denied 17)
-        (unseen-cond (createFlag flags) _ _ (unseen-cond (appendFlag flags) _ _ (unseen 0xc00 behind-unseen) (unseen 0x400 ahead-unseen))
+        (unseen-cond (createFlag flags) _ _ (unseen-cond (appendFlag flags) _ _ (unseen behind-unseen) (unseen ahead-unseen))
         (denied 2)))))
-        (unseen-cond (createFlag flags) _ _ (unseen 0x600 ahead-unseen) (denied 2))
+        (unseen-cond (createFlag flags) _ _ (unseen ahead-unseen) (denied 2))
 
   -- what a call comes to that changes nothing outside the chosen tables
   pub record Hidden (st : State) (o : Outcome) : Type 0 where
@@ -118,7 +118,7 @@ module _ (chosen : ℕ → Bool) where
         (λ e. rw (e, addTable-unseen (tableNamed q) named-chosen (st .tables)))
 
     insertedAs-unseen : (new : Row) (i : Inserted) (st : State) → Unseen (st .routes) i → Hidden st (insertedAs new i st)
-    insertedAs-unseen new i st (unseen flags e) = record { same = ap (λ l. withRoutes l (without chosen st)) e }
+    insertedAs-unseen new i st (unseen e) = record { same = ap (λ l. withRoutes l (without chosen st)) e }
     insertedAs-unseen new i st idle = record { same = refl }
     insertedAs-unseen new i st (denied n) = record { same = refl }
 

@@ -12,7 +12,7 @@ use Rattle.lists.specs.Keep.{Implies, keep-append, keep-keep, keep-within, any-
 use Rattle.layout.specs.Route.{table, before, alike}
 use Rattle.definition.specs.State.{State, withRoutes}
 use Rattle.definition.specs.Reference.Lookup.{Flow, longest, fits, answer, together, lookupIn, typeSet, addrType4, local4, listed, refused, flowTo, mainTable, localTable, defaultTable}
-use Rattle.definition.specs.Reference.Insert.{Inserted, put, nothing, addTable, listTable, create4, ahead, behind, insert4, inserted, kernelAdd4, named, removed, kernelDel4}
+use Rattle.definition.specs.Reference.Insert.{Inserted, put, nothing, addTable, listTable, create4, ahead, behind, insert4, inserted, kernelAdd4, named, removed, kernelDel4, kernelFlags}
 use Rattle.definition.specs.Noninterference.Statement.{Choice, outside}
 use Rattle.definition.specs.Noninterference.Projection.{unchosen, without, unchosen-as, unchosen-like, Mirrors, Apart}
 
@@ -145,8 +145,8 @@ module _ (chosen : ℕ → Bool) (choice : Choice chosen) where
     unfolding kernelAdd4
     kernelAdd4-apart st =
         let made = create4 (table new) st in
-        rw (create4-apart (table new) o st, insert4-apart 0xc00 (made .routes))
-        (inserted-apart (insert4 new 0xc00 (made .routes)) made)
+        rw (create4-apart (table new) o st, insert4-apart kernelFlags (made .routes))
+        (inserted-apart (insert4 new kernelFlags (made .routes)) made)
 
   -- ---- deletion
   -- the first row that passes goes, where only rows outside pass

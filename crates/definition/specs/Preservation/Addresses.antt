@@ -17,7 +17,7 @@ use Rattle.layout.specs.Route as Route
 use Rattle.layout.specs.Event.{newAddr4, newRoute4, delRoute4}
 use Rattle.layout.specs.Request.{fitAddV4, replaceAsked, upAtAddV4}
 use Rattle.definition.specs.State.{State, becomes, stays, withAddresses, withRoutes}
-use Rattle.definition.specs.Reference.Insert.{create4, listTable, insert4, Inserted, put, nothing, inserted, kernelAdd4, kernelDel4, named, removed}
+use Rattle.definition.specs.Reference.Insert.{create4, listTable, insert4, Inserted, put, nothing, inserted, kernelAdd4, kernelDel4, named, removed, kernelFlags}
 use Rattle.definition.specs.Reference.Addresses.{Outcome, candidates, prefixRoute, bring, place4, yields, newAddress, changedTo, moved, reroutes, changeV4, addedOver, addV4, asked, asSecondary, sameAddress, sameSubnet, loopback, step, up, down, hostScope}
 use Rattle.definition.specs.Preservation.Fit.{Fit, fields-address}
 use Rattle.definition.specs.Preservation.Routes.{keep-fit, removeFirst-fit, Puts, insert-fit, listTable-fit}
@@ -41,8 +41,8 @@ kernelAdd4-keeps new h =
     record {
       kept = λ st f.
           let g : Fit (create4 (table new) st) = create4-fit (table new) st f in
-          inserted-kept new (insert4 new 0xc00 ((create4 (table new) st) .routes)) (create4 (table new) st) h
-          (insert-fit new 0xc00 ((create4 (table new) st) .routes) h (g .ofRoutes)) g;
+          inserted-kept new (insert4 new kernelFlags ((create4 (table new) st) .routes)) (create4 (table new) st) h
+          (insert-fit new kernelFlags ((create4 (table new) st) .routes) h (g .ofRoutes)) g;
     }
 
 removed-kept : (p : Row → Bool) (o : Option Row) (st : State) → ((r : Row) → o ≡ some r → fitRoute r ≡ true) → Fit st → Kept (removed p o st)

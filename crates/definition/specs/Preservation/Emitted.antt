@@ -16,7 +16,7 @@ use Rattle.layout.specs.Request.{fitAddV4, replaceAsked, nlmFlags}
 use Rattle.layout.specs.Route.{table, prefsrcPresent}
 use Rattle.definition.specs.State.{State, Sizes, Out, sizes, stays, also}
 use Rattle.definition.specs.Words.{within}
-use Rattle.definition.specs.Reference.Insert.{create4, insert4, Inserted, put, nothing, inserted, kernelAdd4, kernelDel4, named, removed}
+use Rattle.definition.specs.Reference.Insert.{create4, insert4, Inserted, put, nothing, inserted, kernelAdd4, kernelDel4, named, removed, kernelFlags}
 use Rattle.definition.specs.Reference.Addresses.{Outcome, goes, refused, prefixRoute, moved, reroutes, changeV4, addedOver, addV4, sameAddress, up, down}
 use Rattle.definition.specs.Reference.Removal.{deletes, deletedAt, removeV4, delV4, expire}
 use Rattle.definition.specs.Reference.Routes.{Reached, formCheck, reachCheck, tableNamed, badPrefix, askedRoute, validPrefsrc4, insertedAs, routed, addRoute4, selects, deletedRoute, delRoute4Request}
@@ -66,7 +66,7 @@ inserted-emitted new (Inserted.refused n) st = omega arith
 
 kernelAdd4-emitted : (new : Row) (st : State) → length ((kernelAdd4 new st) .emitted) ≤ 1
 unfolding kernelAdd4
-kernelAdd4-emitted new st = inserted-emitted new (insert4 new 0xc00 ((create4 (table new) st) .routes)) (create4 (table new) st)
+kernelAdd4-emitted new st = inserted-emitted new (insert4 new kernelFlags ((create4 (table new) st) .routes)) (create4 (table new) st)
 
 removed-emitted : (p : Row → Bool) (o : Option Row) (st : State) → length ((removed p o st) .emitted) ≤ 1
 removed-emitted p none st = omega arith

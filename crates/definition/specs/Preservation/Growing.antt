@@ -15,7 +15,7 @@ use Rattle.layout.specs.Address.{secondary}
 use Rattle.layout.specs.Route.{alike, before, table}
 use Rattle.layout.specs.Event.{newAddr4}
 use Rattle.definition.specs.State.{State, Out, becomes, stays, also, through, withAddresses}
-use Rattle.definition.specs.Reference.Insert.{create4, insert4, Inserted, put, nothing, inserted, exclFlag, replaceFlag, createFlag, appendFlag, ahead, behind, kernelAdd4}
+use Rattle.definition.specs.Reference.Insert.{create4, insert4, Inserted, put, nothing, inserted, exclFlag, replaceFlag, createFlag, appendFlag, ahead, behind, kernelAdd4, kernelFlags}
 use Rattle.definition.specs.Reference.Addresses.{candidates, bring, place4, yields, newAddress, addedOver, addV4, sameAddress, loopback, step, up}
 
 pub record Adds (st : State) (o : Out) : Type 0 where
@@ -65,14 +65,14 @@ inserted-adds new (put rows flags) st h = record { grown = omega arith }
 inserted-adds new nothing st h = stays-adds st
 inserted-adds new (Inserted.refused n) st h = stays-adds st
 
-pub no-replacing : replaceFlag 0xc00 ≡ false
+pub no-replacing : replaceFlag kernelFlags ≡ false
 unfolding hasBit
 no-replacing = refl
 
 pub kernelAdd4-adds : (new : Row) (st : State) → Adds st (kernelAdd4 new st)
 unfolding kernelAdd4 create4
 kernelAdd4-adds new st =
-    let a = inserted-adds new (insert4 new 0xc00 (st .routes)) (create4 (table new) st) (insert-grows new 0xc00 (st .routes) no-replacing) in
+    let a = inserted-adds new (insert4 new kernelFlags (st .routes)) (create4 (table new) st) (insert-grows new kernelFlags (st .routes) no-replacing) in
     record { grown = a .grown }
 
 pub bring-adds : (routes : List Row) (st : State) → Adds st (bring routes st)

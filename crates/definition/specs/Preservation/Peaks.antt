@@ -18,7 +18,7 @@ use Rattle.layout.specs.Event.{newAddr4, delAddr4, newRoute4, delRoute4}
 use Rattle.definition.specs.State.{State, Sizes, Out, sizes, most, becomes, stays, also, through, withAddresses, withRoutes}
 use Rattle.definition.specs.Words.{within}
 use Rattle.definition.specs.Reference.Lookup.{mainTable, localTable, localKind, listed, local4}
-use Rattle.definition.specs.Reference.Insert.{addTable, listTable, create4, insert4, Inserted, put, nothing, inserted, kernelAdd4, kernelDel4, named, removed}
+use Rattle.definition.specs.Reference.Insert.{addTable, listTable, create4, insert4, Inserted, put, nothing, inserted, kernelAdd4, kernelDel4, named, removed, kernelFlags}
 use Rattle.definition.specs.Reference.Addresses.{goes, refused, candidates, bring, place4, newAddress, addedOver, addV4, sameAddress, loopback, step, up, down, hostScope}
 use Rattle.definition.specs.Reference.Removal.{ofKind, unwanted, dependentOn, fall, disable, removeOne, goneWith, removeV4, deletes, deletedAt, delV4, due, deprecates, deprecate, deprecateDue, passes, expire}
 use Rattle.definition.specs.Preservation.Encode.{Good}
@@ -213,9 +213,9 @@ inserted-rises new (Inserted.refused n) st made c h = becomes-rises st made [] c
 pub kernelAdd4-rises : (new : Row) (st : State) → Rises st (kernelAdd4 new st)
 unfolding kernelAdd4 create4
 kernelAdd4-rises new st =
-    inserted-rises new (insert4 new 0xc00 (st .routes)) st (create4 (table new) st)
+    inserted-rises new (insert4 new kernelFlags (st .routes)) st (create4 (table new) st)
     (record { ofAddresses = omega arith; ofRoutes = omega arith; ofTables = listTable-longer (table new) (st .tables) })
-    (insert-grows new 0xc00 (st .routes) no-replacing)
+    (insert-grows new kernelFlags (st .routes) no-replacing)
 
 pub bring-rises : (routes : List Row) (st : State) → Rises st (bring routes st)
 unfolding bring

@@ -16,60 +16,50 @@ use Rattle.lists.specs.Rows.{sized, length-zeros}
 use Rattle.prefix.specs.Mask.{network, hostBits, broadcast}
 use Rattle.kind.specs.Kind.{isKind, errorOf, leastScope}
 use Rattle.layout.specs.Address as Address
-use Rattle.layout.specs.Address.{fitAddress, prefix}
+use Rattle.layout.specs.Address.{fitAddress, prefix, setFlags, setProto, setPriority}
+use Rattle.layout.specs.Spelled.{spelled, by-words}
 use Rattle.layout.specs.Route as Route
 use Rattle.layout.specs.Route.{fitRoute, dst, len, kind}
 use Rattle.layout.specs.Event.{newAddr4, delAddr4, newRoute4, delRoute4}
 use Rattle.layout.specs.Request.{validAsked, preferredAsked, fitAddV4, fitAddRoute4, metricsError}
 use Rattle.definition.specs.Reference.Lookup.{localKind, broadcastKind}
-use Rattle.definition.specs.Reference.Addresses.{namesBroadcast, ownNetwork, linkScope, hostScope, primaryOf, kernelRoute, localRoute, prefixRoute, upRoutes, candidates, only, rewritten, setLife, asked, asSecondary, changedTo}
+use Rattle.definition.specs.Reference.Addresses.{namesBroadcast, ownNetwork, linkScope, hostScope, primaryOf, kernelRoute, localRoute, prefixRoute, upRoutes, candidates, only, setLife, asked, asSecondary, changedTo}
 use Rattle.definition.specs.Reference.Removal.{deprecate}
 use Rattle.definition.specs.Reference.Routes.{formCheck, badPrefix, askedRoute, mark, then, refuse, deadFlags, unsupported, onlinkFlag}
 use Rattle.definition.specs.Preservation.Fit.{FitFields, fields-address, fields-request, address-fields, length-address, length-route}
 
 -- ---- addresses
--- other flags, lifetimes and stamps, and a byte for the proto, leave a row fit
-pub rewritten-fit : (a : Row) (flags proto priority valid preferred created changed : ℕ) → 6 ≤ length a → FitFields a → ltb proto 256 ≡ true
-    → fitAddress (rewritten a flags proto priority valid preferred created changed) ≡ true
-rewritten-fit [] fl pr po va pf cr ch h f k = absurd (omega arith)
-rewritten-fit (a ∷ []) fl pr po va pf cr ch h f k = absurd (omega arith)
-rewritten-fit (a ∷ b ∷ []) fl pr po va pf cr ch h f k = absurd (omega arith)
-rewritten-fit (a ∷ b ∷ c ∷ []) fl pr po va pf cr ch h f k = absurd (omega arith)
-rewritten-fit (a ∷ b ∷ c ∷ d ∷ []) fl pr po va pf cr ch h f k = absurd (omega arith)
-rewritten-fit (a ∷ b ∷ c ∷ d ∷ e ∷ []) fl pr po va pf cr ch h f k = absurd (omega arith)
-rewritten-fit (a ∷ b ∷ c ∷ d ∷ e ∷ g ∷ t) fl pr po va pf cr ch h f k = address-fields (rewritten (a ∷ b ∷ c ∷ d ∷ e ∷ g ∷ t) fl pr po va pf cr ch) (unfold rewritten in refl) (unfold rewritten in (record { short = f .short; named = f .named; wide = f .wide; by = k; labelled = f .labelled }))
-
--- the row of a request
-pub asked-fit : (q : Row) (now : ℕ) → length q ≡ 18 → fitAddV4 q ≡ true → fitAddress (asked q now) ≡ true
-unfolding asked
-asked-fit q now long h =
-    let f = fields-request q h in
-    rewritten-fit q _ _ _ _ _ _ _ (omega arith) f (f .by)
-
--- a row that is fit, with other flags, lifetimes or stamps
-rewritten-address : (a : Row) (flags priority valid preferred created changed : ℕ) → fitAddress a ≡ true
-    → fitAddress (rewritten a flags (Address.proto a) priority valid preferred created changed) ≡ true
-rewritten-address a fl po va pf cr ch h =
-    let f = fields-address a h in
-    rewritten-fit a fl _ po va pf cr ch (omega (arith, length-address a h)) f (f .by)
+-- other flags, priority, lifetimes and stamps, and a byte for the proto, leave a row fit
+setFlags-fit : (n : ℕ) (a : Row) → fitAddress a ≡ true → fitAddress (setFlags n a) ≡ true
+unfolding fitAddress
+setFlags-fit n a h = by-words (λ r. fitAddress r ≡ true → fitAddress (setFlags n r) ≡ true) 20 a (length-address a h) (λ k. k) h
 
 pub asSecondary-fit : (a : Row) → fitAddress a ≡ true → fitAddress (asSecondary a) ≡ true
 unfolding asSecondary
-asSecondary-fit a h = rewritten-address a _ _ _ _ _ _ h
+asSecondary-fit a h = setFlags-fit _ a h
 
 pub deprecate-fit : (a : Row) → fitAddress a ≡ true → fitAddress (deprecate a) ≡ true
 unfolding deprecate
-deprecate-fit a h = rewritten-address a _ _ _ _ _ _ h
+deprecate-fit a h = setFlags-fit _ a h
 
 pub setLife-fit : (valid preferred now : ℕ) (a : Row) → fitAddress a ≡ true → fitAddress (setLife valid preferred now a) ≡ true
-unfolding setLife
-setLife-fit valid preferred now a h = rewritten-address a _ _ _ _ _ _ h
+unfolding setLife fitAddress
+setLife-fit valid preferred now a h =
+    by-words (λ r. fitAddress r ≡ true → fitAddress (setLife valid preferred now r) ≡ true) 20 a (length-address a h) (λ k. k) h
 
 pub changedTo-fit : (q old : Row) (now : ℕ) → fitAddV4 q ≡ true → fitAddress old ≡ true → fitAddress (changedTo q old now) ≡ true
 unfolding changedTo
 changedTo-fit q old now g h =
     setLife-fit (validAsked q) (preferredAsked q) now _
-    (rewritten-fit old _ _ _ _ _ _ _ (omega (arith, length-address old h)) (fields-address old h) ((fields-request q g) .by))
+    (by-words (λ r. fitAddress r ≡ true → fitAddress (setProto (Address.proto q) (setPriority (Address.priority q) r)) ≡ true) 20 old (length-address old h)
+    (λ k. let f = fields-address _ k in address-fields _ refl (record { short = f .short; named = f .named; wide = f .wide; by = fields-request q g .by; labelled = f .labelled })) h)
+
+-- the row of a request
+pub asked-fit : (q : Row) (now : ℕ) → length q ≡ 18 → fitAddV4 q ≡ true → fitAddress (asked q now) ≡ true
+unfolding asked setLife zeros
+asked-fit q now long h =
+    by-words (λ r. fitAddV4 r ≡ true → fitAddress (asked r now) ≡ true) 18 q long
+    (λ k. let f = fields-request (spelled 18 q) k in address-fields _ refl (record { short = f .short; named = f .named; wide = f .wide; by = f .by; labelled = f .labelled })) h
 
 -- ---- the kernel's routes
 hostBits-network : (a p : ℕ) → hostBits (network a p) p ≡ 0

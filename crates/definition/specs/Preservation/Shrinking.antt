@@ -7,8 +7,8 @@ use mathlib.Core.List.{List, [], _∷_, _++_, map}
 use mathlib.Core.Option.{Option, none, some}
 use native.Mathlib.Omega.{arith}
 use lib.Dec.{eqb}
-use lib.ListN.{length, getD, take, length-append, length-map}
-use lib.Seq.{getD-at, length-take-le}
+use lib.ListN.{length, length-append, length-map}
+use lib.Seq.{getD-set-same}
 use borrow.Author.Tests.{eq-eqb}
 use Rattle.lists.specs.Lists.{Row, any, keep, first, until, onward, removeFirst, eqRow}
 use Rattle.lists.specs.Bools.{and-iff, cond-case, test-case}
@@ -21,7 +21,7 @@ use Rattle.layout.specs.Event.{newAddr4, delAddr4}
 use Rattle.definition.specs.State.{State, Out, becomes, stays, also, through, withAddresses, withRoutes}
 use Rattle.definition.specs.Reference.Lookup.{mainTable, localKind, listed, local4}
 use Rattle.definition.specs.Reference.Insert.{kernelDel4, named, removed}
-use Rattle.definition.specs.Reference.Addresses.{rewritten, sameSubnet}
+use Rattle.definition.specs.Reference.Addresses.{sameSubnet}
 use Rattle.definition.specs.Reference.Removal.{ofKind, unwanted, dependentOn, fall, disable, removeOne, goneWith, removeV4, due, deprecates, deprecate, deprecateDue, passes, expire}
 use Rattle.definition.specs.Preservation.Fit.{Fit, length-address}
 use Rattle.definition.specs.Preservation.Keeps.{also-kept}
@@ -149,16 +149,11 @@ set-bit : (f : ℕ) → hasBit 5 (setBit 5 f) ≡ true
 unfolding hasBit setBit clearBit
 set-bit f = eq-eqb ((f - f / 2 ^ 5 % 2 * 2 ^ 5 + 2 ^ 5) / 2 ^ 5 % 2) 1 (omega arith)
 
-pub flags-rewritten : (a : Row) (flags proto priority valid preferred created changed : ℕ) → 6 ≤ length a
-    → getD (rewritten a flags proto priority valid preferred created changed) 6 0 ≡ flags
-unfolding rewritten
-flags-rewritten a fl pr po va pf cr ch h = getD-at (take 6 a) fl _ 0 6 (length-take-le 6 a h)
-
 -- a row that is marked
 pub deprecate-marked : (a : Row) → fitAddress a ≡ true → deprecated (deprecate a) ≡ true
 unfolding deprecate
 deprecate-marked a h =
-    ap (hasBit 5) (flags-rewritten a _ _ _ _ _ _ _ (omega (arith, length-address a h))) ∙ set-bit (flags a)
+    ap (hasBit 5) (getD-set-same a 6 _ 0 (omega (arith, length-address a h))) ∙ set-bit (flags a)
 
 deprecates-live : (allowance now : ℕ) (a : Row) → deprecates allowance now a ≡ true → live a ≡ true
 unfolding deprecates

@@ -4,17 +4,17 @@ use mathlib.Core.Bool.{Bool, cond, not, _&&_}
 use mathlib.Core.List.{List, [], _∷_, _++_}
 use mathlib.Core.Option.{Option, none, some}
 use lib.Dec.{eqb, leb, ltb}
-use lib.ListN.{getD, take}
+use lib.ListN.{take}
 use Rattle.lists.specs.Lists.{Row, any, keep, first, replaceFirst, behindLast, zeros}
 use Rattle.prefix.specs.Mask.{network, broadcast}
-use Rattle.life.specs.Life.{forever, storedSeconds, lowWord, highWord}
+use Rattle.life.specs.Life.{forever, storedSeconds}
 use Rattle.layout.specs.Flags.{clearBit, setBit}
 use Rattle.layout.specs.Address as Address
-use Rattle.layout.specs.Address.{local, address, prefix, broadcastPresent, scope, flags, secondary, secondaryBit, deprecatedBit, permanentBit, noPrefixRoute}
+use Rattle.layout.specs.Address.{local, address, prefix, broadcastPresent, scope, flags, setFlags, setProto, setPriority, setValid, setPreferred, setCreated, setChanged, secondary, secondaryBit, deprecatedBit, permanentBit, noPrefixRoute}
 use Rattle.layout.specs.Route as Route
 use Rattle.layout.specs.Event.{newAddr4}
 use Rattle.layout.specs.Request.{validAsked, preferredAsked, replaceAsked, upAtAddV4}
-use Rattle.definition.specs.State.{State, Out, becomes, stays, also, through, withAddresses, withRoutes}
+use Rattle.definition.specs.State.{State, Out, becomes, silently, stays, also, through, withAddresses, withRoutes}
 use Rattle.definition.specs.Reference.Lookup.{localTable, localKind, broadcastKind}
 use Rattle.definition.specs.Reference.Insert.{kernelAdd4, kernelDel4}
 
@@ -113,42 +113,23 @@ lifeFlags valid preferred f =
     let lasting = cond (eqb valid forever) (setBit permanentBit cleared) cleared in
     cond (eqb preferred 0) (setBit deprecatedBit lasting) lasting
 
--- the row with other flags, proto and priority, lifetimes and stamps; the rest stays
-unfoldable pub rewritten : Row → ℕ → ℕ → ℕ → ℕ → ℕ → ℕ → ℕ → Row
-rewritten a flags proto priority valid preferred created changed =
-    take 6 a
-    ++ (flags
-    ∷ proto
-    ∷ getD a 8 0
-    ∷ getD a 9 0
-    ∷ getD a 10 0
-    ∷ getD a 11 0
-    ∷ getD a 12 0
-    ∷ priority
-    ∷ valid
-    ∷ preferred
-    ∷ lowWord created
-    ∷ highWord created
-    ∷ lowWord changed
-    ∷ highWord changed
-    ∷ [])
-
 -- the row with the lifetimes asked for at a moment; one that never ends leaves the stored seconds
 unfoldable pub setLife : ℕ → ℕ → ℕ → Row → Row
 setLife valid preferred now a =
-    rewritten a (lifeFlags valid preferred (flags a)) (Address.proto a) (Address.priority a)
-    (storedSeconds valid (Address.valid a)) (storedSeconds preferred (Address.preferred a)) (Address.created a) now
+    setChanged now
+    (setPreferred (storedSeconds preferred (Address.preferred a))
+    (setValid (storedSeconds valid (Address.valid a))
+    (setFlags (lifeFlags valid preferred (flags a)) a)))
 
--- the row that a request asks for: a life of zeros, then its lifetimes; made at that moment
+-- the row that a request asks for: its 14 words and a life of zeros, as a primary, then its lifetimes; made at that moment
 unfoldable pub asked : Row → ℕ → Row
 asked q now =
-    rewritten q (lifeFlags (validAsked q) (preferredAsked q) (clearBit secondaryBit (flags q))) (Address.proto q) (Address.priority q)
-    (storedSeconds (validAsked q) 0) (storedSeconds (preferredAsked q) 0) now now
+    let fresh = take 14 q ++ zeros 6 in
+    setCreated now (setLife (validAsked q) (preferredAsked q) now (setFlags (clearBit secondaryBit (flags fresh)) fresh))
 
 -- the row as a secondary
 unfoldable pub asSecondary : Row → Row
-asSecondary a =
-    rewritten a (setBit secondaryBit (flags a)) (Address.proto a) (Address.priority a) (Address.valid a) (Address.preferred a) (Address.created a) (Address.changed a)
+asSecondary a = setFlags (setBit secondaryBit (flags a)) a
 
 -- ---- add_v4
 -- what a changing call comes to: a step, or a refusal's number with the state that it leaves
@@ -181,8 +162,7 @@ newAddress new up st =
 -- the address with another priority, proto and lifetimes
 unfoldable pub changedTo : Row → Row → ℕ → Row
 changedTo q old now =
-    setLife (validAsked q) (preferredAsked q) now
-    (rewritten old (flags old) (Address.proto q) (Address.priority q) (Address.valid old) (Address.preferred old) (Address.created old) (Address.changed old))
+    setLife (validAsked q) (preferredAsked q) now (setProto (Address.proto q) (setPriority (Address.priority q) old))
 
 -- its prefix route follows a change of priority while the loopback is up: the new one, then the old one gone
 abbrev pub reroutes : Row → Row → Bool
@@ -257,4 +237,4 @@ up now st =
 -- the routes through the device go, but for those of host scope, without a word
 unfoldable pub down : State → Out
 down st =
-    stays (withRoutes (keep (λ r. not (eqb (Route.device r) 1 && not (eqb (Route.scope r) hostScope))) (st .routes)) st)
+    silently (withRoutes (keep (λ r. not (eqb (Route.device r) 1 && not (eqb (Route.scope r) hostScope))) (st .routes)) st)

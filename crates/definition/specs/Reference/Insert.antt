@@ -1,11 +1,11 @@
 -- A route put into its table or taken out (document 01, port order 4; rtnetlink(7) and netlink(7) for the flags of a request).
-use Prim.Native.Nat.{ℕ}
+use Prim.Native.Nat.{ℕ, _+_}
 use mathlib.Core.Bool.{Bool, cond, not, _&&_, _||_}
 use mathlib.Core.List.{List, [], _∷_, _++_}
 use mathlib.Core.Option.{Option, none, some}
 use lib.Dec.{eqb}
 use Rattle.lists.specs.Lists.{Row, any, keep, first, removeFirst, replaceFirst, eqRow, among}
-use Rattle.layout.specs.Flags.{hasBit}
+use Rattle.layout.specs.Flags.{hasBit, flag, replaceBit, exclBit, createBit, appendBit}
 use Rattle.layout.specs.Route.{before, alike, table, dst, len, tos, priority, kind, proto, scope, prefsrcPresent, prefsrc, device}
 use Rattle.layout.specs.Event.{newRoute4, delRoute4}
 use Rattle.definition.specs.State.{State, Out, becomes, stays, withRoutes, withTables}
@@ -23,18 +23,18 @@ unfoldable pub create4 : ℕ → State → State
 create4 t st = withTables (listTable t (st .tables)) st
 
 -- ---- insertion
--- netlink's NLM_F_REPLACE, NLM_F_EXCL, NLM_F_CREATE and NLM_F_APPEND, as bits of a request's flags
+-- what a request's flags ask for
 abbrev pub replaceFlag : ℕ → Bool
-replaceFlag f = hasBit 8 f
+replaceFlag f = hasBit replaceBit f
 
 abbrev pub exclFlag : ℕ → Bool
-exclFlag f = hasBit 9 f
+exclFlag f = hasBit exclBit f
 
 abbrev pub createFlag : ℕ → Bool
-createFlag f = hasBit 10 f
+createFlag f = hasBit createBit f
 
 abbrev pub appendFlag : ℕ → Bool
-appendFlag f = hasBit 11 f
+appendFlag f = hasBit appendBit f
 
 -- what comes of an insertion: the rows afterwards with the flags told, nothing to do, or a refusal
 pub data Inserted : Type 0 where
@@ -65,12 +65,12 @@ insert4 new flags rows =
     (cond (exclFlag flags) (refused 17)
     (cond (replaceFlag flags)
     (cond (isRow new (first (alike new) rows)) nothing
-    (cond (any (eqRow new) rows) (refused 17) (put (replaceFirst (alike new) new rows) 0x100)))
+    (cond (any (eqRow new) rows) (refused 17) (put (replaceFirst (alike new) new rows) (flag replaceBit))))
     (cond (any (eqRow new) rows) (refused 17)
     (cond (createFlag flags)
-    (cond (appendFlag flags) (put (behind new rows) 0xc00) (put (ahead new rows) 0x400))
+    (cond (appendFlag flags) (put (behind new rows) (flag createBit + flag appendBit)) (put (ahead new rows) (flag createBit)))
     (refused 2)))))
-    (cond (createFlag flags) (put (ahead new rows) 0x600) (refused 2))
+    (cond (createFlag flags) (put (ahead new rows) (flag createBit + flag exclBit)) (refused 2))
 
 -- ---- the kernel's own routes
 abbrev pub inserted : Row → Inserted → State → Out
@@ -78,11 +78,15 @@ inserted new (put rows flags) st = becomes (withRoutes rows st) (newRoute4 new f
 inserted new nothing st = stays st
 inserted new (refused n) st = stays st
 
+-- the flags of the kernel's own requests
+abbrev pub kernelFlags : ℕ
+kernelFlags = flag createBit + flag appendBit
+
 -- one of the kernel's routes: its table listed, told of unless the same is there
 unfoldable pub kernelAdd4 : Row → State → Out
 kernelAdd4 new st =
     let made = create4 (table new) st in
-    inserted new (insert4 new 0xc00 (made .routes)) made
+    inserted new (insert4 new kernelFlags (made .routes)) made
 
 -- a row that the kernel's deletion of a route names: any priority where that names none, whatever metrics and gateway
 unfoldable pub named : Row → Row → Bool

@@ -8,16 +8,15 @@ use lib.ListN.{length}
 use Rattle.lists.specs.Lists.{Row, any, keep, first, until, onward, removeFirst, eqRow}
 use Rattle.life.specs.Life.{reached}
 use Rattle.layout.specs.Flags.{setBit}
-use Rattle.layout.specs.Address as Address
-use Rattle.layout.specs.Address.{local, prefix, flags, secondary, permanent, deprecated, deprecatedBit, labelLength, label, valid, preferred, created, changed}
+use Rattle.layout.specs.Address.{local, prefix, flags, setFlags, secondary, permanent, deprecated, deprecatedBit, labelLength, label, valid, preferred, changed}
 use Rattle.layout.specs.Route as Route
 use Rattle.layout.specs.Route.{table, dst, len, kind}
 use Rattle.layout.specs.Event.{newAddr4, delAddr4}
 use Rattle.layout.specs.Request.{localPresent, localGiven, addressPresent, addressGiven, prefixGiven, labelPresent, labelLengthGiven, labelGiven}
-use Rattle.definition.specs.State.{State, Out, becomes, stays, also, through, withAddresses, withRoutes}
+use Rattle.definition.specs.State.{State, Out, becomes, silently, stays, also, through, withAddresses, withRoutes}
 use Rattle.definition.specs.Reference.Lookup.{mainTable, localKind, broadcastKind, listed, local4}
 use Rattle.definition.specs.Reference.Insert.{kernelDel4}
-use Rattle.definition.specs.Reference.Addresses.{covers, sameSubnet, kernelRoute, localRoute, upRoutes, primaryOf, candidates, rewritten, Outcome, goes, refused}
+use Rattle.definition.specs.Reference.Addresses.{covers, sameSubnet, kernelRoute, localRoute, upRoutes, primaryOf, candidates, Outcome, goes, refused}
 
 -- ---- the routes that go with an address
 -- the same route, whatever its preferred source and priority
@@ -68,7 +67,7 @@ deviceless st = withRoutes (keep (λ r. not (eqb (Route.device r) 1)) (st .route
 
 -- the last address takes every route through the device with it, without a word
 unfoldable pub disable : State → Out
-disable st = cond (eqb (length (st .addresses)) 0) (stays (deviceless st)) (stays st)
+disable st = cond (eqb (length (st .addresses)) 0) (silently (deviceless st)) (stays st)
 
 -- one address goes: the first row equal to it, told; then its routes that none wants; then what falls with it
 unfoldable pub removeOne : Row → State → Out
@@ -115,8 +114,7 @@ deprecates allowance now a =
     not (permanent a) && not (deprecated a) && reached allowance (preferred a) (changed a) now
 
 unfoldable pub deprecate : Row → Row
-deprecate a =
-    rewritten a (setBit deprecatedBit (flags a)) (Address.proto a) (Address.priority a) (valid a) (preferred a) (created a) (changed a)
+deprecate a = setFlags (setBit deprecatedBit (flags a)) a
 
 -- the address, marked if it fades
 abbrev pub marked : ℕ → ℕ → Row → Row

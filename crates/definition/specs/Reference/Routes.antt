@@ -8,7 +8,7 @@ use lib.ListN.{getD}
 use Rattle.lists.specs.Lists.{Row, all, first, removeFirst}
 use Rattle.prefix.specs.Mask.{hostBits}
 use Rattle.kind.specs.Kind.{isKind, errorOf, leastScope}
-use Rattle.layout.specs.Flags.{hasBit}
+use Rattle.layout.specs.Flags.{hasBit, deadBit, onlinkBit, linkdownBit}
 use Rattle.layout.specs.Route.{table, dst, len, tos, priority, kind, proto, scope, prefsrcPresent, prefsrc, gatewayPresent, gateway, device}
 use Rattle.layout.specs.Event.{newRoute4, delRoute4}
 use Rattle.layout.specs.Request.{oif, rtmFlags, nlmFlags, metricsError, metricsAsked, upAtAddRoute4, listPresent, pairs, pairIndex, pairValue}
@@ -26,13 +26,13 @@ tableNamed q = cond (eqb (table q) 0) mainTable (table q)
 abbrev pub badPrefix : Row → Bool
 badPrefix q = not (leb (len q) 32) || not (eqb (hostBits (dst q) (len q)) 0)
 
--- rtnetlink's RTNH_F_DEAD and RTNH_F_LINKDOWN, which no request may set
+-- flags that no request may set
 abbrev pub deadFlags : Row → Bool
-deadFlags q = hasBit 0 (rtmFlags q) || hasBit 4 (rtmFlags q)
+deadFlags q = hasBit deadBit (rtmFlags q) || hasBit linkdownBit (rtmFlags q)
 
--- rtnetlink's RTNH_F_ONLINK
+-- the gateway is on link, whatever the routes say
 abbrev pub onlinkFlag : Row → Bool
-onlinkFlag q = hasBit 2 (rtmFlags q)
+onlinkFlag q = hasBit onlinkBit (rtmFlags q)
 
 -- the kinds that rtnetlink has and the reference doesn't
 abbrev pub unsupported : ℕ → Bool

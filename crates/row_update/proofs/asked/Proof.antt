@@ -54,10 +54,11 @@ returns c =
     let g = t .before .before in
     let f = g .before in
     let p = f .before .before .before in
-    let a = p .before .before .before .before .before .before .args in
+    let s = p .before .before .before .before .before .before in
+    let a = s .args in
     w .rewritten .ensures
     ∙ ap (λ (v : List ℕ). put 0 v (now (a .out)))
-    (asked-row (a .q .now) (a .clock .0) (p .as-primary .result) (f .life-flags .result) (t .set .result) (p .as-primary .ensures) (f .life-flags .ensures)
+    (asked-row (a .q .now) (a .clock .0) (p .as-primary .result) (f .life-flags .result) (t .set .result) (s .pre .0) (p .as-primary .ensures) (f .life-flags .ensures)
     (set-life (t .set .result) _ _ (a .clock .0) _ _ (t .set .ensures) (t .before .lifetimes .ensures) (g .begun .ensures)))
 
 pub asked-spec : {M : Type 1} → statement M

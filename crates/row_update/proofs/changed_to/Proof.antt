@@ -50,11 +50,12 @@ returns c =
     let t = w .before .before in
     let g = t .before .before in
     let f = g .before in
-    let s = f .before .before .before .before .before .before .before .before .before in
+    let words = f .before .before .before .before .before .before .before in
+    let s = words .before .before in
     let a = s .args in
     w .rewritten .ensures
     ∙ ap (λ (v : List ℕ). put 0 v (now (a .out)))
-    (changed-row (a .q .now) (a .old .now) (a .clock .0) (f .life-flags .result) (t .set .result) (omega (arith, s .pre .1 .0)) (f .life-flags .ensures)
+    (changed-row (a .old .now) (s .pre .1 .0) (omega (arith, words .shared-slice-known2 .given 16)) (a .q .now) (a .clock .0) (f .life-flags .result) (t .set .result) (f .life-flags .ensures)
     (set-life (t .set .result) _ _ (a .clock .0) _ _ (t .set .ensures) (t .before .lifetimes .ensures) (g .life-of .ensures)))
 
 pub changed-to-spec : {M : Type 1} → statement M

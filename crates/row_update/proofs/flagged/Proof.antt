@@ -1,4 +1,5 @@
 use mathlib.Core.Path.{ap, _∙_}
+use native.Mathlib.Omega.{arith}
 use mathlib.Core.List.{List}
 use Prim.Native.Nat.{ℕ}
 use denote.Ref.{now}
@@ -26,10 +27,12 @@ same-length c = search needs
 returns : tie.Need-returns
 returns c =
     let w = c .before .before in
-    let a = w .before .before .before .before .before .before .before .args in
+    let words = w .before .before .before .before .before .before in
+    let start = words .before in
+    let a = start .args in
     w .rewritten .ensures
     ∙ ap (λ (v : List ℕ). put 0 v (now (a .out)))
-    (flagged-row (a .a .now) (a .flags) (w .before .life-of .result) (w .before .life-of .ensures))
+    (flagged-row (a .a .now) (start .pre .0) (omega (arith, words .shared-slice-known .given 16)) (a .flags) (w .before .life-of .result) (omega (arith, words .shared-slice-known .given 18)) (w .before .life-of .ensures))
 
 pub flagged-spec : {M : Type 1} → statement M
 flagged-spec =

@@ -71,7 +71,7 @@ returns c =
     let a = s .args in
     w .store .ensures
     ∙ ap (λ (v : List ℕ). put 0 v (now (a .out)))
-    (rewritten-words (a .a .now) (a .flags) (a .proto) (a .priority) (a .life .valid .0) (a .life .preferred .0) (a .life .created .0) (a .life .changed .0)
+    (rewritten-words (a .a .now) (a .flags) (a .proto) (a .priority) (a .life)
     (h .before .before .before .low .result) (h .before .before .high .result) (h .before .low2 .result) (h .high2 .result) (omega (arith, s .pre .1))
     (h .before .before .before .low .ensures) (h .before .before .high .ensures) (h .before .low2 .ensures) (h .high2 .ensures))
 
