@@ -16,7 +16,7 @@ use Rattle.definition.specs.Reference.Lookup.{listed, localTable, mainTable, de
 use Rattle.definition.specs.Reference.Insert.{addTable, listTable, create4, insert4}
 use Rattle.definition.specs.Reference.Addresses.{Outcome}
 use Rattle.definition.specs.Reference.Routes as Routes
-use Rattle.definition.specs.Reference.Routes.{by, refused, tableNamed, formCheck, reachCheck, validPrefsrc4, routed, insertedAs, askedRoute, addRoute4}
+use Rattle.definition.specs.Reference.Routes.{by, refused, tableNamed, formCheck, reachCheck, validPrefsrc4, routed, insertedAs, askedRoute, addRoute4, addedBy}
 use Rattle.state.specs.Represents.{Represents}
 use Rattle.state_tables.specs.Listed.{tablesOf}
 use Rattle.state_read.specs.Parts.{listed-there}
@@ -39,13 +39,13 @@ abbrev pub goesOn : Row → Routes.Reached → State → Outcome
 goesOn q (refused n) st = Outcome.refused n st
 goesOn q (by linked) st = insertedAs (askedRoute q linked) (insert4 (askedRoute q linked) (nlmFlags q) (st .routes)) st
 
-routed-goes : (q : Row) (r : Routes.Reached) (st : State) → routed q r st ≡ goesOn q (prefsrcCheck q r st) st
+routed-goes : (q : Row) (r : Routes.Reached) (st : State) → routed insert4 q r st ≡ goesOn q (prefsrcCheck q r st) st
 routed-goes q (refused n) st = refl
 routed-goes q (by linked) st =
     test-case (eqb (prefsrcPresent q) 1 && not (validPrefsrc4 q st)) (λ e. rw e) (λ e. rw e)
 
 pub add-goes : (q : Row) (st : State) → addRoute4 q st ≡ goesOn q (checkAll q (create4 (tableNamed q) st)) (create4 (tableNamed q) st)
-unfolding addRoute4
+unfolding addedBy
 add-goes q st =
     let made = create4 (tableNamed q) st in
     test-case (eqb (formCheck q) 0) (λ e. rw e (routed-goes q (reachCheck q made) made)) (λ e. rw e)

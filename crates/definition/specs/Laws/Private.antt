@@ -15,8 +15,10 @@ use Rattle.definition.specs.Reference.Addresses.{Outcome, goes, refused}
 use Rattle.definition.specs.Reference.Routes.{tableNamed, addRoute4, delRoute4Request}
 use Rattle.definition.specs.Noninterference.Statement.{Choice}
 use Rattle.definition.specs.Noninterference.Projection.{without, result, Tandem, both-go, both-refuse}
-use Rattle.definition.specs.Noninterference.Routes.{addRoute4-apart, delRoute4Request-apart}
-use Rattle.definition.specs.Noninterference.Struck.{addRoute4-hidden, delRoute4Request-hidden}
+use Rattle.definition.specs.Noninterference.Tables.{insert4-apart}
+use Rattle.definition.specs.Reference.Insert.{insert4}
+use Rattle.definition.specs.Noninterference.Routes.{added-apart, delRoute4Request-apart}
+use Rattle.definition.specs.Noninterference.Struck.{insert4-unseen, added-hidden, delRoute4Request-hidden}
 
 -- the tables that a request may use: the reference's own, and the one that it names
 abbrev pub used : Row → ℕ → Bool
@@ -71,8 +73,8 @@ module _ (q : Row) (st later : State) (agree : without (others q) st ≡ without
   -- states that agree but for other tables, and their rows, get the same answer
   pub addRoute4-reads : SameFor q (addRoute4 q st) (addRoute4 q later)
   addRoute4-reads =
-      same-across q (tandem-said q (addRoute4-apart (others q) (others-choice q) q (named-used q) st))
-      (rw agree (tandem-said q (addRoute4-apart (others q) (others-choice q) q (named-used q) later)))
+      same-across q (tandem-said q (added-apart (others q) (others-choice q) q (named-used q) insert4 (insert4-apart (others q) (others-choice q)) st))
+      (rw agree (tandem-said q (added-apart (others q) (others-choice q) q (named-used q) insert4 (insert4-apart (others q) (others-choice q)) later)))
 
   pub delRoute4Request-reads : SameFor q (delRoute4Request q st) (delRoute4Request q later)
   delRoute4Request-reads =
@@ -92,7 +94,7 @@ module _ (q : Row) where
 
   -- `without (used q)` leaves the addresses, the other tables and their rows
   pub addRoute4-writes : (st : State) → ordered (st .routes) ≡ true → without (used q) (result (addRoute4 q st)) ≡ without (used q) st
-  addRoute4-writes st o = addRoute4-hidden (used q) q named-of (λ e. main-of) st o .same
+  addRoute4-writes st o = added-hidden (used q) q named-of (λ e. main-of) insert4 (insert4-unseen (used q)) st o .same
 
   pub delRoute4Request-writes : (st : State) → without (used q) (result (delRoute4Request q st)) ≡ without (used q) st
   delRoute4Request-writes st = delRoute4Request-hidden (used q) q named-of (λ e. main-of) st .same

@@ -20,7 +20,7 @@ use Rattle.definition.specs.Reference.Insert.{create4}
 use Rattle.definition.specs.Reference.Addresses.{Outcome, goes, refused}
 use Rattle.definition.specs.Reference.Routes.{tableNamed}
 use Rattle.definition.specs.Step.{Result, Checks, Action, changes, replies, lists, Semantics, checks, checked, unless, unfit, result, roomy, outcome, semantics, step}
-pub use Rattle.definition.specs.Preservation.Refused.{Leaves, addV4-leaves, delV4-leaves, addRoute4-leaves, delRoute4-leaves}
+pub use Rattle.definition.specs.Preservation.Refused.{Leaves, addV4-leaves, delV4-leaves, delRoute4-leaves, added-leaves}
 use Rattle.definition.specs.Preservation.Change.{Sound, Acts, lawful}
 use Rattle.definition.specs.Preservation.Step.{acted, perform-case, checked-held, checked-sound, leaves-decode}
 

@@ -15,15 +15,16 @@ use Rattle.definition.specs.Call.{Call, Reply, valued, written, foundRow
 use Rattle.definition.specs.Reference.Lookup.{lookup4, lookup4Flow, flowTo}
 use Rattle.definition.specs.Reference.Addresses.{Outcome, goes, addV4, up, down}
 use Rattle.definition.specs.Reference.Removal.{delV4, expire}
-use Rattle.definition.specs.Reference.Routes.{addRoute4, delRoute4Request}
+use Rattle.definition.specs.Reference.Routes.{addedBy, delRoute4Request}
+use Rattle.definition.specs.Reference.Insert.{Insertion, insert4}
 use Rattle.definition.specs.Reference.Source.{dump4, sourceFor, orValue, source}
 use Rattle.definition.specs.Step.{Checks, Action, changes, replies, lists, alters, answered, Semantics, semantics}
 use Rattle.definition.specs.Noninterference.Statement.{Choice, struck, outside, comparing}
 use Rattle.definition.specs.Noninterference.Projection.{without, result, Apart, Tandem, both-go, both-refuse}
-use Rattle.definition.specs.Noninterference.Tables.{lookupIn-apart, local4-apart}
+use Rattle.definition.specs.Noninterference.Tables.{insert4-apart, lookupIn-apart, local4-apart}
 use Rattle.definition.specs.Noninterference.Addresses.{addV4-apart, up-apart, down-apart, delV4-apart, expire-apart}
-use Rattle.definition.specs.Noninterference.Routes.{addRoute4-apart, delRoute4Request-apart, dump4-apart}
-use Rattle.definition.specs.Noninterference.Struck.{Hidden, addRoute4-unseen, delRoute4Request-unseen}
+use Rattle.definition.specs.Noninterference.Routes.{InsertsApart, added-apart, delRoute4Request-apart, dump4-apart}
+use Rattle.definition.specs.Noninterference.Struck.{Hidden, InsertsUnseen, insert4-unseen, added-unseen, delRoute4Request-unseen}
 use Rattle.definition.specs.Noninterference.Calls.{passing, doing, freely}
 
 module _ (chosen : ℕ → Bool) (choice : Choice chosen) where
@@ -50,6 +51,11 @@ module _ (chosen : ℕ → Bool) (choice : Choice chosen) where
       → (chosen t ≡ true → (st : State) → ordered (st .routes) ≡ true → Hidden chosen st (f st)) → Change (t ∷ []) f
   naming t a u = record { apart = λ h. a (sym (or-false (chosen t)) ∙ h); unseen = λ h. u (sym (or-false (chosen t)) ∙ h) }
 
+  -- a request to add a route, by some insertion
+  adding : (insert : Insertion) → InsertsApart chosen choice insert → InsertsUnseen chosen insert → (q : Row) → Change (table q ∷ []) (addedBy insert q)
+  adding insert a u q =
+      naming (table q) (λ h. added-apart chosen choice q h insert a) (λ h. added-unseen chosen choice q h insert u)
+
   unwinds : (c : Call) → Unwinds (semantics c .names) (semantics c .action)
   unfolding lookup4 lookup4Flow source
   unwinds (Call.up events now) = going (up-apart chosen choice now)
@@ -57,7 +63,7 @@ module _ (chosen : ℕ → Bool) (choice : Choice chosen) where
   unwinds (Call.addV4 q events now) = unnamed (addV4-apart chosen choice q now)
   unwinds (Call.delV4 q events) = unnamed (delV4-apart chosen choice q)
   unwinds (Call.expire events now) = going (expire-apart chosen choice allowance now)
-  unwinds (Call.addRoute4 q events) = naming (table q) (addRoute4-apart chosen choice q) (addRoute4-unseen chosen choice q)
+  unwinds (Call.addRoute4 q events) = adding insert4 (insert4-apart chosen choice) (insert4-unseen chosen) q
   unwinds (Call.delRoute4 q events) =
       naming (table q) (delRoute4Request-apart chosen choice q) (λ h st o. delRoute4Request-unseen chosen choice q h st)
   unwinds (Call.dump4 room) = dump4-apart chosen choice

@@ -13,8 +13,8 @@ use Rattle.layout.specs.Route.{table, prefsrc, prefsrcPresent}
 use Rattle.layout.specs.Request.{nlmFlags}
 use Rattle.definition.specs.State.{State}
 use Rattle.definition.specs.Reference.Lookup.{mainTable, localTable, together, listed}
-use Rattle.definition.specs.Reference.Insert.{Inserted, put, nothing, create4, insert4}
-use Rattle.definition.specs.Reference.Routes.{Reached, by, refused, tableNamed, badPrefix, formCheck, onlinkCheck, toGateway, gatewayRoute, gateway4, reachCheck, validPrefsrc4, askedRoute, insertedAs, routed, addRoute4, selects, deletedRoute, delRoute4Request}
+use Rattle.definition.specs.Reference.Insert.{Insertion, Inserted, put, nothing, create4, insert4}
+use Rattle.definition.specs.Reference.Routes.{Reached, by, refused, tableNamed, badPrefix, formCheck, onlinkCheck, toGateway, gatewayRoute, gateway4, reachCheck, validPrefsrc4, askedRoute, insertedAs, routed, addedBy, selects, deletedRoute, delRoute4Request}
 use Rattle.definition.specs.Reference.Source.{below, tableOrder, dump4}
 use Rattle.definition.specs.Noninterference.Statement.{Choice, outside}
 use Rattle.definition.specs.Noninterference.Projection.{unchosen, without, unchosen-as, Tandem, both-go, both-refuse, tandem-cond}
@@ -25,6 +25,11 @@ module _ (chosen : ℕ → Bool) (choice : Choice chosen) where
   pub named-open : (q : Row) → chosen (table q) ≡ false → unchosen chosen (tableNamed q) ≡ true
   named-open q o =
       test-case (eqb (table q) 0) (λ e. rw e (main-open chosen choice)) (λ e. rw (e, o))
+
+  -- an insertion that goes the same way without the chosen tables
+  abbrev pub InsertsApart : Insertion → Type 0
+  InsertsApart insert =
+      (new : Row) → outside chosen new ≡ true → (flags : ℕ) (rows : List Row) → insert new flags (keep (outside chosen) rows) ≡ keptIn chosen choice (insert new flags rows)
 
   -- ---- requests to add a route
   module _ (q : Row) (o : chosen (table q) ≡ false) where
@@ -66,20 +71,20 @@ module _ (chosen : ℕ → Bool) (choice : Choice chosen) where
     unfolding askedRoute
     asked-outside linked = named-open q o
 
-    routed-apart : (reached : Reached) (st : State) → Tandem chosen (routed q reached st) (routed q reached (without chosen st))
-    routed-apart (refused n) st = both-refuse n st
-    routed-apart (by linked) st =
+    routed-apart : (insert : Insertion) → InsertsApart insert → (reached : Reached) (st : State) → Tandem chosen (routed insert q reached st) (routed insert q reached (without chosen st))
+    routed-apart insert i (refused n) st = both-refuse n st
+    routed-apart insert i (by linked) st =
         let new = askedRoute q linked in
-        rw (validPrefsrc4-apart st, insert4-apart chosen choice new (asked-outside linked) (nlmFlags q) (st .routes))
+        rw (validPrefsrc4-apart st, i new (asked-outside linked) (nlmFlags q) (st .routes))
         (tandem-cond chosen (eqb (prefsrcPresent q) 1 && not (validPrefsrc4 q st)) _ _ _ _ (both-refuse 22 st)
-        (insertedAs-apart new (insert4 new (nlmFlags q) (st .routes)) st))
+        (insertedAs-apart new (insert new (nlmFlags q) (st .routes)) st))
 
-    pub addRoute4-apart : (st : State) → Tandem chosen (addRoute4 q st) (addRoute4 q (without chosen st))
-    unfolding addRoute4
-    addRoute4-apart st =
+    pub added-apart : (insert : Insertion) → InsertsApart insert → (st : State) → Tandem chosen (addedBy insert q st) (addedBy insert q (without chosen st))
+    unfolding addedBy
+    added-apart insert i st =
         let made = create4 (tableNamed q) st in
         rw (create4-apart chosen choice (tableNamed q) (named-open q o) st, reachCheck-apart made)
-        (tandem-cond chosen (eqb (formCheck q) 0) _ _ _ _ (routed-apart (reachCheck q made) made) (both-refuse (formCheck q) made))
+        (tandem-cond chosen (eqb (formCheck q) 0) _ _ _ _ (routed-apart insert i (reachCheck q made) made) (both-refuse (formCheck q) made))
 
     -- ---- requests to delete one
     selects-outside : Implies (selects q) (outside chosen)

@@ -15,9 +15,9 @@ use Rattle.layout.specs.Request.{nlmFlags}
 use Rattle.definition.specs.State.{State, withRoutes}
 use Rattle.definition.specs.Words.{ordered}
 use Rattle.definition.specs.Reference.Lookup.{localTable, mainTable, listed}
-use Rattle.definition.specs.Reference.Insert.{Inserted, put, nothing, addTable, listTable, create4, ahead, behind, insert4, isRow, exclFlag, replaceFlag, createFlag, appendFlag}
+use Rattle.definition.specs.Reference.Insert.{Insertion, Inserted, put, nothing, addTable, listTable, create4, ahead, behind, insert4, isRow, exclFlag, replaceFlag, createFlag, appendFlag}
 use Rattle.definition.specs.Reference.Addresses.{Outcome}
-use Rattle.definition.specs.Reference.Routes.{Reached, by, refused, tableNamed, badPrefix, formCheck, reachCheck, validPrefsrc4, askedRoute, insertedAs, routed, addRoute4, selects, deletedRoute, delRoute4Request}
+use Rattle.definition.specs.Reference.Routes.{Reached, by, refused, tableNamed, badPrefix, formCheck, reachCheck, validPrefsrc4, askedRoute, insertedAs, routed, addedBy, selects, deletedRoute, delRoute4Request}
 use Rattle.definition.specs.Preservation.Order.{before-after, alike-before, alike-sym, level-alike}
 use Rattle.definition.specs.Noninterference.Statement.{Choice, outside}
 use Rattle.definition.specs.Noninterference.Projection.{unchosen, without, result}
@@ -52,7 +52,7 @@ module _ (chosen : ℕ → Bool) where
       keep-append (outside chosen) l (new ∷ m) ∙ ap (λ k. keep (outside chosen) l ++ k) (keep-false (outside chosen) new m c) ∙ sym (keep-append (outside chosen) l m)
 
   -- what comes of an insertion, where nothing of it is seen
-  data Unseen (rows : List Row) : Inserted → Type 0 where
+  pub data Unseen (rows : List Row) : Inserted → Type 0 where
     unseen : {after : List Row} {flags : ℕ} → keep (outside chosen) after ≡ keep (outside chosen) rows → Unseen rows (put after flags)
     idle : Unseen rows nothing
     denied : (n : ℕ) → Unseen rows (Inserted.refused n)
@@ -82,7 +82,7 @@ module _ (chosen : ℕ → Bool) where
         between-unseen new c (keep (λ r. not (before new r)) rows) (keep (λ r. before new r) rows)
         ∙ ap (keep (outside chosen)) (simp Bool·not-not at (split-behind new rows o))
 
-    insert4-unseen : (flags : ℕ) → Unseen rows (insert4 new flags rows)
+    pub insert4-unseen : (flags : ℕ) → Unseen rows (insert4 new flags rows)
     unfolding insert4
     insert4-unseen flags =
         unseen-cond (any (alike new) rows) _ _
@@ -94,6 +94,11 @@ module _ (chosen : ℕ → Bool) where
         (unseen-cond (createFlag flags) _ _ (unseen-cond (appendFlag flags) _ _ (unseen behind-unseen) (unseen ahead-unseen))
         (denied 2)))))
         (unseen-cond (createFlag flags) _ _ (unseen ahead-unseen) (denied 2))
+
+  -- an insertion of a row of a chosen table of which nothing is seen
+  abbrev pub InsertsUnseen : Insertion → Type 0
+  InsertsUnseen insert =
+      (new : Row) → outside chosen new ≡ false → (rows : List Row) → ordered rows ≡ true → (flags : ℕ) → Unseen rows (insert new flags rows)
 
   -- what a call comes to that changes nothing outside the chosen tables
   pub record Hidden (st : State) (o : Outcome) : Type 0 where
@@ -122,20 +127,20 @@ module _ (chosen : ℕ → Bool) where
     insertedAs-unseen new i st idle = record { same = refl }
     insertedAs-unseen new i st (denied n) = record { same = refl }
 
-    routed-unseen : (reached : Reached) (st : State) → ordered (st .routes) ≡ true → Hidden st (routed q reached st)
+    routed-unseen : (insert : Insertion) → InsertsUnseen insert → (reached : Reached) (st : State) → ordered (st .routes) ≡ true → Hidden st (routed insert q reached st)
     unfolding askedRoute
-    routed-unseen (refused n) st o = record { same = refl }
-    routed-unseen (by linked) st o =
+    routed-unseen insert i (refused n) st o = record { same = refl }
+    routed-unseen insert i (by linked) st o =
         let new = askedRoute q linked in
         hidden-cond (eqb (prefsrcPresent q) 1 && not (validPrefsrc4 q st)) _ _ _ (record { same = refl })
-        (insertedAs-unseen new (insert4 new (nlmFlags q) (st .routes)) st (insert4-unseen new named-chosen (st .routes) o (nlmFlags q)))
+        (insertedAs-unseen new (insert new (nlmFlags q) (st .routes)) st (i new named-chosen (st .routes) o (nlmFlags q)))
 
-    pub addRoute4-hidden : (st : State) → ordered (st .routes) ≡ true → Hidden st (addRoute4 q st)
-    unfolding addRoute4
-    addRoute4-hidden st o =
+    pub added-hidden : (insert : Insertion) → InsertsUnseen insert → (st : State) → ordered (st .routes) ≡ true → Hidden st (addedBy insert q st)
+    unfolding addedBy
+    added-hidden insert i st o =
         let made = create4 (tableNamed q) st in
         hidden-cond (eqb (formCheck q) 0) _ _ _
-        (record { same = routed-unseen (reachCheck q made) made (rw (create4-routes (tableNamed q) st) o) .same ∙ create4-unseen st })
+        (record { same = routed-unseen insert i (reachCheck q made) made (rw (create4-routes (tableNamed q) st) o) .same ∙ create4-unseen st })
         (record { same = create4-unseen st })
 
     deletedRoute-unseen : (found : Option Row) (st : State) → Hidden st (deletedRoute q found st)
@@ -168,8 +173,8 @@ module _ (chosen : ℕ → Bool) (choice : Choice chosen) (q : Row) (c : chosen 
   never-local : eqb (tableNamed q) localTable ≡ true → unchosen chosen mainTable ≡ false
   never-local e = absurd (true≢false (ap not (sym (choice .not-255)) ∙ ap (unchosen chosen) (sym (eqb-true (tableNamed q) localTable e)) ∙ choice-named))
 
-  pub addRoute4-unseen : (st : State) → ordered (st .routes) ≡ true → Hidden chosen st (addRoute4 q st)
-  addRoute4-unseen st o = addRoute4-hidden chosen q choice-named never-local st o
+  pub added-unseen : (insert : Insertion) → InsertsUnseen chosen insert → (st : State) → ordered (st .routes) ≡ true → Hidden chosen st (addedBy insert q st)
+  added-unseen insert i st o = added-hidden chosen q choice-named never-local insert i st o
 
   pub delRoute4Request-unseen : (st : State) → Hidden chosen st (delRoute4Request q st)
   delRoute4Request-unseen st = delRoute4Request-hidden chosen q choice-named never-local st

@@ -13,23 +13,26 @@ use Rattle.lists.specs.Lists.{Row}
 use Rattle.lists.specs.Bools.{and-left}
 use Rattle.life.specs.Life.{allowance}
 use Rattle.layout.specs.Address.{optional}
-use Rattle.layout.specs.Request.{fitAddV4, fitDelV4, fitAddRoute4, fitDelRoute4}
+use Rattle.layout.specs.Request.{addRoute4Size, fitAddV4, fitDelV4, fitAddRoute4, fitDelRoute4}
 use Rattle.definition.specs.State.{State, Out}
 use Rattle.definition.specs.Call.{Call, Reply, refusal, valued, optionally, foundRow}
 use Rattle.definition.specs.Reference.Lookup.{Found, lookup4, lookup4Flow, flowTo, lookupIn}
 use Rattle.definition.specs.Reference.Source.{source4, select4, present}
 use Rattle.definition.specs.Reference.Addresses.{Outcome, goes, up, down}
 use Rattle.definition.specs.Reference.Removal.{expire}
-use Rattle.definition.specs.Step.{Checks, Action, changes, replies, lists, Semantics, going, query, unless, eventsFit, requestIs, clockLimit, semantics}
+use Rattle.definition.specs.Reference.Insert.{create4, Insertion, insert4}
+use Rattle.definition.specs.Reference.Routes.{tableNamed, addedBy}
+use Rattle.definition.specs.Step.{Checks, Action, changes, replies, lists, Semantics, going, query, unless, eventsFit, requestIs, clockLimit, semantics, routed}
 use Rattle.definition.specs.Preservation.Fit.{Fit, fit-state}
+use Rattle.definition.specs.Preservation.Routes.{insert-fit}
 use Rattle.definition.specs.Preservation.Encode.{Good}
 use Rattle.definition.specs.Preservation.Keeps.{Keeps, KeptOutcome}
 use Rattle.definition.specs.Preservation.Addresses.{addV4-keeps, up-keeps, down-keeps}
 use Rattle.definition.specs.Preservation.Removal.{delV4-keeps, expire-keeps}
-use Rattle.definition.specs.Preservation.Requests.{addRoute4-keeps, delRoute4-keeps}
-use Rattle.definition.specs.Preservation.Numbers.{Numbered, OfFound, lookup-number, addV4-number, delV4-number, addRoute4-number, delRoute4-number}
-use Rattle.definition.specs.Preservation.Refused.{Leaves, addV4-leaves, delV4-leaves, addRoute4-leaves, delRoute4-leaves}
-use Rattle.definition.specs.Preservation.Emitted.{EventBound, EventBoundOutcome, up-eventBound, down-eventBound, addV4-eventBound, delV4-eventBound, expire-eventBound, addRoute4-eventBound, delRoute4-eventBound}
+use Rattle.definition.specs.Preservation.Requests.{delRoute4-keeps, Fits, added-keeps}
+use Rattle.definition.specs.Preservation.Numbers.{Numbered, OfFound, lookup-number, addV4-number, delV4-number, delRoute4-number, Numbers, insert-number, added-number}
+use Rattle.definition.specs.Preservation.Refused.{Leaves, addV4-leaves, delV4-leaves, delRoute4-leaves, added-leaves}
+use Rattle.definition.specs.Preservation.Emitted.{EventBound, EventBoundOutcome, up-eventBound, down-eventBound, addV4-eventBound, delV4-eventBound, expire-eventBound, delRoute4-eventBound, added-eventBound}
 
 -- the checks are passed
 pub record Passes (k : Checks) : Type 0 where
@@ -93,6 +96,25 @@ going-lawful events request f r k b =
       acts = record { sound = λ st g p. record { kept = k .kept st (fit st g); eventBound = b st g; numbered = tt; leaves = tt } };
     }
 
+-- a request to add a route, by some insertion
+added-lawful : (insert : Insertion) → Fits insert → Numbers insert → (q : Row) (events request : ℕ) → request ≢ 203 → (request ≡ 0 → fitAddRoute4 q ≡ true)
+    → Lawful (routed addRoute4Size q events request (create4 (tableNamed q)) (addedBy insert q))
+added-lawful insert fits numbers q events request r passed =
+    record {
+      request = r;
+      acts =
+          record {
+            sound = λ st g p.
+                let fitted = passed (p .fit) in
+                record {
+                  kept = added-keeps insert fits q (sized-request 34 events q (p .room)) fitted .kept st (fit st g);
+                  eventBound = added-eventBound st g insert q;
+                  numbered = added-number insert numbers q st fitted;
+                  leaves = added-leaves insert q st;
+                };
+          };
+    }
+
 found-proper : (f : Found) → OfFound f → Proper (foundRow f)
 found-proper (Found.route r) o = record { alone = λ h. absurd (h refl); spaced = none-asked }
 found-proper (Found.refused n) o = record { alone = λ h. refl; spaced = λ e. omega (arith, o .most) }
@@ -133,20 +155,7 @@ lawful (Call.delV4 q events) =
 lawful (Call.expire events now) =
     going-lawful events (unless (leb now clockLimit) 202) (expire allowance now) (unless-202 (leb now clockLimit)) (expire-keeps allowance now) (λ st g. expire-eventBound st g allowance now)
 lawful (Call.addRoute4 q events) =
-    record {
-      request = unless-202 (fitAddRoute4 q);
-      acts =
-          record {
-            sound = λ st g p.
-                let fitted = unless-passed (fitAddRoute4 q) (p .fit) in
-                record {
-                  kept = addRoute4-keeps q (sized-request 34 events q (p .room)) fitted .kept st (fit st g);
-                  eventBound = addRoute4-eventBound st g q;
-                  numbered = addRoute4-number q st fitted;
-                  leaves = addRoute4-leaves q st;
-                };
-          };
-    }
+    added-lawful insert4 insert-fit insert-number q events (unless (fitAddRoute4 q) 202) (unless-202 (fitAddRoute4 q)) (unless-passed (fitAddRoute4 q))
 lawful (Call.delRoute4 q events) =
     record {
       request = unless-202 (fitDelRoute4 q);

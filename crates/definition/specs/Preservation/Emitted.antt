@@ -16,10 +16,10 @@ use Rattle.layout.specs.Request.{fitAddV4, replaceAsked, nlmFlags}
 use Rattle.layout.specs.Route.{table, prefsrcPresent}
 use Rattle.definition.specs.State.{State, Sizes, Out, sizes, stays, also}
 use Rattle.definition.specs.Words.{within}
-use Rattle.definition.specs.Reference.Insert.{create4, insert4, Inserted, put, nothing, inserted, kernelAdd4, kernelDel4, named, removed, kernelFlags}
+use Rattle.definition.specs.Reference.Insert.{create4, insert4, Inserted, put, nothing, inserted, kernelAdd4, kernelDel4, named, removed, kernelFlags, Insertion}
 use Rattle.definition.specs.Reference.Addresses.{Outcome, goes, refused, prefixRoute, moved, reroutes, changeV4, addedOver, addV4, sameAddress, up, down}
 use Rattle.definition.specs.Reference.Removal.{deletes, deletedAt, removeV4, delV4, expire}
-use Rattle.definition.specs.Reference.Routes.{Reached, formCheck, reachCheck, tableNamed, badPrefix, askedRoute, validPrefsrc4, insertedAs, routed, addRoute4, selects, deletedRoute, delRoute4Request}
+use Rattle.definition.specs.Reference.Routes.{Reached, formCheck, reachCheck, tableNamed, badPrefix, askedRoute, validPrefsrc4, insertedAs, routed, selects, deletedRoute, delRoute4Request, addedBy}
 use Rattle.definition.specs.Reference.Lookup.{listed}
 use Rattle.definition.specs.Preservation.Fit.{Fit, fit-state}
 use Rattle.definition.specs.Preservation.Encode.{Good}
@@ -102,11 +102,11 @@ insertedAs-eventBound new (put rows flags) st = eventBound _ (omega arith)
 insertedAs-eventBound new nothing st = eventBound (stays st) (omega arith)
 insertedAs-eventBound new (Inserted.refused n) st = tt
 
-routed-eventBound : (q : Row) (r : Reached) (st : State) → EventBoundOutcome (routed q r st)
-routed-eventBound q (Reached.refused n) st = tt
-routed-eventBound q (Reached.by linked) st =
+routed-eventBound : (insert : Insertion) (q : Row) (r : Reached) (st : State) → EventBoundOutcome (routed insert q r st)
+routed-eventBound insert q (Reached.refused n) st = tt
+routed-eventBound insert q (Reached.by linked) st =
     cond-case EventBoundOutcome (eqb (prefsrcPresent q) 1 && not (validPrefsrc4 q st)) (λ e. tt)
-    (λ e. insertedAs-eventBound (askedRoute q linked) (insert4 (askedRoute q linked) (nlmFlags q) (st .routes)) st)
+    (λ e. insertedAs-eventBound (askedRoute q linked) (insert (askedRoute q linked) (nlmFlags q) (st .routes)) st)
 
 deletedRoute-eventBound : (q : Row) (o : Option Row) (st : State) → EventBoundOutcome (deletedRoute q o st)
 deletedRoute-eventBound q none st = tt
@@ -140,10 +140,10 @@ module _ (st : State) (g : Good st) where
   pub expire-eventBound : (early now : ℕ) → EventBound (expire early now st)
   expire-eventBound early now = drops-eventBound st (expire early now st) g (expire-drops early now st f)
 
-  pub addRoute4-eventBound : (q : Row) → EventBoundOutcome (addRoute4 q st)
-  unfolding addRoute4
-  addRoute4-eventBound q =
-      cond-case EventBoundOutcome (eqb (formCheck q) 0) (λ e. routed-eventBound q (reachCheck q (create4 (tableNamed q) st)) (create4 (tableNamed q) st)) (λ e. tt)
+  pub added-eventBound : (insert : Insertion) (q : Row) → EventBoundOutcome (addedBy insert q st)
+  unfolding addedBy
+  added-eventBound insert q =
+      cond-case EventBoundOutcome (eqb (formCheck q) 0) (λ e. routed-eventBound insert q (reachCheck q (create4 (tableNamed q) st)) (create4 (tableNamed q) st)) (λ e. tt)
 
   pub delRoute4-eventBound : (q : Row) → EventBoundOutcome (delRoute4Request q st)
   unfolding delRoute4Request

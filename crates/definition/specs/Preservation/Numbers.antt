@@ -17,10 +17,10 @@ use Rattle.layout.specs.Request.{fitAddRoute4, metricsError, oif, upAtAddRoute4
 use Rattle.definition.specs.State.{State}
 use Rattle.definition.specs.Step.{unfit}
 use Rattle.definition.specs.Reference.Lookup.{Flow, Found, route, answer, together, lookupIn, ruling, settled, rejects, listed, addrType4, defaultTable, mainTable, localTable, unicastKind, localKind}
-use Rattle.definition.specs.Reference.Insert.{create4, insert4, Inserted, put, nothing, isRow, exclFlag, replaceFlag, createFlag, appendFlag}
+use Rattle.definition.specs.Reference.Insert.{create4, Insertion, insert4, Inserted, put, nothing, isRow, exclFlag, replaceFlag, createFlag, appendFlag}
 use Rattle.definition.specs.Reference.Addresses.{Outcome, goes, refused, addedOver, addV4, sameAddress, linkScope, hostScope}
 use Rattle.definition.specs.Reference.Removal.{deletes, deletedAt, delV4}
-use Rattle.definition.specs.Reference.Routes.{Reached, then, refuse, badPrefix, deadFlags, unsupported, onlinkFlag, formCheck, onlinkCheck, toGateway, usable, foundOr, gatewayRoute, reachedBy, gateway4, reachCheck, askedRoute, validPrefsrc4, insertedAs, routed, addRoute4, tableNamed, selects, deletedRoute, delRoute4Request}
+use Rattle.definition.specs.Reference.Routes.{Reached, then, refuse, badPrefix, deadFlags, unsupported, onlinkFlag, formCheck, onlinkCheck, toGateway, usable, foundOr, gatewayRoute, reachedBy, gateway4, reachCheck, askedRoute, validPrefsrc4, insertedAs, routed, addedBy, tableNamed, selects, deletedRoute, delRoute4Request}
 
 -- a number of the errno list
 pub record Errno (n : ℕ) : Type 0 where
@@ -133,16 +133,20 @@ referred n e = record { positive = e .positive; fit = lt-leb 200 n (omega (arith
 abbrev refers : (n : ℕ) → 0 < n → n ≤ 133 → Referred n
 refers n h k = referred n (errno n h k)
 
-abbrev OfInserted : Inserted → Type 0
+abbrev pub OfInserted : Inserted → Type 0
 OfInserted (put rows flags) = Unit
 OfInserted nothing = Unit
-OfInserted (Inserted.refused n) = Errno n
+OfInserted (Inserted.refused n) = Referred n
 
-insert-number : (new : Row) (flags : ℕ) (l : List Row) → OfInserted (insert4 new flags l)
+-- an insertion that refuses with numbers of the reference
+abbrev pub Numbers : Insertion → Type 0
+Numbers insert = (new : Row) (flags : ℕ) (l : List Row) → OfInserted (insert new flags l)
+
+pub insert-number : (new : Row) (flags : ℕ) (l : List Row) → OfInserted (insert4 new flags l)
 unfolding insert4
 insert-number new flags l =
-    let there : Errno 17 = errno 17 (omega arith) (omega arith) in
-    let wanting : Errno 2 = errno 2 (omega arith) (omega arith) in
+    let there : Referred 17 = refers 17 (omega arith) (omega arith) in
+    let wanting : Referred 2 = refers 2 (omega arith) (omega arith) in
     cond-case OfInserted (any (alike new) l)
     (λ a. cond-case OfInserted (exclFlag flags) (λ b. there)
     (λ b. cond-case OfInserted (replaceFlag flags)
@@ -154,13 +158,13 @@ insert-number new flags l =
 insertedAs-number : (new : Row) (i : Inserted) (st : State) → OfInserted i → Numbered (insertedAs new i st)
 insertedAs-number new (put rows flags) st h = tt
 insertedAs-number new nothing st h = tt
-insertedAs-number new (Inserted.refused n) st h = referred n h
+insertedAs-number new (Inserted.refused n) st h = h
 
-routed-number : (q : Row) (r : Reached) (st : State) → OfReached r → Numbered (routed q r st)
-routed-number q (Reached.refused n) st h = referred n h
-routed-number q (Reached.by linked) st h =
+routed-number : (insert : Insertion) → Numbers insert → (q : Row) (r : Reached) (st : State) → OfReached r → Numbered (routed insert q r st)
+routed-number insert i q (Reached.refused n) st h = referred n h
+routed-number insert i q (Reached.by linked) st h =
     cond-case Numbered (eqb (prefsrcPresent q) 1 && not (validPrefsrc4 q st)) (λ e. refers 22 (omega arith) (omega arith))
-    (λ e. insertedAs-number (askedRoute q linked) (insert4 (askedRoute q linked) (nlmFlags q) (st .routes)) st (insert-number (askedRoute q linked) (nlmFlags q) (st .routes)))
+    (λ e. insertedAs-number (askedRoute q linked) (insert (askedRoute q linked) (nlmFlags q) (st .routes)) st (i (askedRoute q linked) (nlmFlags q) (st .routes)))
 
 metrics-most : (q : Row) → fitAddRoute4 q ≡ true → metricsError q ≤ 133
 unfolding fitAddRoute4
@@ -174,11 +178,11 @@ form-most q h =
     (then-most (metricsError q) _ (metrics-most q h)
     (refuse-most (not (isKind (kind q))) (cond (unsupported (kind q)) 95 22) (cond-case (λ (n : ℕ). n ≤ 133) (unsupported (kind q)) (λ e. omega arith) (λ e. omega arith)))))
 
-pub addRoute4-number : (q : Row) (st : State) → fitAddRoute4 q ≡ true → Numbered (addRoute4 q st)
-unfolding addRoute4
-addRoute4-number q st h =
+pub added-number : (insert : Insertion) → Numbers insert → (q : Row) (st : State) → fitAddRoute4 q ≡ true → Numbered (addedBy insert q st)
+unfolding addedBy
+added-number insert i q st h =
     let made : State = create4 (tableNamed q) st in
-    cond-case Numbered (eqb (formCheck q) 0) (λ e. routed-number q (reachCheck q made) made (reach-number q made))
+    cond-case Numbered (eqb (formCheck q) 0) (λ e. routed-number insert i q (reachCheck q made) made (reach-number q made))
     (λ e. refers (formCheck q) (not-zero (formCheck q) e) (form-most q h))
 
 deletedRoute-number : (q : Row) (o : Option Row) (st : State) → Numbered (deletedRoute q o st)

@@ -10,10 +10,10 @@ use Rattle.layout.specs.Route.{prefsrcPresent}
 use Rattle.layout.specs.Request.{replaceAsked, nlmFlags}
 use Rattle.definition.specs.State.{State}
 use Rattle.definition.specs.Reference.Lookup.{listed}
-use Rattle.definition.specs.Reference.Insert.{create4, insert4, Inserted}
+use Rattle.definition.specs.Reference.Insert.{create4, Insertion, Inserted}
 use Rattle.definition.specs.Reference.Addresses.{Outcome, goes, refused, addV4, addedOver, changeV4, sameAddress}
 use Rattle.definition.specs.Reference.Removal.{delV4, deletedAt, deletes}
-use Rattle.definition.specs.Reference.Routes.{Reached, addRoute4, routed, reachCheck, formCheck, insertedAs, askedRoute, validPrefsrc4, tableNamed, delRoute4Request, deletedRoute, badPrefix, selects}
+use Rattle.definition.specs.Reference.Routes.{Reached, addedBy, routed, reachCheck, formCheck, insertedAs, askedRoute, validPrefsrc4, tableNamed, delRoute4Request, deletedRoute, badPrefix, selects}
 
 -- where an outcome is a refusal, it leaves that state
 abbrev pub Leaves : State → Outcome → Type 0
@@ -56,14 +56,14 @@ inserted-leaves new (Inserted.put rows flags) st = tt
 inserted-leaves new Inserted.nothing st = tt
 inserted-leaves new (Inserted.refused n) st = refl
 
-routed-leaves : (q : Row) (r : Reached) (st : State) → Leaves st (routed q r st)
-routed-leaves q (Reached.refused n) st = refl
-routed-leaves q (Reached.by linked) st =
-    leaves-either st (eqb (prefsrcPresent q) 1 && not (validPrefsrc4 q st)) (refused 22 st) (insertedAs (askedRoute q linked) (insert4 (askedRoute q linked) (nlmFlags q) (st .routes)) st) refl
-    (inserted-leaves (askedRoute q linked) (insert4 (askedRoute q linked) (nlmFlags q) (st .routes)) st)
+routed-leaves : (insert : Insertion) (q : Row) (r : Reached) (st : State) → Leaves st (routed insert q r st)
+routed-leaves insert q (Reached.refused n) st = refl
+routed-leaves insert q (Reached.by linked) st =
+    leaves-either st (eqb (prefsrcPresent q) 1 && not (validPrefsrc4 q st)) (refused 22 st) (insertedAs (askedRoute q linked) (insert (askedRoute q linked) (nlmFlags q) (st .routes)) st) refl
+    (inserted-leaves (askedRoute q linked) (insert (askedRoute q linked) (nlmFlags q) (st .routes)) st)
 
-pub addRoute4-leaves : (q : Row) (st : State) → Leaves (create4 (tableNamed q) st) (addRoute4 q st)
-unfolding addRoute4
-addRoute4-leaves q st =
+pub added-leaves : (insert : Insertion) (q : Row) (st : State) → Leaves (create4 (tableNamed q) st) (addedBy insert q st)
+unfolding addedBy
+added-leaves insert q st =
     let made = create4 (tableNamed q) st in
-    leaves-either made (eqb (formCheck q) 0) (routed q (reachCheck q made) made) (refused (formCheck q) made) (routed-leaves q (reachCheck q made) made) refl
+    leaves-either made (eqb (formCheck q) 0) (routed insert q (reachCheck q made) made) (refused (formCheck q) made) (routed-leaves insert q (reachCheck q made) made) refl

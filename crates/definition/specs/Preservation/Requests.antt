@@ -1,8 +1,9 @@
 -- A request to add or to delete a route keeps a fit state fit.
 -- Assumes nothing.
+use Prim.Native.Nat.{ℕ}
 use mathlib.Core.Path.{_≡_, refl}
 use mathlib.Core.Bool.{Bool, true, not, _&&_}
-use mathlib.Core.List.{[], _∷_}
+use mathlib.Core.List.{List, [], _∷_}
 use mathlib.Core.Option.{Option, none, some}
 use lib.Dec.{eqb}
 use lib.ListN.{length}
@@ -15,10 +16,10 @@ use Rattle.layout.specs.Event.{newRoute4, delRoute4}
 use Rattle.layout.specs.Request.{fitAddRoute4, nlmFlags}
 use Rattle.definition.specs.State.{State, withRoutes}
 use Rattle.definition.specs.Reference.Lookup.{listed}
-use Rattle.definition.specs.Reference.Insert.{create4, insert4, Inserted, put, nothing}
-use Rattle.definition.specs.Reference.Routes.{addRoute4, routed, Reached, insertedAs, askedRoute, reachCheck, validPrefsrc4, formCheck, badPrefix, tableNamed, selects, deletedRoute, delRoute4Request}
-use Rattle.definition.specs.Preservation.Fit.{Fit}
-use Rattle.definition.specs.Preservation.Routes.{removeFirst-fit, Puts, insert-fit}
+use Rattle.definition.specs.Reference.Insert.{create4, Insertion, Inserted, put, nothing}
+use Rattle.definition.specs.Reference.Routes.{addedBy, routed, Reached, insertedAs, askedRoute, reachCheck, validPrefsrc4, formCheck, badPrefix, tableNamed, selects, deletedRoute, delRoute4Request}
+use Rattle.definition.specs.Preservation.Fit.{Fit, FitRoutes}
+use Rattle.definition.specs.Preservation.Routes.{removeFirst-fit, Puts}
 use Rattle.definition.specs.Preservation.Keeps.{KeptOutcome, KeepsOutcome, fit-routes, becomes-kept, stays-keeps}
 use Rattle.definition.specs.Preservation.Rows.{askedRoute-fit, newRoute4-emitted, delRoute4-emitted}
 use Rattle.definition.specs.Preservation.Addresses.{create4-fit}
@@ -29,23 +30,27 @@ insertedAs-kept new (put rows flags) st h p f =
 insertedAs-kept new nothing st h p f = stays-keeps .kept st f
 insertedAs-kept new (Inserted.refused n) st h p f = f
 
-routed-kept : (q : Row) (r : Reached) (st : State) → ((linked : Bool) → fitRoute (askedRoute q linked) ≡ true) → Fit st
-    → KeptOutcome (routed q r st)
-routed-kept q (Reached.refused n) st h f = f
-routed-kept q (Reached.by linked) st h f =
-    cond-case KeptOutcome (eqb (prefsrcPresent q) 1 && not (validPrefsrc4 q st)) (λ e. f)
-    (λ e. insertedAs-kept (askedRoute q linked) (insert4 (askedRoute q linked) (nlmFlags q) (st .routes)) st (h linked)
-    (insert-fit (askedRoute q linked) (nlmFlags q) (st .routes) (h linked) (f .ofRoutes)) f)
+-- an insertion that leaves fit rows
+abbrev pub Fits : Insertion → Type 0
+Fits insert = (new : Row) (flags : ℕ) (l : List Row) → fitRoute new ≡ true → FitRoutes l → Puts (insert new flags l)
 
-pub addRoute4-keeps : (q : Row) → length q ≡ 34 → fitAddRoute4 q ≡ true → KeepsOutcome (addRoute4 q)
-unfolding addRoute4
-addRoute4-keeps q long fit =
+routed-kept : (insert : Insertion) → Fits insert → (q : Row) (r : Reached) (st : State) → ((linked : Bool) → fitRoute (askedRoute q linked) ≡ true) → Fit st
+    → KeptOutcome (routed insert q r st)
+routed-kept insert i q (Reached.refused n) st h f = f
+routed-kept insert i q (Reached.by linked) st h f =
+    cond-case KeptOutcome (eqb (prefsrcPresent q) 1 && not (validPrefsrc4 q st)) (λ e. f)
+    (λ e. insertedAs-kept (askedRoute q linked) (insert (askedRoute q linked) (nlmFlags q) (st .routes)) st (h linked)
+    (i (askedRoute q linked) (nlmFlags q) (st .routes) (h linked) (f .ofRoutes)) f)
+
+pub added-keeps : (insert : Insertion) → Fits insert → (q : Row) → length q ≡ 34 → fitAddRoute4 q ≡ true → KeepsOutcome (addedBy insert q)
+unfolding addedBy
+added-keeps insert i q long fit =
     record {
       kept = λ st f.
           let made : State = create4 (tableNamed q) st in
           let g : Fit made = create4-fit (tableNamed q) st f in
           cond-case KeptOutcome (eqb (formCheck q) 0)
-          (λ e. routed-kept q (reachCheck q made) made (λ linked. askedRoute-fit q linked long fit (eqb-true (formCheck q) 0 e)) g)
+          (λ e. routed-kept insert i q (reachCheck q made) made (λ linked. askedRoute-fit q linked long fit (eqb-true (formCheck q) 0 e)) g)
           (λ e. g);
     }
 

@@ -56,6 +56,10 @@ abbrev pub isRow : Row → Option Row → Bool
 isRow new none = Bool.false
 isRow new (some r) = eqRow new r
 
+-- a way to put a row in, by the flags of a request
+abbrev pub Insertion : Type 0
+Insertion = Row → ℕ → List Row → Inserted
+
 -- Among the rows alike in table, dst, len, tos and priority: EXCL refuses; with REPLACE it takes the first one's place, unless
 -- it is there already; else the same row again is refused, and it goes before them, or after them with APPEND.
 -- Without CREATE a row more is refused.

@@ -15,7 +15,7 @@ use Rattle.layout.specs.Request.{oif, rtmFlags, nlmFlags, metricsError, metrics
 use Rattle.definition.specs.State.{State, becomes, stays, withRoutes}
 use Rattle.definition.specs.Reference.Lookup.{Flow, Found, answer, together, lookupIn, addrType4, listed, rejects, mainTable, localTable, unicastKind, localKind}
 use Rattle.definition.specs.Reference.Lookup.Found.{route}
-use Rattle.definition.specs.Reference.Insert.{create4, insert4, Inserted}
+use Rattle.definition.specs.Reference.Insert.{create4, Insertion, insert4, Inserted}
 use Rattle.definition.specs.Reference.Addresses.{Outcome, linkScope, hostScope}
 
 -- table 0 is 254
@@ -155,18 +155,21 @@ insertedAs new (Inserted.put rows flags) st =
 insertedAs new Inserted.nothing st = Outcome.goes (stays st)
 insertedAs new (Inserted.refused n) st = Outcome.refused n st
 
-abbrev pub routed : Row → Reached → State → Outcome
-routed q (refused n) st = Outcome.refused n st
-routed q (by linked) st =
+abbrev pub routed : Insertion → Row → Reached → State → Outcome
+routed insert q (refused n) st = Outcome.refused n st
+routed insert q (by linked) st =
     let new = askedRoute q linked in
     cond (eqb (prefsrcPresent q) 1 && not (validPrefsrc4 q st)) (Outcome.refused 22 st)
-    (insertedAs new (insert4 new (nlmFlags q) (st .routes)) st)
+    (insertedAs new (insert new (nlmFlags q) (st .routes)) st)
 
 -- the table is listed whatever comes of it
-unfoldable pub addRoute4 : Row → State → Outcome
-addRoute4 q st =
+unfoldable pub addedBy : Insertion → Row → State → Outcome
+addedBy insert q st =
     let made = create4 (tableNamed q) st in
-    cond (eqb (formCheck q) 0) (routed q (reachCheck q made) made) (Outcome.refused (formCheck q) made)
+    cond (eqb (formCheck q) 0) (routed insert q (reachCheck q made) made) (Outcome.refused (formCheck q) made)
+
+abbrev pub addRoute4 : Row → State → Outcome
+addRoute4 q st = addedBy insert4 q st
 
 -- ---- del_route4
 -- the metrics that the request names, as index and value
