@@ -1,4 +1,5 @@
--- Of the tables other than 0, 253, 254 and 255 a request reads and writes only the one that it names.
+-- Of the tables other than 0, 253, 254 and 255 a request reads and writes only the one that it names. This is of the reference,
+-- whose lists have no limits: whether a request is refused with 203 depends on the rows and the tables of all.
 -- Assumes nothing.
 use Prim.Native.Nat.{ℕ}
 use mathlib.Core.Path.{_≡_, refl, sym, ap, _∙_}
