@@ -40,12 +40,12 @@ ofOutcome (Outcome.refused n st) = some n
 
 abbrev pub ofReached : Reached → Option ℕ
 ofReached (Reached.by linked) = none
-ofReached (Reached.refused n) = some n
+ofReached (Reached.unreached n) = some n
 
 abbrev pub ofInserted : Inserted → Option ℕ
-ofInserted (Inserted.put rows flags) = none
+ofInserted (Inserted.placed rows flags) = none
 ofInserted Inserted.nothing = none
-ofInserted (Inserted.refused n) = some n
+ofInserted (Inserted.unplaced n) = some n
 
 -- as a cause: it holds where there is a number
 abbrev pub causeOf : Option ℕ → Cause
@@ -85,7 +85,7 @@ ofDevice q made =
 -- the row that goes in: whether a route of link scope reaches its gateway is known by then
 abbrev pub linkedBy : Reached → Bool
 linkedBy (Reached.by linked) = linked
-linkedBy (Reached.refused n) = false
+linkedBy (Reached.unreached n) = false
 
 abbrev pub newRow : Row → State → Row
 newRow q made = askedRoute q (linkedBy (reachCheck q made))
@@ -129,7 +129,7 @@ unfolding formCheck
 form-order q = form-turn (badPrefix q) (ltb (scope q) (leastScope (kind q)) || deadFlags q) (not (isKind (kind q))) (unsupported (kind q)) (metricsError q)
 
 device-turn : (a b c g o d l u : Bool) (y : Reached)
-    → ofReached (cond a (plain (refuse (g || o) 22)) (cond b (Reached.refused 22) (cond c (plain (then (refuse g 22) (refuse d 19))) (cond g y (plain (then (refuse l 22) (then (refuse d 19) (refuse u 100))))))))
+    → ofReached (cond a (plain (refuse (g || o) 22)) (cond b (Reached.unreached 22) (cond c (plain (then (refuse g 22) (refuse d 19))) (cond g y (plain (then (refuse l 22) (then (refuse d 19) (refuse u 100))))))))
     ≡ firstOf
     (cause (a && (g || o)) 22
     ∷ cause (not a && b) 22
@@ -148,7 +148,7 @@ device-turn false false true true o d l u y = refl
 device-turn false false true false o true l u y = refl
 device-turn false false true false o false l u y = refl
 device-turn false false false true o d l u (Reached.by linked) = refl
-device-turn false false false true o d l u (Reached.refused n) = refl
+device-turn false false false true o d l u (Reached.unreached n) = refl
 device-turn false false false false o d true u y = refl
 device-turn false false false false o true false u y = refl
 device-turn false false false false o false false true y = refl
@@ -163,13 +163,13 @@ device-order q made =
 row-turn : (p : Bool) (new : Row) (i : Inserted) (made : State)
     → ofOutcome (cond p (Outcome.refused 22 made) (insertedAs new i made)) ≡ firstOf (cause p 22 ∷ causeOf (ofInserted i) ∷ [])
 row-turn true new i made = refl
-row-turn false new (Inserted.put rows flags) made = refl
+row-turn false new (Inserted.placed rows flags) made = refl
 row-turn false new Inserted.nothing made = refl
-row-turn false new (Inserted.refused n) made = refl
+row-turn false new (Inserted.unplaced n) made = refl
 
 row-order : (q : Row) (r : Reached) (made : State)
     → ofOutcome (routed q r made) ≡ orNumber (ofReached r) (firstOf (ofRow q (askedRoute q (linkedBy r)) made))
-row-order q (Reached.refused n) made = refl
+row-order q (Reached.unreached n) made = refl
 row-order q (Reached.by linked) made =
     row-turn (eqb (prefsrcPresent q) 1 && not (validPrefsrc4 q made)) (askedRoute q linked) (insert4 (askedRoute q linked) (nlmFlags q) (made .routes)) made
 
@@ -190,12 +190,12 @@ order q st =
 
 -- "table listed": first of all, whatever comes of the request
 inserted-tables : (new : Row) (i : Inserted) (made : State) → result (insertedAs new i made) .tables ≡ made .tables
-inserted-tables new (Inserted.put rows flags) made = refl
+inserted-tables new (Inserted.placed rows flags) made = refl
 inserted-tables new Inserted.nothing made = refl
-inserted-tables new (Inserted.refused n) made = refl
+inserted-tables new (Inserted.unplaced n) made = refl
 
 routed-tables : (q : Row) (r : Reached) (made : State) → result (routed q r made) .tables ≡ made .tables
-routed-tables q (Reached.refused n) made = refl
+routed-tables q (Reached.unreached n) made = refl
 routed-tables q (Reached.by linked) made =
     cond-case (λ (o : Outcome). result o .tables ≡ made .tables) (eqb (prefsrcPresent q) 1 && not (validPrefsrc4 q made)) (λ e. refl)
     (λ e. inserted-tables (askedRoute q linked) (insert4 (askedRoute q linked) (nlmFlags q) (made .routes)) made)

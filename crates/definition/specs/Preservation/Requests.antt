@@ -15,7 +15,7 @@ use Rattle.layout.specs.Event.{newRoute4, delRoute4}
 use Rattle.layout.specs.Request.{fitAddRoute4, nlmFlags}
 use Rattle.definition.specs.State.{State, withRoutes}
 use Rattle.definition.specs.Reference.Lookup.{listed}
-use Rattle.definition.specs.Reference.Insert.{create4, insert4, Inserted, put, nothing}
+use Rattle.definition.specs.Reference.Insert.{create4, insert4, Inserted, placed, nothing}
 use Rattle.definition.specs.Reference.Routes.{addRoute4, routed, Reached, insertedAs, askedRoute, reachCheck, validPrefsrc4, formCheck, badPrefix, tableNamed, selects, deletedRoute, delRoute4Request}
 use Rattle.definition.specs.Preservation.Fit.{Fit}
 use Rattle.definition.specs.Preservation.Routes.{removeFirst-fit, Puts, insert-fit}
@@ -24,14 +24,14 @@ use Rattle.definition.specs.Preservation.Rows.{askedRoute-fit, newRoute4
 use Rattle.definition.specs.Preservation.Addresses.{create4-fit}
 
 insertedAs-kept : (new : Row) (i : Inserted) (st : State) → fitRoute new ≡ true → Puts i → Fit st → KeptOutcome (insertedAs new i st)
-insertedAs-kept new (put rows flags) st h p f =
+insertedAs-kept new (placed rows flags) st h p f =
     becomes-kept (withRoutes rows st) (newRoute4 new flags ∷ []) (newRoute4-emitted new flags h) (fit-routes st rows f p)
 insertedAs-kept new nothing st h p f = stays-keeps .kept st f
-insertedAs-kept new (Inserted.refused n) st h p f = f
+insertedAs-kept new (Inserted.unplaced n) st h p f = f
 
 routed-kept : (q : Row) (r : Reached) (st : State) → ((linked : Bool) → fitRoute (askedRoute q linked) ≡ true) → Fit st
     → KeptOutcome (routed q r st)
-routed-kept q (Reached.refused n) st h f = f
+routed-kept q (Reached.unreached n) st h f = f
 routed-kept q (Reached.by linked) st h f =
     cond-case KeptOutcome (eqb (prefsrcPresent q) 1 && not (validPrefsrc4 q st)) (λ e. f)
     (λ e. insertedAs-kept (askedRoute q linked) (insert4 (askedRoute q linked) (nlmFlags q) (st .routes)) st (h linked)

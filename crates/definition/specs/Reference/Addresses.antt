@@ -233,15 +233,15 @@ loopback =
     ∷ []
 
 -- a refusal leaves all as it was
-abbrev pub step : Outcome → Out
-step (goes o) = o
-step (refused n st) = stays st
+abbrev pub outOf : Outcome → Out
+outOf (goes o) = o
+outOf (refused n st) = stays st
 
 -- 127.0.0.1 if it isn't there, with its routes; then the routes that every address has, in the addresses' order
 -- [up; inetdev_event, fib_netdev_event]
 unfoldable pub up : ℕ → State → Out
 up now st =
-    also (step (addV4 loopback now st))
+    also (outOf (addV4 loopback now st))
     (λ later. through (λ a. bring (candidates (later .addresses) Bool.true a)) (later .addresses) later)
 
 -- the routes through the device go, but for those of host scope, without a word [down; fib_sync_down_dev]

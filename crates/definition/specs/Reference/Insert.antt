@@ -38,9 +38,9 @@ appendFlag f = hasBit appendBit f
 
 -- what comes of an insertion: the rows afterwards with the flags told, nothing to do, or a refusal [insert4's Result]
 pub data Inserted : Type 0 where
-  put : List Row → ℕ → Inserted
+  placed : List Row → ℕ → Inserted
   nothing : Inserted
-  refused : ℕ → Inserted
+  unplaced : ℕ → Inserted
 
 -- in its place in the order, before the alike rows [partition_point and `first` in insert4]
 unfoldable pub ahead : Row → List Row → List Row
@@ -63,22 +63,22 @@ isRow new (some r) = eqRow new r
 unfoldable pub insert4 : Row → ℕ → List Row → Inserted
 insert4 new flags rows =
     cond (any (alike new) rows)
-    (cond (exclFlag flags) (refused 17)
+    (cond (exclFlag flags) (unplaced 17)
     (cond (replaceFlag flags)
     (cond (isRow new (first (alike new) rows)) nothing
-    (cond (any (eqRow new) rows) (refused 17) (put (replaceFirst (alike new) new rows) (flag replaceBit))))
-    (cond (any (eqRow new) rows) (refused 17)
+    (cond (any (eqRow new) rows) (unplaced 17) (placed (replaceFirst (alike new) new rows) (flag replaceBit))))
+    (cond (any (eqRow new) rows) (unplaced 17)
     (cond (createFlag flags)
-    (cond (appendFlag flags) (put (behind new rows) (flag createBit + flag appendBit)) (put (ahead new rows) (flag createBit)))
-    (refused 2)))))
-    (cond (createFlag flags) (put (ahead new rows) (flag createBit + flag exclBit)) (refused 2))
+    (cond (appendFlag flags) (placed (behind new rows) (flag createBit + flag appendBit)) (placed (ahead new rows) (flag createBit)))
+    (unplaced 2)))))
+    (cond (createFlag flags) (placed (ahead new rows) (flag createBit + flag exclBit)) (unplaced 2))
 
 -- ---- the kernel's own routes
 -- an insertion whose refusal nobody hears of
 abbrev pub inserted : Row → Inserted → State → Out
-inserted new (put rows flags) st = becomes (withRoutes rows st) (newRoute4 new flags ∷ [])
+inserted new (placed rows flags) st = becomes (withRoutes rows st) (newRoute4 new flags ∷ [])
 inserted new nothing st = stays st
-inserted new (refused n) st = stays st
+inserted new (unplaced n) st = stays st
 
 -- the flags of the kernel's own requests [F_CREATE | F_APPEND]
 abbrev pub kernelFlags : ℕ

@@ -44,7 +44,7 @@ leaving addresses a =
 
 -- those of them that no remaining address wants
 unfoldable pub unwanted : List Row → List Row → Row → List Row
-unwanted addresses left a = keep (λ r. not (wanted left r)) (leaving addresses a)
+unwanted addresses remaining a = keep (λ r. not (wanted remaining r)) (leaving addresses a)
 
 -- main rows with the preferred source [`stray` in remove_v4]
 abbrev pub dependentOn : ℕ → Row → Bool
@@ -73,9 +73,9 @@ disable st = cond (eqb (length (st .addresses)) 0) (silently (deviceless st)) (s
 -- one address goes: the first row equal to it, told; then its routes that none wants; then what falls with it [the loop of remove_v4]
 unfoldable pub removeOne : Row → State → Out
 removeOne a st =
-    let left = removeFirst (eqRow a) (st .addresses) in
-    let routes = unwanted (st .addresses) left a in
-    also (also (also (becomes (withAddresses left st) (delAddr4 a ∷ []))
+    let remaining = removeFirst (eqRow a) (st .addresses) in
+    let routes = unwanted (st .addresses) remaining a in
+    also (also (also (becomes (withAddresses remaining st) (delAddr4 a ∷ []))
     (through kernelDel4 routes))
     (fall a routes))
     disable

@@ -59,7 +59,7 @@ formCheck q =
 -- what a gateway's check comes to: whether a route of link scope reaches it, or a refusal's number [gateway4's Result]
 pub data Reached : Type 0 where
   by : Bool → Reached
-  refused : ℕ → Reached
+  unreached : ℕ → Reached
 
 -- on link it must be unicast to the local table, while up, for a route wider than link scope [the first half of gateway4]
 unfoldable pub onlinkCheck : Row → State → Reached
@@ -70,7 +70,7 @@ onlinkCheck q st =
     (then (refuse (eqb (upAtAddRoute4 q) 0) 100)
     (refuse (not (eqb (addrType4 st (gateway q) localTable) unicastKind)) 22)))
     in
-    cond (eqb number 0) (by true) (refused number)
+    cond (eqb number 0) (by true) (unreached number)
 
 -- the flow to a gateway: one scope narrower than the route's, link scope at least [`scope` in gateway4]
 abbrev pub toGateway : Row → Flow
@@ -94,11 +94,11 @@ gatewayRoute q st =
 
 -- by a unicast or local route, while up [the end of gateway4]
 abbrev pub reachedBy : Row → Found → Reached
-reachedBy q (Found.refused n) = refused n
+reachedBy q (Found.refused n) = unreached n
 reachedBy q (route r) =
     cond (eqb (kind r) unicastKind || eqb (kind r) localKind)
-    (cond (eqb (upAtAddRoute4 q) 0) (refused 100) (by (eqb (scope r) linkScope)))
-    (refused 22)
+    (cond (eqb (upAtAddRoute4 q) 0) (unreached 100) (by (eqb (scope r) linkScope)))
+    (unreached 22)
 
 -- on link the gateway need not be reached; else a route must lead to it [gateway4; fib_check_nh_v4_gw]
 unfoldable pub gateway4 : Row → State → Reached
@@ -106,14 +106,14 @@ gateway4 q st = cond (onlinkFlag q) (onlinkCheck q st) (reachedBy q (gatewayRout
 
 -- a check that involves no gateway
 abbrev pub plain : ℕ → Reached
-plain n = cond (eqb n 0) (by false) (refused n)
+plain n = cond (eqb n 0) (by false) (unreached n)
 
 -- device and gateway [the middle of add_route4]
 unfoldable pub reachCheck : Row → State → Reached
 reachCheck q st =
     let gatewayed = eqb (gatewayPresent q) 1 in
     cond (not (eqb (errorOf (kind q)) 0)) (plain (refuse (gatewayed || not (eqb (oif q) 0)) 22))
-    (cond (ltb hostScope (scope q)) (refused 22)
+    (cond (ltb hostScope (scope q)) (unreached 22)
     (cond (eqb (scope q) hostScope) (plain (then (refuse gatewayed 22) (refuse (not (eqb (oif q) 1)) 19)))
     (cond gatewayed (gateway4 q st)
     (plain
@@ -156,14 +156,14 @@ askedRoute q linked =
 
 -- an insertion whose refusal is the request's
 abbrev pub insertedAs : Row → Inserted → State → Outcome
-insertedAs new (Inserted.put rows flags) st =
+insertedAs new (Inserted.placed rows flags) st =
     Outcome.goes (becomes (withRoutes rows st) (newRoute4 new flags ∷ []))
 insertedAs new Inserted.nothing st = Outcome.goes (stays st)
-insertedAs new (Inserted.refused n) st = Outcome.refused n st
+insertedAs new (Inserted.unplaced n) st = Outcome.refused n st
 
 -- preferred source, then insertion [the end of add_route4]
 abbrev pub routed : Row → Reached → State → Outcome
-routed q (refused n) st = Outcome.refused n st
+routed q (unreached n) st = Outcome.refused n st
 routed q (by linked) st =
     let new = askedRoute q linked in
     cond (eqb (prefsrcPresent q) 1 && not (validPrefsrc4 q st)) (Outcome.refused 22 st)
