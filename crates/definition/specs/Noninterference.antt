@@ -6,7 +6,7 @@ pub mod Addresses
 pub mod Routes
 pub mod Struck
 pub mod Calls
-pub mod Apart
+pub mod Unwinding
 pub mod Theorem
 pub mod Computed
 pub mod Examples

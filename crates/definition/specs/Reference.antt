@@ -1,4 +1,5 @@
--- The reference over lists without limits, call by call. Each definition is in the words of the document that it names.
+-- The reference over lists without limits, call by call, in the words of the documents that the modules name. In brackets stands
+-- the function or constant of interface.rs that a definition speaks of, and after a semicolon Linux's, where interface.rs names it.
 pub mod Lookup
 pub mod Insert
 pub mod Addresses

@@ -65,7 +65,7 @@ pub record Semantics : Type 0 where
   pub action : Action
 
 -- ---- the refusals, in order
--- event rows that a call may need at most, and the words of the buffers
+-- event rows that suffice for every call (Preservation/Step: emitted-bound), and the words of the buffers
 abbrev pub eventLimit : ℕ
 eventLimit = 384
 

@@ -25,7 +25,7 @@ replaceAsked q = getD q 16 0
 abbrev pub upAtAddV4 : Row → ℕ
 upAtAddV4 q = getD q 17 0
 
--- the prefix is looked at first
+-- every clause gives 202 alike
 unfoldable pub fitAddV4 : Row → Bool
 fitAddV4 q =
     leb (prefix q) 32

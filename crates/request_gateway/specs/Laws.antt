@@ -17,7 +17,7 @@ use Rattle.layout.specs.Request.{oif, upAtAddRoute4}
 use Rattle.definition.specs.Reference.Lookup.{Flow, Found, route, answer, longest, together, fits, typeSet, localTable, mainTable}
 use Rattle.definition.specs.Reference.Addresses.{linkScope}
 use Rattle.definition.specs.Reference.Routes as Routes
-use Rattle.definition.specs.Reference.Routes.{refused, tableNamed, onlinkFlag, toGateway, usable, reachedBy}
+use Rattle.definition.specs.Reference.Routes.{unreached, tableNamed, onlinkFlag, toGateway, usable, reachedBy}
 use Rattle.rows_lookup.specs.AddrType.{typeRows}
 use Rattle.rows_lookup.specs.Answer.{lookupRows, foundBy}
 use Rattle.lists.specs.Place.{nothing-from, something-at}
@@ -106,5 +106,5 @@ flow-says q s e = ap (λ (n : ℕ). record { ip = gateway q; tos = 0; scope = n;
 pub reached-found : (q : Row) (l : List Row) (f : Looked) (i : ℕ) → f ≡ At i → (r : Routes.Reached) → r ≡ reachedBy q (route (getD l i [])) → r ≡ reachedBy q (foundBy l f)
 reached-found q l f i e r h = rw e h
 
-pub reached-refused : (q : Row) (l : List Row) (f : Looked) (n : ℕ) → f ≡ Refused n → refused n ≡ reachedBy q (foundBy l f)
+pub reached-refused : (q : Row) (l : List Row) (f : Looked) (n : ℕ) → f ≡ Refused n → unreached n ≡ reachedBy q (foundBy l f)
 reached-refused q l f n e = rw e

@@ -12,7 +12,7 @@ use Rattle.layout.specs.Route.{kind, scope, gatewayPresent}
 use Rattle.layout.specs.Request.{oif, upAtAddRoute4}
 use Rattle.definition.specs.Reference.Addresses.{hostScope}
 use Rattle.definition.specs.Reference.Routes as Routes
-use Rattle.definition.specs.Reference.Routes.{refused, onlinkFlag, then, refuse}
+use Rattle.definition.specs.Reference.Routes.{unreached, onlinkFlag, then, refuse}
 use Rattle.request_gateway.specs.Rows.{settled, gateway4Rows, reachRows}
 
 module _ (q : Row) (a b : Bool) (l : List Row) (e : ℕ) (error : e ≡ errorOf (kind q)) where
@@ -21,7 +21,7 @@ module _ (q : Row) (a b : Bool) (l : List Row) (e : ℕ) (error : e ≡ errorOf 
   reach-rejects z n m = rw (m, ← error, ne-eqb e 0 z)
 
   module _ (z : e ≡ 0) where
-    pub reach-over : hostScope < scope q → refused 22 ≡ reachRows q a b l
+    pub reach-over : hostScope < scope q → unreached 22 ≡ reachRows q a b l
     unfolding reachRows
     reach-over s = rw (← error, eq-eqb e 0 z, lt-ltb hostScope (scope q) s)
 

@@ -13,7 +13,7 @@ use Rattle.definition.specs.State.{State}
 use Rattle.definition.specs.Reference.Lookup.{Found, answer, together, lookupIn, addrType4, listed, typeSet, localTable, defaultTable, unicastKind, localKind}
 use Rattle.definition.specs.Reference.Addresses.{linkScope, hostScope}
 use Rattle.definition.specs.Reference.Routes as Routes
-use Rattle.definition.specs.Reference.Routes.{by, refused, tableNamed, onlinkFlag, then, refuse, onlinkCheck, toGateway, usable, foundOr, gatewayRoute, reachedBy, gateway4, plain, reachCheck}
+use Rattle.definition.specs.Reference.Routes.{by, unreached, tableNamed, onlinkFlag, then, refuse, onlinkCheck, toGateway, usable, foundOr, gatewayRoute, reachedBy, gateway4, plain, reachCheck}
 use Rattle.rows_lookup.specs.AddrType.{typeRows}
 use Rattle.rows_lookup.specs.Answer.{lookupRows}
 use Rattle.request_gateway.specs.declared.Reached.{Reached}
@@ -22,10 +22,10 @@ use Rattle.request_gateway.specs.declared.Reached.the-variants.{By, Refu
 -- the code's answer, as the definitions have it
 abbrev pub reachedOf : Reached → Routes.Reached
 reachedOf (By b) = by b
-reachedOf (Refused n) = refused n
+reachedOf (Refused n) = unreached n
 
 abbrev pub settled : ℕ → Bool → Routes.Reached
-settled n b = cond (eqb n 0) (by b) (refused n)
+settled n b = cond (eqb n 0) (by b) (unreached n)
 
 abbrev pub onlinkNumber : Row → ℕ → ℕ
 onlinkNumber q k =
@@ -44,7 +44,7 @@ gatewayRows q defaultListed l =
 
 abbrev pub rowReached : ℕ → ℕ → ℕ → Routes.Reached
 rowReached k s up =
-    cond (eqb k unicastKind || eqb k localKind) (cond (eqb up 0) (refused 100) (by (eqb s linkScope))) (refused 22)
+    cond (eqb k unicastKind || eqb k localKind) (cond (eqb up 0) (unreached 100) (by (eqb s linkScope))) (unreached 22)
 
 unfoldable pub gateway4Rows : Row → Bool → Bool → List Row → Routes.Reached
 gateway4Rows q localListed defaultListed l =
@@ -54,7 +54,7 @@ unfoldable pub reachRows : Row → Bool → Bool → List Row → Routes.Reached
 reachRows q localListed defaultListed l =
     let gatewayed = eqb (gatewayPresent q) 1 in
     cond (not (eqb (errorOf (kind q)) 0)) (plain (refuse (gatewayed || not (eqb (oif q) 0)) 22))
-    (cond (ltb hostScope (scope q)) (refused 22)
+    (cond (ltb hostScope (scope q)) (unreached 22)
     (cond (eqb (scope q) hostScope) (plain (then (refuse gatewayed 22) (refuse (not (eqb (oif q) 1)) 19)))
     (cond gatewayed (gateway4Rows q localListed defaultListed l)
     (plain

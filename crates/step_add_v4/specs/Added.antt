@@ -12,7 +12,7 @@ use Rattle.lists.specs.Lists.{Row, first}
 use Rattle.lists.specs.Place.{placeOf, first-at, nothing-from, something-at}
 use Rattle.layout.specs.Request.{replaceAsked, upAtAddV4}
 use Rattle.definition.specs.State.{State}
-use Rattle.definition.specs.Reference.Addresses.{Outcome, goes, refused, step, sameAddress, newAddress, changeV4, addedOver, addV4, loopback}
+use Rattle.definition.specs.Reference.Addresses.{Outcome, goes, refused, outOf, sameAddress, newAddress, changeV4, addedOver, addV4, loopback}
 use Rattle.definition.specs.Preservation.Keeps.{Keeps}
 use Rattle.definition.specs.Preservation.Addresses.{addV4-keeps, step-kept, loopback-fit}
 use Rattle.rows_place.specs.Rows.{freshRow}
@@ -72,10 +72,10 @@ refused-same q clock none st n x e =
     leftOf (refused m y) = y
 
 pub added-step : (q : Row) (clock : ℕ) (st : State) {w₀ w ev₀ ev : List ℕ} {r : Done} (t : Told) → t ≡ Rattle.step_add_v4.specs.Comes.emittedOf r → Represents w₀ st
-    → Comes (addV4 q clock st) w₀ w ev₀ ev r → EmitsOrFull (step (addV4 q clock st)) w ev₀ ev t
+    → Comes (addV4 q clock st) w₀ w ev₀ ev r → EmitsOrFull (outOf (addV4 q clock st)) w ev₀ ev t
 unfolding addV4
 added-step q clock st t e h c =
     comes-step (addedOver q clock (first (sameAddress q) (st .addresses)) st) st (refused-same q clock (first (sameAddress q) (st .addresses)) st) t e h c
 
-pub loopback-keeps : (clock : ℕ) → Keeps (λ st. step (addV4 loopback clock st))
+pub loopback-keeps : (clock : ℕ) → Keeps (λ st. outOf (addV4 loopback clock st))
 loopback-keeps clock = record { kept = λ st f. step-kept (addV4 loopback clock st) ((addV4-keeps loopback clock refl loopback-fit) .kept st f) }

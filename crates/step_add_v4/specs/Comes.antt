@@ -8,7 +8,7 @@ use mathlib.Core.List.{List}
 use lib.ListN.{length}
 use Rattle.definition.specs.State.{State, Out, stays}
 use Rattle.definition.specs.Words.{within}
-use Rattle.definition.specs.Reference.Addresses.{Outcome, goes, refused, step}
+use Rattle.definition.specs.Reference.Addresses.{Outcome, goes, refused, outOf}
 use Rattle.state.specs.Represents.{Represents}
 use Rattle.step_events.specs.Emits.{Emits}
 use Rattle.step_events.specs.EmitsOrFull.{EmitsOrFull, rowsOf, adds-none}
@@ -89,7 +89,7 @@ pub comes-refused : (n : ℕ) (st : State) {w ev : List ℕ} → Comes (refused 
 comes-refused n st = record { answer = refl; does = (refl, refl) }
 
 -- as a step
-pub comes-step : (u : Outcome) (st : State) → ((n : ℕ) (x : State) → u ≡ refused n x → x ≡ st) → {w₀ w ev₀ ev : List ℕ} {r : Done} (t : Told) → t ≡ emittedOf r → Represents w₀ st → Comes u w₀ w ev₀ ev r → EmitsOrFull (step u) w ev₀ ev t
+pub comes-step : (u : Outcome) (st : State) → ((n : ℕ) (x : State) → u ≡ refused n x → x ≡ st) → {w₀ w ev₀ ev : List ℕ} {r : Done} (t : Told) → t ≡ emittedOf r → Represents w₀ st → Comes u w₀ w ev₀ ev r → EmitsOrFull (outOf u) w ev₀ ev t
 comes-step (goes o) st s t e h c =
     record { answer = e ∙ ap emittedOf (c .answer) ∙ emitted-cond (within (o .peak)) (length (o .emitted)); does = c .does }
 comes-step (refused n x) st s {w₀} {w} {ev₀} {ev} t e h c =

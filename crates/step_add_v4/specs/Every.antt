@@ -16,7 +16,7 @@ use Rattle.layout.specs.Route.{fitRoute}
 use Rattle.definition.specs.State.{State, Out, through}
 use Rattle.definition.specs.Words.{fitState, addressCount}
 use Rattle.definition.specs.Reference.Insert.{kernelAdd4}
-use Rattle.definition.specs.Reference.Addresses.{candidates, bring, addV4, step, loopback, up}
+use Rattle.definition.specs.Reference.Addresses.{candidates, bring, addV4, outOf, loopback, up}
 use Rattle.definition.specs.Preservation.Fit.{fields-address}
 use Rattle.definition.specs.Preservation.Keeps.{Keeps, through-keeps, keeps-fit}
 use Rattle.definition.specs.Preservation.Rows.{candidates-fit}
@@ -147,19 +147,19 @@ module _ {s₀ ev₀ s ev : List ℕ} {i t : ℕ} (a : LoopInvariant s₀ ev₀ 
   sofar-end b st h f = adds-end (turn (st .addresses)) (st .addresses) st i (omega (arith, count-addresses h)) (a .adds st h f)
 
 -- ---- up: the loopback's address, then every address's routes
-module _ (clock : ℕ) {s₀ s ev₀ ev : List ℕ} {r : Told} (a : AddsFrom (λ st. step (addV4 loopback clock st)) s₀ s ev₀ ev r) where
+module _ (clock : ℕ) {s₀ s ev₀ ev : List ℕ} {r : Told} (a : AddsFrom (λ st. outOf (addV4 loopback clock st)) s₀ s ev₀ ev r) where
   pub up-full : r ≡ Full → {w ev′ : List ℕ} → AddsFrom (up clock) s₀ w ev₀ ev′ Full
   unfolding up
   up-full e st h f =
-      let full : EmitsOrFull (step (addV4 loopback clock st)) s ev₀ ev Full = subst (λ (q : Told). EmitsOrFull (step (addV4 loopback clock st)) s ev₀ ev q) e (a st h f) in
+      let full : EmitsOrFull (outOf (addV4 loopback clock st)) s ev₀ ev Full = subst (λ (q : Told). EmitsOrFull (outOf (addV4 loopback clock st)) s ev₀ ev q) e (a st h f) in
       adds-stop full every
 
   module _ (k : ℕ) (e : r ≡ Rows k) where
-    came : AddsFrom (λ st. step (addV4 loopback clock st)) s₀ s ev₀ ev (Rows k)
-    came st h f = subst (λ (q : Told). EmitsOrFull (step (addV4 loopback clock st)) s ev₀ ev q) e (a st h f)
+    came : AddsFrom (λ st. outOf (addV4 loopback clock st)) s₀ s ev₀ ev (Rows k)
+    came st h f = subst (λ (q : Told). EmitsOrFull (outOf (addV4 loopback clock st)) s ev₀ ev q) e (a st h f)
 
     pub up-sound : Sound s₀ → Sound s
-    up-sound v = adds-sound (λ st. step (addV4 loopback clock st)) (loopback-keeps clock) came v
+    up-sound v = adds-sound (λ st. outOf (addV4 loopback clock st)) (loopback-keeps clock) came v
 
     pub up-length : Sound s₀ → length ev ≡ length ev₀
     up-length v = does-length ((adds-rows (came (v .state) (v .holds) (v .fits))) .1)
@@ -168,5 +168,5 @@ module _ (clock : ℕ) {s₀ s ev₀ ev : List ℕ} {r : Told} (a : AddsFrom (λ
         → AddsFrom (up clock) s₀ w ev₀ (take (34 * k) ev ++ (x ++ drop (length ev - 34 * k) (drop (34 * k) ev))) z
     unfolding up
     up-done {w} {x} {r′} u z q st h f =
-        let later = (step (addV4 loopback clock st)) .state in
-        rw q (adds-also (came st h f) every (u later ((adds-rows (came st h f)) .1 .holds) (keeps-fit (λ y. step (addV4 loopback clock y)) (loopback-keeps clock) st f)))
+        let later = (outOf (addV4 loopback clock st)) .state in
+        rw q (adds-also (came st h f) every (u later ((adds-rows (came st h f)) .1 .holds) (keeps-fit (λ y. outOf (addV4 loopback clock y)) (loopback-keeps clock) st f)))

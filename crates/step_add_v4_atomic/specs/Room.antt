@@ -26,7 +26,7 @@ use Rattle.definition.specs.Words.{within, addressCount, routeCount, tableCount
 use Rattle.definition.specs.Reference.Lookup.{broadcastKind}
 use Rattle.definition.specs.Reference.Insert as Insert
 use Rattle.definition.specs.Reference.Insert.{addTable, listTable, create4, insert4, inserted, kernelAdd4, kernelDel4}
-use Rattle.definition.specs.Reference.Addresses.{Outcome, refused, step, only, kernelRoute, localRoute, prefixRoute, upRoutes, candidates, primaryOf, bring, place4, newAddress, changedTo, reroutes, moved, changeV4, addedOver, addV4, sameAddress, loopback, up, namesBroadcast, ownNetwork}
+use Rattle.definition.specs.Reference.Addresses.{Outcome, refused, outOf, only, kernelRoute, localRoute, prefixRoute, upRoutes, candidates, primaryOf, bring, place4, newAddress, changedTo, reroutes, moved, changeV4, addedOver, addV4, sameAddress, loopback, up, namesBroadcast, ownNetwork}
 use Rattle.definition.specs.Preservation.Growing.{Grows, insert-grows, no-replacing, length-place4}
 use Rattle.definition.specs.Preservation.Peaks.{kernelAdd4-rises, newAddress-rises, up-rises, rises-within, kernelDel4-under}
 use Rattle.definition.specs.Preservation.Step.{covered}
@@ -102,9 +102,9 @@ add-most new t st =
     tables = rw t (list-local (st .tables))
 
     go : (i : Insert.Inserted) → Grows (st .routes) i → Most 0 1 st (inserted new i (create4 (table new) st))
-    go (Insert.put rows emitted) h = record { ofAddresses = omega arith; ofRoutes = omega (arith, h); ofTables = tables }
+    go (Insert.placed rows emitted) h = record { ofAddresses = omega arith; ofRoutes = omega (arith, h); ofTables = tables }
     go Insert.nothing h = record { ofAddresses = omega arith; ofRoutes = omega arith; ofTables = tables }
-    go (Insert.refused n) h = record { ofAddresses = omega arith; ofRoutes = omega arith; ofTables = tables }
+    go (Insert.unplaced n) h = record { ofAddresses = omega arith; ofRoutes = omega arith; ofTables = tables }
 
 most-le : {n k : ℕ} (m j : ℕ) {st : State} {o : Out} → n ≤ m → k ≤ j → Most n k st o → Most m j st o
 most-le m j a b h =
@@ -174,14 +174,14 @@ turns-most l (a ∷ m) st =
     most-le 0 (4 * length (a ∷ m)) (omega arith) (omega arith)
     (most-also 0 0 4 (4 * length m) st (turn l a st) (through (turn l) m) (turn-most l true a st) (turns-most l m ((turn l a st) .state)))
 
-loopback-most : (clock : ℕ) (o : Option Row) (st : State) → Most 1 4 st (step (addedOver loopback clock o st))
+loopback-most : (clock : ℕ) (o : Option Row) (st : State) → Most 1 4 st (outOf (addedOver loopback clock o st))
 loopback-most clock (some old) st = most-stays 1 4 st
 loopback-most clock none st = new-most _ _ st
 
 up-most : (clock : ℕ) (st : State) → Most 1 (4 + 4 * (length (st .addresses) + 1)) st (up clock st)
 unfolding up addV4
 up-most clock st =
-    let o = step (addedOver loopback clock (first (sameAddress loopback) (st .addresses)) st) in
+    let o = outOf (addedOver loopback clock (first (sameAddress loopback) (st .addresses)) st) in
     let a = loopback-most clock (first (sameAddress loopback) (st .addresses)) st in
     most-le 1 (4 + 4 * (length (st .addresses) + 1)) (omega arith) (omega (arith, a .ofAddresses))
     (most-also 1 0 4 (4 * length (o .state .addresses)) st o every a (turns-most (o .state .addresses) (o .state .addresses) (o .state)))

@@ -31,10 +31,10 @@ use Rattle.step_insert.specs.declared.Inserted.the-variants.{Put, Nothin
 
 -- what a plan comes to
 abbrev pub planned : Row → List Row → Plan → Insert.Inserted
-planned new l (Add i emitted) = Insert.put (insertAt i new l) emitted
-planned new l (Replace i) = Insert.put (set l i new) 0x100
+planned new l (Add i emitted) = Insert.placed (insertAt i new l) emitted
+planned new l (Replace i) = Insert.placed (set l i new) 0x100
 planned new l Keep = Insert.nothing
-planned new l (Refuse n) = Insert.refused n
+planned new l (Refuse n) = Insert.unplaced n
 
 -- its place is one of the rows, or behind them for one more
 abbrev pub placed : ℕ → Plan → Type 0
@@ -60,13 +60,13 @@ among flags start end there first =
 
 -- ---- the plan is the definition's
 module _ (new : Row) (flags : ℕ) (l : List Row) where
-  same-create : (c : Bool) (x : Insert.Inserted) (p : Plan) → planned new l p ≡ x → planned new l (cond c p (Refuse 2)) ≡ cond c x (Insert.refused 2)
+  same-create : (c : Bool) (x : Insert.Inserted) (p : Plan) → planned new l p ≡ x → planned new l (cond c p (Refuse 2)) ≡ cond c x (Insert.unplaced 2)
   same-create true x p e = e
   same-create false x p e = refl
 
   cases : (start end : ℕ) (x r b f c a : Bool)
       → planned new l (cond x (Refuse 17) (cond r (cond f Keep (cond b (Refuse 17) (Replace start))) (cond b (Refuse 17) (cond a (cond c (Add end 0xc00) (Refuse 2)) (cond c (Add start 0x400) (Refuse 2))))))
-      ≡ cond x (Insert.refused 17) (cond r (cond f Insert.nothing (cond b (Insert.refused 17) (Insert.put (set l start new) 0x100))) (cond b (Insert.refused 17) (cond c (cond a (Insert.put (insertAt end new l) 0xc00) (Insert.put (insertAt start new l) 0x400)) (Insert.refused 2))))
+      ≡ cond x (Insert.unplaced 17) (cond r (cond f Insert.nothing (cond b (Insert.unplaced 17) (Insert.placed (set l start new) 0x100))) (cond b (Insert.unplaced 17) (cond c (cond a (Insert.placed (insertAt end new l) 0xc00) (Insert.placed (insertAt start new l) 0x400)) (Insert.unplaced 2))))
   cases start end true r b f c a = refl
   cases start end false true b true c a = refl
   cases start end false true true false c a = refl
@@ -82,7 +82,7 @@ module _ (new : Row) (flags : ℕ) (l : List Row) where
     unfolding insert4
     none-planned h =
         let none-alike : any (alike new) l ≡ false = run-alike new l start end there s ∙ le-ltb start end h in
-        rw none-alike (same-create (createFlag flags) (Insert.put (ahead new l) 0x600) (Add start 0x600) (ap (λ (m : List Row). Insert.put m 0x600) (run-ahead new l start end there s o)))
+        rw none-alike (same-create (createFlag flags) (Insert.placed (ahead new l) 0x600) (Add start 0x600) (ap (λ (m : List Row). Insert.placed m 0x600) (run-ahead new l start end there s o)))
 
     pub some-planned : start < end → (f : Bool) → f ≡ eqRow new (getD l start []) → planned new l (among flags start end there f) ≡ insert4 new flags l
     unfolding insert4
@@ -100,14 +100,14 @@ module _ (new : Row) (flags : ℕ) (l : List Row) where
 -- ---- the words
 -- what came of it, and the rows afterwards, by how many there may be
 abbrev pub answerOf : Insert.Inserted → Inserted
-answerOf (Insert.put rows emitted) = cond (leb (length rows) 256) (Put emitted) Full
+answerOf (Insert.placed rows emitted) = cond (leb (length rows) 256) (Put emitted) Full
 answerOf Insert.nothing = Nothing
-answerOf (Insert.refused n) = Refused n
+answerOf (Insert.unplaced n) = Refused n
 
 abbrev pub rowsAfter : Insert.Inserted → List Row → List Row
-rowsAfter (Insert.put rows emitted) old = cond (leb (length rows) 256) rows old
+rowsAfter (Insert.placed rows emitted) old = cond (leb (length rows) 256) rows old
 rowsAfter Insert.nothing old = old
-rowsAfter (Insert.refused n) old = old
+rowsAfter (Insert.unplaced n) old = old
 
 -- a flag as the code tests it
 pub flag-is : (k f : ℕ) (b t : Bool) → b ≡ not (eqb (bitAnd f (2 ^ k)) 0) → b ≡ t → hasBit k f ≡ t
@@ -134,21 +134,21 @@ module _ (new : Row) (flags : ℕ) (st : State) (p : Plan) (e : planned new (st 
   pub into-full : {w : List ℕ} → Represents w st → (i emitted : ℕ) → p ≡ Add i emitted → i ≤ length (st .routes) → length (st .routes) ≡ 256 → InsertedInto new flags st w Full
   into-full {w} h i emitted q b n =
       let long : leb (length (insertAt i new (st .routes))) 256 ≡ false = lt-leb (length (insertAt i new (st .routes))) 256 (omega (arith, length-insertAt i new (st .routes) b)) in
-      let is : insert4 new flags (st .routes) ≡ Insert.put (insertAt i new (st .routes)) emitted = sym e ∙ ap (planned new (st .routes)) q in
+      let is : insert4 new flags (st .routes) ≡ Insert.placed (insertAt i new (st .routes)) emitted = sym e ∙ ap (planned new (st .routes)) q in
       record { answer = rw (is, long); holds = rw (is, long) h }
 
   pub into-put : {w : List ℕ} (i emitted : ℕ) → p ≡ Add i emitted → i ≤ length (st .routes) → length (st .routes) < 256
       → Represents w (withRoutes (insertAt i new (st .routes)) st) → InsertedInto new flags st w (Put emitted)
   into-put {w} i emitted q b n h =
       let long : leb (length (insertAt i new (st .routes))) 256 ≡ true = le-leb (length (insertAt i new (st .routes))) 256 (omega (arith, length-insertAt i new (st .routes) b)) in
-      let is : insert4 new flags (st .routes) ≡ Insert.put (insertAt i new (st .routes)) emitted = sym e ∙ ap (planned new (st .routes)) q in
+      let is : insert4 new flags (st .routes) ≡ Insert.placed (insertAt i new (st .routes)) emitted = sym e ∙ ap (planned new (st .routes)) q in
       record { answer = rw (is, long); holds = rw (is, long) h }
 
   pub into-replaced : {w : List ℕ} (i : ℕ) → p ≡ Replace i → length (st .routes) ≤ 256
       → Represents w (withRoutes (set (st .routes) i new) st) → InsertedInto new flags st w (Put 0x100)
   into-replaced {w} i q n h =
       let long : leb (length (set (st .routes) i new)) 256 ≡ true = le-leb (length (set (st .routes) i new)) 256 (omega (arith, length-set (st .routes) i new)) in
-      let is : insert4 new flags (st .routes) ≡ Insert.put (set (st .routes) i new) 0x100 = sym e ∙ ap (planned new (st .routes)) q in
+      let is : insert4 new flags (st .routes) ≡ Insert.placed (set (st .routes) i new) 0x100 = sym e ∙ ap (planned new (st .routes)) q in
       record { answer = rw (is, long); holds = rw (is, long) h }
 
   pub into-kept : {w : List ℕ} → Represents w st → p ≡ Keep → InsertedInto new flags st w Nothing
@@ -158,7 +158,7 @@ module _ (new : Row) (flags : ℕ) (st : State) (p : Plan) (e : planned new (st 
 
   pub into-refused : {w : List ℕ} → Represents w st → (n : ℕ) → p ≡ Refuse n → InsertedInto new flags st w (Refused n)
   into-refused {w} h n q =
-      let is : insert4 new flags (st .routes) ≡ Insert.refused n = sym e ∙ ap (planned new (st .routes)) q in
+      let is : insert4 new flags (st .routes) ≡ Insert.unplaced n = sym e ∙ ap (planned new (st .routes)) q in
       record { answer = rw is; holds = rw is h }
 
 -- the rows of a fit state are in order

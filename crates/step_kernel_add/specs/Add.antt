@@ -50,7 +50,7 @@ length-event r flags h = omega arith
 module _ (new : Row) (made : State) {w ev : List ℕ} where
   after-put : (i : Insert.Inserted) (flags : ℕ) {ev′ : List ℕ} → Put flags ≡ answerOf i → Represents w (withRoutes (rowsAfter i (made .routes)) made)
       → length new ≡ 32 → 34 ≤ length ev → ev′ ≡ put 0 (newRoute4 new flags) ev → EmitsOrFull (inserted new i made) w ev ev′ (Tell.Rows 1)
-  after-put (Insert.put rows emitted) flags {ev′} e h n room x =
+  after-put (Insert.placed rows emitted) flags {ev′} e h n room x =
       test-case (leb (length rows) 256)
       (λ f.
       let same : Put flags ≡ Put emitted = rw f at e in
@@ -62,10 +62,10 @@ module _ (new : Row) (made : State) {w ev : List ℕ} where
       let z : _≡_ {A = ℕ} 0 1 = cc in
       absurd (omega arith))
   after-put Insert.nothing flags e h n room x = let z : _≡_ {A = ℕ} 0 1 = cc in absurd (omega arith)
-  after-put (Insert.refused k) flags e h n room x = let z : _≡_ {A = ℕ} 0 1 = cc in absurd (omega arith)
+  after-put (Insert.unplaced k) flags e h n room x = let z : _≡_ {A = ℕ} 0 1 = cc in absurd (omega arith)
 
   after-nothing : (i : Insert.Inserted) → Nothing ≡ answerOf i → Represents w (withRoutes (rowsAfter i (made .routes)) made) → EmitsOrFull (inserted new i made) w ev ev (Tell.Rows 0)
-  after-nothing (Insert.put rows emitted) e h =
+  after-nothing (Insert.placed rows emitted) e h =
       test-case (leb (length rows) 256)
       (λ f.
       let same : Nothing ≡ Put emitted = rw f at e in
@@ -76,10 +76,10 @@ module _ (new : Row) (made : State) {w ev : List ℕ} where
       let z : _≡_ {A = ℕ} 0 1 = cc in
       absurd (omega arith))
   after-nothing Insert.nothing e h = adds-none made h
-  after-nothing (Insert.refused k) e h = let z : _≡_ {A = ℕ} 0 1 = cc in absurd (omega arith)
+  after-nothing (Insert.unplaced k) e h = let z : _≡_ {A = ℕ} 0 1 = cc in absurd (omega arith)
 
   after-refused : (i : Insert.Inserted) (n : ℕ) → Refused n ≡ answerOf i → Represents w (withRoutes (rowsAfter i (made .routes)) made) → EmitsOrFull (inserted new i made) w ev ev (Tell.Rows 0)
-  after-refused (Insert.put rows emitted) n e h =
+  after-refused (Insert.placed rows emitted) n e h =
       test-case (leb (length rows) 256)
       (λ f.
       let same : Refused n ≡ Put emitted = rw f at e in
@@ -90,10 +90,10 @@ module _ (new : Row) (made : State) {w ev : List ℕ} where
       let z : _≡_ {A = ℕ} 0 1 = cc in
       absurd (omega arith))
   after-refused Insert.nothing n e h = let z : _≡_ {A = ℕ} 0 1 = cc in absurd (omega arith)
-  after-refused (Insert.refused k) n e h = adds-none made h
+  after-refused (Insert.unplaced k) n e h = adds-none made h
 
   after-full : (i : Insert.Inserted) {ev′ : List ℕ} → Full ≡ answerOf i → EmitsOrFull (inserted new i made) w ev ev′ Tell.Full
-  after-full (Insert.put rows emitted) e =
+  after-full (Insert.placed rows emitted) e =
       test-case (leb (length rows) 256)
       (λ f.
       let same : Full ≡ Put emitted = rw f at e in
@@ -101,14 +101,14 @@ module _ (new : Row) (made : State) {w ev : List ℕ} where
       absurd (omega arith))
       (λ f. full-adds (routes-pass (leb (length (made .addresses)) 64) (leb (length rows) 256) (leb (length (made .tables)) 32) f))
   after-full Insert.nothing e = let z : _≡_ {A = ℕ} 0 1 = cc in absurd (omega arith)
-  after-full (Insert.refused k) e = let z : _≡_ {A = ℕ} 0 1 = cc in absurd (omega arith)
+  after-full (Insert.unplaced k) e = let z : _≡_ {A = ℕ} 0 1 = cc in absurd (omega arith)
 
   tables-full : (i : Insert.Inserted) {ev′ : List ℕ} → 32 < length (made .tables) → EmitsOrFull (inserted new i made) w ev ev′ Tell.Full
-  tables-full (Insert.put rows emitted) h =
+  tables-full (Insert.placed rows emitted) h =
       full-adds (tables-pass (leb (length (made .addresses)) 64) (leb (length rows) 256) (leb (length (made .tables)) 32) (lt-leb (length (made .tables)) 32 h))
   tables-full Insert.nothing h =
       full-adds (tables-pass (leb (length (made .addresses)) 64) (leb (length (made .routes)) 256) (leb (length (made .tables)) 32) (lt-leb (length (made .tables)) 32 h))
-  tables-full (Insert.refused n) h =
+  tables-full (Insert.unplaced n) h =
       full-adds (tables-pass (leb (length (made .addresses)) 64) (leb (length (made .routes)) 256) (leb (length (made .tables)) 32) (lt-leb (length (made .tables)) 32 h))
 
 -- ---- the whole
@@ -143,9 +143,9 @@ kernelAdd4-covered =
     record { covers = λ new st h. go new (insert4 new 0xc00 ((create4 (table new) st) .routes)) (create4 (table new) st) h }
   where
     go : (new : Row) (i : Insert.Inserted) (made : State) → within ((inserted new i made) .peak) ≡ true → within (sizes ((inserted new i made) .state)) ≡ true
-    go new (Insert.put rows emitted) made h = h
+    go new (Insert.placed rows emitted) made h = h
     go new Insert.nothing made h = h
-    go new (Insert.refused n) made h = h
+    go new (Insert.unplaced n) made h = h
 
 -- the words hold some state still
 pub valid-created : {w : List ℕ} (t : ℕ) (st : State) → Represents w (create4 t st) → Valid w

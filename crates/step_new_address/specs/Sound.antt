@@ -63,9 +63,9 @@ kernelAdd4-leaves new =
     record { same = λ st. go new (insert4 new 0xc00 (st .routes)) (create4 (table new) st) }
   where
     go : (new : Row) (i : Insert.Inserted) (made : State) → (inserted new i made) .state .addresses ≡ made .addresses
-    go new (Insert.put rows emitted) made = refl
+    go new (Insert.placed rows emitted) made = refl
     go new Insert.nothing made = refl
-    go new (Insert.refused n) made = refl
+    go new (Insert.unplaced n) made = refl
 
 -- ---- answers
 pub rows-are : (n : ℕ) (t : Told) (m : ℕ) → t ≡ Rows m → rowsOf t ≤ n → m ≤ n

@@ -71,7 +71,7 @@ module _ (new : Row) (t : ℕ) (st : State) {w : List ℕ} (ev : List ℕ) where
   pub added : (d : Insert.Inserted) (i : Inserted) {ev′ : List ℕ} {r : Result.Done} → i ≡ answerOf d → fullOf i ≡ false
       → Represents w (create4 t (withRoutes (rowsAfter d (st .routes)) st)) → Tells new i ev ev′ r → Requested (insertedAs new d (create4 t st)) st w ev ev′ r
   unfolding create4
-  added (Insert.put rows emitted) i {ev′} {r} a n h k =
+  added (Insert.placed rows emitted) i {ev′} {r} a n h k =
       test-case (leb (length rows) 256)
       (λ e.
       let is : i ≡ Put emitted = rw e at a in
@@ -83,7 +83,7 @@ module _ (new : Row) (t : ℕ) (st : State) {w : List ℕ} (ev : List ℕ) where
       let says : r ≡ Done.Rows 0 = k .answer ∙ ap tellOf a in
       let row : ev′ ≡ put 0 (flat []) ev = k .events ∙ ap (λ (x : Inserted). put 0 (flat (emittedOf new x)) ev) a in
       rw says (request-goes st ev (create4 t st) [] h row)
-  added (Insert.refused m) i {ev′} {r} a n h k =
+  added (Insert.unplaced m) i {ev′} {r} a n h k =
       let says : r ≡ Done.Refused m = k .answer ∙ ap tellOf a in
       let row : ev′ ≡ ev = k .events ∙ ap (λ (x : Inserted). put 0 (flat (emittedOf new x)) ev) a ∙ sym (put-no-rows ev) in
       rw (says, row) (request-refused st ev m (create4 t st) h)
@@ -92,7 +92,7 @@ module _ (new : Row) (t : ℕ) (st : State) {w : List ℕ} (ev : List ℕ) where
   pub row-full : (d : Insert.Inserted) (i : Inserted) → i ≡ answerOf d → fullOf i ≡ true
       → Represents w (withRoutes (rowsAfter d (st .routes)) st) → Requested (insertedAs new d (create4 t st)) st w ev ev Done.Full
   unfolding create4
-  row-full (Insert.put rows emitted) i a n h =
+  row-full (Insert.placed rows emitted) i a n h =
       test-case (leb (length rows) 256)
       (λ e.
       let g : false ≡ true = sym (ap fullOf (rw e at a)) ∙ n in
@@ -100,12 +100,12 @@ module _ (new : Row) (t : ℕ) (st : State) {w : List ℕ} (ev : List ℕ) where
       absurd (omega arith))
       (λ e.
       let past : within (sizes (withRoutes rows (create4 t st))) ≡ false = rw (e, and-false (leb (length (st .addresses)) 64)) in
-      request-full st ev (insertedAs new (Insert.put rows emitted) (create4 t st)) (rw past) (rw e at h))
+      request-full st ev (insertedAs new (Insert.placed rows emitted) (create4 t st)) (rw past) (rw e at h))
   row-full Insert.nothing i a n h =
       let g : false ≡ true = sym (ap fullOf a) ∙ n in
       let z : _≡_ {A = ℕ} 0 1 = cc in
       absurd (omega arith)
-  row-full (Insert.refused m) i a n h =
+  row-full (Insert.unplaced m) i a n h =
       let g : false ≡ true = sym (ap fullOf a) ∙ n in
       let z : _≡_ {A = ℕ} 0 1 = cc in
       absurd (omega arith)
@@ -118,13 +118,13 @@ module _ (q : Row) (t : ℕ) (st : State) (long : 32 < length (listTable t (st .
 
   inserted-full : (new : Row) (i : Insert.Inserted) → doneOf (insertedAs new i (create4 t st)) ≡ Done.Full
   unfolding create4
-  inserted-full new (Insert.put rows emitted) = rw (over-tables rows)
+  inserted-full new (Insert.placed rows emitted) = rw (over-tables rows)
   inserted-full new Insert.nothing = rw (over-tables (st .routes))
-  inserted-full new (Insert.refused n) = rw (over-tables (st .routes))
+  inserted-full new (Insert.unplaced n) = rw (over-tables (st .routes))
 
   goes-full : (r : Routes.Reached) → doneOf (goesOn q r (create4 t st)) ≡ Done.Full
   unfolding create4
-  goes-full (Routes.refused n) = rw (over-tables (st .routes))
+  goes-full (Routes.unreached n) = rw (over-tables (st .routes))
   goes-full (by linked) = inserted-full (askedRoute q linked) (insert4 (askedRoute q linked) (nlmFlags q) (st .routes))
 
 pub table-full : (q : Row) (t : ℕ) {w : List ℕ} {st : State} (ev : List ℕ) → t ≡ tableNamed q → Represents w st → 32 < length (listTable t (tablesOf w))
@@ -153,7 +153,7 @@ check-formed q made linked e =
     test-case (eqb (formCheck q) 0)
     (λ f. eqb-true (formCheck q) 0 f)
     (λ f.
-    let bad : by linked ≡ Routes.refused (formCheck q) = rw f at e in
+    let bad : by linked ≡ Routes.unreached (formCheck q) = rw f at e in
     let z : _≡_ {A = ℕ} 0 1 = cc in
     absurd (omega arith))
 
@@ -186,7 +186,7 @@ module _ (q : Row) (linked : Bool) (t : ℕ) (st : State) {w : List ℕ} (ev x :
 module _ (q : Row) (t : ℕ) (st : State) {w : List ℕ} (ev : List ℕ) (x : Reached) (named : t ≡ tableNamed q) (e : reachedOf x ≡ checkAll q (create4 (tableNamed q) st)) where
   pub way-refused : (n : ℕ) → x ≡ Reached.Refused n → Represents w (create4 t st) → Requested (addRoute4 q st) st w ev ev (Done.Refused n)
   way-refused n f h =
-      let is : checkAll q (create4 (tableNamed q) st) ≡ Routes.refused n = sym e ∙ ap reachedOf f in
+      let is : checkAll q (create4 (tableNamed q) st) ≡ Routes.unreached n = sym e ∙ ap reachedOf f in
       rw (add-goes q st, is) (request-refused st ev n (create4 (tableNamed q) st) (rw named at h))
 
   pub way-added : {ev′ : List ℕ} {r : Result.Done} (linked : Bool) → x ≡ By linked

@@ -16,7 +16,7 @@ use Rattle.definition.specs.Reference.Lookup.{listed, localTable, mainTable, de
 use Rattle.definition.specs.Reference.Insert.{addTable, listTable, create4, insert4}
 use Rattle.definition.specs.Reference.Addresses.{Outcome}
 use Rattle.definition.specs.Reference.Routes as Routes
-use Rattle.definition.specs.Reference.Routes.{by, refused, tableNamed, formCheck, reachCheck, validPrefsrc4, routed, insertedAs, askedRoute, addRoute4, addedBy}
+use Rattle.definition.specs.Reference.Routes.{by, unreached, tableNamed, formCheck, reachCheck, validPrefsrc4, routed, insertedAs, askedRoute, addRoute4, addedBy}
 use Rattle.state.specs.Represents.{Represents}
 use Rattle.state_tables.specs.Listed.{tablesOf}
 use Rattle.state_read.specs.Parts.{listed-there}
@@ -27,20 +27,20 @@ use Rattle.request_gateway.specs.declared.Reached.the-variants.{By, Refused}
 
 -- a preferred source behind the check of device and gateway
 abbrev pub prefsrcCheck : Row → Routes.Reached → State → Routes.Reached
-prefsrcCheck q (refused n) st = refused n
-prefsrcCheck q (by linked) st = cond (eqb (prefsrcPresent q) 1 && not (validPrefsrc4 q st)) (refused 22) (by linked)
+prefsrcCheck q (unreached n) st = unreached n
+prefsrcCheck q (by linked) st = cond (eqb (prefsrcPresent q) 1 && not (validPrefsrc4 q st)) (unreached 22) (by linked)
 
 -- all checks
 abbrev pub checkAll : Row → State → Routes.Reached
-checkAll q st = cond (eqb (formCheck q) 0) (prefsrcCheck q (reachCheck q st) st) (refused (formCheck q))
+checkAll q st = cond (eqb (formCheck q) 0) (prefsrcCheck q (reachCheck q st) st) (unreached (formCheck q))
 
 -- what comes after them
 abbrev pub goesOn : Row → Routes.Reached → State → Outcome
-goesOn q (refused n) st = Outcome.refused n st
+goesOn q (unreached n) st = Outcome.refused n st
 goesOn q (by linked) st = insertedAs (askedRoute q linked) (insert4 (askedRoute q linked) (nlmFlags q) (st .routes)) st
 
 routed-goes : (q : Row) (r : Routes.Reached) (st : State) → routed insert4 q r st ≡ goesOn q (prefsrcCheck q r st) st
-routed-goes q (refused n) st = refl
+routed-goes q (unreached n) st = refl
 routed-goes q (by linked) st =
     test-case (eqb (prefsrcPresent q) 1 && not (validPrefsrc4 q st)) (λ e. rw e) (λ e. rw e)
 
@@ -127,12 +127,12 @@ module _ (q : Row) (st : State) (t : ℕ) (named : t ≡ tableNamed q) where
       pub good-prefsrc : v ≡ true → by linked ≡ prefsrcCheck q (by linked) (create4 (tableNamed q) st)
       good-prefsrc k = rw (eq-eqb (prefsrcPresent q) 1 h, valid-is, k)
 
-      pub bad-prefsrc : v ≡ false → refused 22 ≡ prefsrcCheck q (by linked) (create4 (tableNamed q) st)
+      pub bad-prefsrc : v ≡ false → unreached 22 ≡ prefsrcCheck q (by linked) (create4 (tableNamed q) st)
       bad-prefsrc k = rw (eq-eqb (prefsrcPresent q) 1 h, valid-is, k)
 
   -- ---- all of them
   module _ (n : ℕ) (form : n ≡ formCheck q) where
-    pub check-form : (n ≡ 0 → ⊥) → refused n ≡ checkAll q (create4 (tableNamed q) st)
+    pub check-form : (n ≡ 0 → ⊥) → unreached n ≡ checkAll q (create4 (tableNamed q) st)
     check-form h = rw (← form, ne-eqb n 0 h)
 
     module _ (z : n ≡ 0) (a b : Bool) (e : a ≡ (listed localTable st || eqb localTable t)) (f : b ≡ (listed defaultTable st || eqb defaultTable t))
@@ -140,7 +140,7 @@ module _ (q : Row) (st : State) (t : ℕ) (named : t ≡ tableNamed q) where
       reached-is : reachCheck q (create4 (tableNamed q) st) ≡ reachedOf x
       reached-is = made-reach a b e f ∙ sym g
 
-      pub check-refused : (m : ℕ) → x ≡ Refused m → refused m ≡ checkAll q (create4 (tableNamed q) st)
+      pub check-refused : (m : ℕ) → x ≡ Refused m → unreached m ≡ checkAll q (create4 (tableNamed q) st)
       check-refused m k = rw (← form, eq-eqb n 0 z, reached-is, k)
 
       pub check-on : (linked : Bool) → x ≡ By linked → (r : Routes.Reached) → r ≡ prefsrcCheck q (by linked) (create4 (tableNamed q) st) → r ≡ checkAll q (create4 (tableNamed q) st)

@@ -55,7 +55,7 @@ module _ (chosen : ℕ → Bool) where
       let both = two-runs chosen choice cs ds agree (showed-spacious cs emptyWords ss w m ∙ h) (showed-spacious ds emptyWords ts v t ∙ k) in
       let at : List ℕ → View = λ x. view chosen (stateOf x) in
       record {
-        answered = showed-answers cs emptyWords ss w m ∙ both .answers ∙ sym (showed-answers ds emptyWords ts v t);
+        sameAnswers = showed-answers cs emptyWords ss w m ∙ both .answers ∙ sym (showed-answers ds emptyWords ts v t);
         afterwards = ap at (showed-after cs emptyWords ss w m) ∙ both .afterwards ∙ sym (ap at (showed-after ds emptyWords ts v t));
       }
 

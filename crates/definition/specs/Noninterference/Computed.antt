@@ -11,9 +11,9 @@ use Rattle.definition.specs.Preservation.Step.{Held, held-empty, decode-
 use Rattle.definition.specs.Noninterference.Statement.{struck, emptyWords, after, spacious, compared, observed}
 use Rattle.definition.specs.Noninterference.Calls.{bounded, spaced, step-follows}
 
-unfoldable pub left : List Call → State → State
-left [] st = st
-left (c ∷ cs) st = left cs (bounded (semantics c) st .state)
+unfoldable pub ending : List Call → State → State
+ending [] st = st
+ending (c ∷ cs) st = ending cs (bounded (semantics c) st .state)
 
 unfoldable pub ample : List Call → State → Bool
 ample [] st = true
@@ -25,12 +25,12 @@ answers chosen (c ∷ cs) st =
     let rest = answers chosen cs (bounded (semantics c) st .state) in
     cond (struck chosen c) rest (compared chosen c (bounded (semantics c) st .reply) ∷ rest)
 
-after-left : (cs : List Call) (w : List ℕ) → Held w → stateOf (after cs w) ≡ left cs (stateOf w)
-unfolding after left
-after-left [] w h = refl
-after-left (c ∷ cs) w h =
+after-ending : (cs : List Call) (w : List ℕ) → Held w → stateOf (after cs w) ≡ ending cs (stateOf w)
+unfolding after ending
+after-ending [] w h = refl
+after-ending (c ∷ cs) w h =
     let f = step-follows c w h in
-    after-left cs (step c w .words) (f .held) ∙ ap (left cs) (f .state)
+    after-ending cs (step c w .words) (f .held) ∙ ap (ending cs) (f .state)
 
 spacious-ample : (cs : List Call) (w : List ℕ) → Held w → spacious cs w ≡ ample cs (stateOf w)
 unfolding spacious ample
@@ -48,8 +48,8 @@ observed-answers chosen (c ∷ cs) w h =
 
 -- ---- from the empty words
 module _ (cs : List Call) where
-  pub run-left : stateOf (after cs emptyWords) ≡ left cs empty
-  run-left = after-left cs emptyWords held-empty ∙ ap (left cs) decode-empty
+  pub run-ending : stateOf (after cs emptyWords) ≡ ending cs empty
+  run-ending = after-ending cs emptyWords held-empty ∙ ap (ending cs) decode-empty
 
   pub run-ample : spacious cs emptyWords ≡ ample cs empty
   run-ample = spacious-ample cs emptyWords held-empty ∙ ap (ample cs) decode-empty

@@ -22,7 +22,7 @@ use Rattle.definition.specs.Computing.{computing}
 use Rattle.definition.specs.Noninterference.Statement.{Choice, unstruck, Agree, Alike, emptyWords, after, observed}
 use Rattle.definition.specs.Noninterference.Calls.{freely, bounded}
 use Rattle.definition.specs.Noninterference.Theorem.{two-runs}
-use Rattle.definition.specs.Noninterference.Computed.{left, ample, answers, run-left, run-ample, run-answers}
+use Rattle.definition.specs.Noninterference.Computed.{ending, ample, answers, run-ending, run-ample, run-answers}
 use Rattle.definition.specs.Step.{eventRoom}
 
 abbrev private : ℕ → Bool
@@ -90,7 +90,7 @@ check e =
     ample (e .calls) empty
     && ample (plain e) empty
     && eqRow (e .look (answers private (e .calls) empty)) (e .finds)
-    && not (eqRow (e .leak (left (e .calls) empty)) (e .leak (left (plain e) empty)))
+    && not (eqRow (e .leak (ending (e .calls) empty)) (e .leak (ending (plain e) empty)))
 
 -- then of the words: the two runs are alike, the answers are as found, and the leak would part them
 record Shown (e : Example) : Type 0 where
@@ -110,8 +110,8 @@ shown e h =
           (run-ample (plain e) ∙ k .0 .0 .1);
       found = ap (e .look) (run-answers (e .calls) private) ∙ eqRow-true (e .look (answers private (e .calls) empty)) (e .finds) (k .0 .1);
       parted =
-          ap₂ (λ s t. eqRow (e .leak s) (e .leak t)) (run-left (e .calls)) (run-left (plain e))
-          ∙ not-true (eqRow (e .leak (left (e .calls) empty)) (e .leak (left (plain e) empty))) (k .1);
+          ap₂ (λ s t. eqRow (e .leak s) (e .leak t)) (run-ending (e .calls)) (run-ending (plain e))
+          ∙ not-true (eqRow (e .leak (ending (e .calls) empty)) (e .leak (ending (plain e) empty))) (k .1);
     }
 
 -- ---- the examples
@@ -225,7 +225,7 @@ all-shown [] h = tt
 all-shown (e ∷ es) h = (shown e (all-head check e es h), all-shown es (all-tail check e es h))
 
 examples-checked : all check examples ≡ true
-unfolding computing examples left ample answers bounded freely
+unfolding computing examples ending ample answers bounded freely
 examples-checked = refl
 
 examples-shown : AllShown examples

@@ -39,11 +39,11 @@ module _ (chosen : ℕ → Bool) where
     pub state : p .state ≡ without (o .state)
     pub emitted : p .emitted ≡ o .emitted
 
-  -- a step that goes the same way without the chosen tables
-  abbrev pub Apart : (State → Out) → Type 0
-  Apart f = (st : State) → Mirrors (f st) (f (without st))
+  -- step consistency: it goes the same way without the chosen tables
+  abbrev pub StepConsistent : (State → Out) → Type 0
+  StepConsistent f = (st : State) → Mirrors (f st) (f (without st))
 
-  pub mirrors-also : (o p : Out) (f : State → Out) → Mirrors o p → Apart f → Mirrors (also o f) (also p f)
+  pub mirrors-also : (o p : Out) (f : State → Out) → Mirrors o p → StepConsistent f → Mirrors (also o f) (also p f)
   unfolding also
   mirrors-also o p f m h =
       let k = h (o .state) in
@@ -52,15 +52,15 @@ module _ (chosen : ℕ → Bool) where
         emitted = ap₂ _++_ (m .emitted) (ap (λ s. f s .emitted) (m .state) ∙ k .emitted);
       }
 
-  pub apart-through : {A : Type 0} (f : A → State → Out) (p : A → Bool) → ((x : A) → p x ≡ true → Apart (f x)) → (l : List A) → all p l ≡ true → Apart (through f l)
+  pub consistent-through : {A : Type 0} (f : A → State → Out) (p : A → Bool) → ((x : A) → p x ≡ true → StepConsistent (f x)) → (l : List A) → all p l ≡ true → StepConsistent (through f l)
   unfolding through
-  apart-through f p h [] k st = record { state = refl; emitted = refl }
-  apart-through f p h (x ∷ l) k st =
+  consistent-through f p h [] k st = record { state = refl; emitted = refl }
+  consistent-through f p h (x ∷ l) k st =
       mirrors-also (f x st) (f x (without st)) (through f l) (h x (and-left (p x) (all p l) k) st)
-      (apart-through f p h l (and-right (p x) (all p l) k))
+      (consistent-through f p h l (and-right (p x) (all p l) k))
 
-  pub apart-all : {A : Type 0} (f : A → State → Out) → ((x : A) → Apart (f x)) → (l : List A) → Apart (through f l)
-  apart-all f h l = apart-through f (λ x. true) (λ x e. h x) l (all-always (λ x. true) l (λ x. refl))
+  pub consistent-all : {A : Type 0} (f : A → State → Out) → ((x : A) → StepConsistent (f x)) → (l : List A) → StepConsistent (through f l)
+  consistent-all f h l = consistent-through f (λ x. true) (λ x e. h x) l (all-always (λ x. true) l (λ x. refl))
 
   pub mirrors-cond : (b : Bool) (o o′ p p′ : Out) → Mirrors o p → Mirrors o′ p′ → Mirrors (cond b o o′) (cond b p p′)
   mirrors-cond true o o′ p p′ m n = m

@@ -74,7 +74,7 @@ spared ss = all (λ s. not (eqb (s .numbers .number) 203)) ss
 
 -- The claim, of two whole runs of the code.
 pub record Equal (chosen : ℕ → Bool) (cs ds : List Call) (ss ts : List Seen) (w v : List ℕ) : Type 0 where
-  pub answered : answers chosen cs ss ≡ answers chosen ds ts
+  pub sameAnswers : answers chosen cs ss ≡ answers chosen ds ts
   pub afterwards : view chosen (stateOf w) ≡ view chosen (stateOf v)
 
 abbrev pub CodeRuns : Type 0

@@ -15,9 +15,9 @@ use Rattle.layout.specs.Request.{nlmFlags}
 use Rattle.definition.specs.State.{State, withRoutes}
 use Rattle.definition.specs.Words.{ordered}
 use Rattle.definition.specs.Reference.Lookup.{localTable, mainTable, listed}
-use Rattle.definition.specs.Reference.Insert.{Insertion, Inserted, put, nothing, addTable, listTable, create4, ahead, behind, insert4, isRow, exclFlag, replaceFlag, createFlag, appendFlag}
+use Rattle.definition.specs.Reference.Insert.{Insertion, Inserted, placed, nothing, addTable, listTable, create4, ahead, behind, insert4, isRow, exclFlag, replaceFlag, createFlag, appendFlag}
 use Rattle.definition.specs.Reference.Addresses.{Outcome}
-use Rattle.definition.specs.Reference.Routes.{Reached, by, refused, tableNamed, badPrefix, formCheck, reachCheck, validPrefsrc4, askedRoute, insertedAs, routed, addedBy, selects, deletedRoute, delRoute4Request}
+use Rattle.definition.specs.Reference.Routes.{Reached, by, unreached, tableNamed, badPrefix, formCheck, reachCheck, validPrefsrc4, askedRoute, insertedAs, routed, addedBy, selects, deletedRoute, delRoute4Request}
 use Rattle.definition.specs.Preservation.Order.{before-after, alike-before, alike-sym, level-alike}
 use Rattle.definition.specs.Noninterference.Statement.{Choice, outside}
 use Rattle.definition.specs.Noninterference.Projection.{unchosen, without, result}
@@ -53,9 +53,9 @@ module _ (chosen : ℕ → Bool) where
 
   -- what comes of an insertion, where nothing of it is seen
   pub data Unseen (rows : List Row) : Inserted → Type 0 where
-    unseen : {after : List Row} {flags : ℕ} → keep (outside chosen) after ≡ keep (outside chosen) rows → Unseen rows (put after flags)
+    unseen : {after : List Row} {flags : ℕ} → keep (outside chosen) after ≡ keep (outside chosen) rows → Unseen rows (placed after flags)
     idle : Unseen rows nothing
-    denied : (n : ℕ) → Unseen rows (Inserted.refused n)
+    denied : (n : ℕ) → Unseen rows (Inserted.unplaced n)
 
   unseen-cond : {rows : List Row} (b : Bool) (i j : Inserted) → Unseen rows i → Unseen rows j → Unseen rows (cond b i j)
   unseen-cond true i j u v = u
@@ -100,13 +100,13 @@ module _ (chosen : ℕ → Bool) where
   InsertsUnseen insert =
       (new : Row) → outside chosen new ≡ false → (rows : List Row) → ordered rows ≡ true → (flags : ℕ) → Unseen rows (insert new flags rows)
 
-  -- what a call comes to that changes nothing outside the chosen tables
-  pub record Hidden (st : State) (o : Outcome) : Type 0 where
-    pub same : without chosen (result o) ≡ without chosen st
+  -- local respect: what a call comes to changes nothing outside the chosen tables
+  pub record LocallyRespects (st : State) (o : Outcome) : Type 0 where
+    pub unchanged : without chosen (result o) ≡ without chosen st
 
-  hidden-cond : (b : Bool) (st : State) (o p : Outcome) → Hidden st o → Hidden st p → Hidden st (cond b o p)
-  hidden-cond true st o p h k = h
-  hidden-cond false st o p h k = k
+  respects-cond : (b : Bool) (st : State) (o p : Outcome) → LocallyRespects st o → LocallyRespects st p → LocallyRespects st (cond b o p)
+  respects-cond true st o p h k = h
+  respects-cond false st o p h k = k
 
   -- a request for a chosen table; 255 brings 254 along, so that is chosen too where it names 255
   module _ (q : Row) (named-chosen : unchosen chosen (tableNamed q) ≡ false) (along : eqb (tableNamed q) localTable ≡ true → unchosen chosen mainTable ≡ false) where
@@ -122,43 +122,43 @@ module _ (chosen : ℕ → Bool) where
         (λ e. rw (e, addTable-unseen (tableNamed q) named-chosen (addTable mainTable (st .tables)), addTable-unseen mainTable (along e) (st .tables)))
         (λ e. rw (e, addTable-unseen (tableNamed q) named-chosen (st .tables)))
 
-    insertedAs-unseen : (new : Row) (i : Inserted) (st : State) → Unseen (st .routes) i → Hidden st (insertedAs new i st)
-    insertedAs-unseen new i st (unseen e) = record { same = ap (λ l. withRoutes l (without chosen st)) e }
-    insertedAs-unseen new i st idle = record { same = refl }
-    insertedAs-unseen new i st (denied n) = record { same = refl }
+    insertedAs-unseen : (new : Row) (i : Inserted) (st : State) → Unseen (st .routes) i → LocallyRespects st (insertedAs new i st)
+    insertedAs-unseen new i st (unseen e) = record { unchanged = ap (λ l. withRoutes l (without chosen st)) e }
+    insertedAs-unseen new i st idle = record { unchanged = refl }
+    insertedAs-unseen new i st (denied n) = record { unchanged = refl }
 
-    routed-unseen : (insert : Insertion) → InsertsUnseen insert → (reached : Reached) (st : State) → ordered (st .routes) ≡ true → Hidden st (routed insert q reached st)
+    routed-unseen : (insert : Insertion) → InsertsUnseen insert → (reached : Reached) (st : State) → ordered (st .routes) ≡ true → LocallyRespects st (routed insert q reached st)
     unfolding askedRoute
-    routed-unseen insert i (refused n) st o = record { same = refl }
+    routed-unseen insert i (unreached n) st o = record { unchanged = refl }
     routed-unseen insert i (by linked) st o =
         let new = askedRoute q linked in
-        hidden-cond (eqb (prefsrcPresent q) 1 && not (validPrefsrc4 q st)) _ _ _ (record { same = refl })
+        respects-cond (eqb (prefsrcPresent q) 1 && not (validPrefsrc4 q st)) _ _ _ (record { unchanged = refl })
         (insertedAs-unseen new (insert new (nlmFlags q) (st .routes)) st (i new named-chosen (st .routes) o (nlmFlags q)))
 
-    pub added-hidden : (insert : Insertion) → InsertsUnseen insert → (st : State) → ordered (st .routes) ≡ true → Hidden st (addedBy insert q st)
+    pub added-respects : (insert : Insertion) → InsertsUnseen insert → (st : State) → ordered (st .routes) ≡ true → LocallyRespects st (addedBy insert q st)
     unfolding addedBy
-    added-hidden insert i st o =
+    added-respects insert i st o =
         let made = create4 (tableNamed q) st in
-        hidden-cond (eqb (formCheck q) 0) _ _ _
-        (record { same = routed-unseen insert i (reachCheck q made) made (rw (create4-routes (tableNamed q) st) o) .same ∙ create4-unseen st })
-        (record { same = create4-unseen st })
+        respects-cond (eqb (formCheck q) 0) _ _ _
+        (record { unchanged = routed-unseen insert i (reachCheck q made) made (rw (create4-routes (tableNamed q) st) o) .unchanged ∙ create4-unseen st })
+        (record { unchanged = create4-unseen st })
 
-    deletedRoute-unseen : (found : Option Row) (st : State) → Hidden st (deletedRoute q found st)
-    deletedRoute-unseen none st = record { same = refl }
+    deletedRoute-unseen : (found : Option Row) (st : State) → LocallyRespects st (deletedRoute q found st)
+    deletedRoute-unseen none st = record { unchanged = refl }
     deletedRoute-unseen (some r) st =
-        record { same = ap (λ l. withRoutes l (without chosen st)) (removeFirst-without (selects q) (outside chosen) selects-chosen (st .routes)) }
+        record { unchanged = ap (λ l. withRoutes l (without chosen st)) (removeFirst-without (selects q) (outside chosen) selects-chosen (st .routes)) }
       where
         selects-chosen : (r : Row) → selects q r ≡ true → outside chosen r ≡ false
         selects-chosen r h =
             chosen-as (tableNamed q) (table r) named-chosen
             (test-case (eqb (table r) (tableNamed q)) (λ e. e) (λ e. absurd (false≢true (unfold selects in rw e at h))))
 
-    pub delRoute4Request-hidden : (st : State) → Hidden st (delRoute4Request q st)
+    pub delRoute4Request-respects : (st : State) → LocallyRespects st (delRoute4Request q st)
     unfolding delRoute4Request
-    delRoute4Request-hidden st =
-        hidden-cond (listed (tableNamed q) st) _ _ _
-        (hidden-cond (badPrefix q) _ _ _ (record { same = refl }) (deletedRoute-unseen (first (selects q) (st .routes)) st))
-        (record { same = refl })
+    delRoute4Request-respects st =
+        respects-cond (listed (tableNamed q) st) _ _ _
+        (respects-cond (badPrefix q) _ _ _ (record { unchanged = refl }) (deletedRoute-unseen (first (selects q) (st .routes)) st))
+        (record { unchanged = refl })
 
 -- ---- the tables of a choice: a request names one as it is, and never 255
 module _ (chosen : ℕ → Bool) (choice : Choice chosen) (q : Row) (c : chosen (table q) ≡ true) where
@@ -173,8 +173,8 @@ module _ (chosen : ℕ → Bool) (choice : Choice chosen) (q : Row) (c : chosen 
   never-local : eqb (tableNamed q) localTable ≡ true → unchosen chosen mainTable ≡ false
   never-local e = absurd (true≢false (ap not (sym (choice .not-255)) ∙ ap (unchosen chosen) (sym (eqb-true (tableNamed q) localTable e)) ∙ choice-named))
 
-  pub added-unseen : (insert : Insertion) → InsertsUnseen chosen insert → (st : State) → ordered (st .routes) ≡ true → Hidden chosen st (addedBy insert q st)
-  added-unseen insert i st o = added-hidden chosen q choice-named never-local insert i st o
+  pub added-unseen : (insert : Insertion) → InsertsUnseen chosen insert → (st : State) → ordered (st .routes) ≡ true → LocallyRespects chosen st (addedBy insert q st)
+  added-unseen insert i st o = added-respects chosen q choice-named never-local insert i st o
 
-  pub delRoute4Request-unseen : (st : State) → Hidden chosen st (delRoute4Request q st)
-  delRoute4Request-unseen st = delRoute4Request-hidden chosen q choice-named never-local st
+  pub delRoute4Request-unseen : (st : State) → LocallyRespects chosen st (delRoute4Request q st)
+  delRoute4Request-unseen st = delRoute4Request-respects chosen q choice-named never-local st

@@ -12,9 +12,9 @@ use Rattle.lists.specs.Keep.{Implies, keep-append, keep-keep, keep-within, any-
 use Rattle.layout.specs.Route.{table, before, alike}
 use Rattle.definition.specs.State.{State, withRoutes}
 use Rattle.definition.specs.Reference.Lookup.{Flow, longest, fits, answer, together, lookupIn, typeSet, addrType4, local4, listed, refused, flowTo, mainTable, localTable, defaultTable}
-use Rattle.definition.specs.Reference.Insert.{Inserted, put, nothing, addTable, listTable, create4, ahead, behind, insert4, inserted, kernelAdd4, named, removed, kernelDel4, kernelFlags}
+use Rattle.definition.specs.Reference.Insert.{Inserted, placed, nothing, addTable, listTable, create4, ahead, behind, insert4, inserted, kernelAdd4, named, removed, kernelDel4, kernelFlags}
 use Rattle.definition.specs.Noninterference.Statement.{Choice, outside}
-use Rattle.definition.specs.Noninterference.Projection.{unchosen, without, unchosen-as, unchosen-like, Mirrors, Apart}
+use Rattle.definition.specs.Noninterference.Projection.{unchosen, without, unchosen-as, unchosen-like, Mirrors, StepConsistent}
 
 module _ (chosen : ℕ → Bool) (choice : Choice chosen) where
   pub default-open : unchosen chosen defaultTable ≡ true
@@ -27,9 +27,9 @@ module _ (chosen : ℕ → Bool) (choice : Choice chosen) where
   local-open = ap not (choice .not-255)
 
   -- ---- lookups
-  pub answer-apart : (tables : ℕ → Bool) → Implies tables (unchosen chosen) → (f : Flow) (rows : List Row) → answer tables f (keep (outside chosen) rows) ≡ answer tables f rows
+  pub answer-consistent : (tables : ℕ → Bool) → Implies tables (unchosen chosen) → (f : Flow) (rows : List Row) → answer tables f (keep (outside chosen) rows) ≡ answer tables f rows
   unfolding answer
-  answer-apart tables i f rows =
+  answer-consistent tables i f rows =
       ap longest
       (keep-within (λ r. tables (table r) && fits f r) (outside chosen) (λ r h. i (table r) (and-left (tables (table r)) (fits f r) h)) rows)
 
@@ -51,46 +51,46 @@ module _ (chosen : ℕ → Bool) (choice : Choice chosen) where
       test-case (eqb t localTable || eqb t mainTable) (λ e. either-open u (rw e at h))
       (λ e. unchosen-as chosen t u o (rw e at h))
 
-  pub listed-apart : (t : ℕ) → unchosen chosen t ≡ true → (st : State) → listed t (without chosen st) ≡ listed t st
-  listed-apart t o st = any-within (eqb t) (unchosen chosen) (λ u e. unchosen-like chosen t u o e) (st .tables)
+  pub listed-consistent : (t : ℕ) → unchosen chosen t ≡ true → (st : State) → listed t (without chosen st) ≡ listed t st
+  listed-consistent t o st = any-within (eqb t) (unchosen chosen) (λ u e. unchosen-like chosen t u o e) (st .tables)
 
-  pub lookupIn-apart : (st : State) (f : Flow) → lookupIn (without chosen st) f ≡ lookupIn st f
+  pub lookupIn-consistent : (st : State) (f : Flow) → lookupIn (without chosen st) f ≡ lookupIn st f
   unfolding lookupIn
-  lookupIn-apart st f =
+  lookupIn-consistent st f =
       rw (
-        answer-apart (together mainTable) (together-open mainTable) f (st .routes),
-        answer-apart (together defaultTable) (together-open defaultTable) f (st .routes),
-        listed-apart defaultTable default-open st,
+        answer-consistent (together mainTable) (together-open mainTable) f (st .routes),
+        answer-consistent (together defaultTable) (together-open defaultTable) f (st .routes),
+        listed-consistent defaultTable default-open st,
       )
 
-  pub addrType4-apart : (st : State) (ip t : ℕ) → unchosen chosen t ≡ true → addrType4 (without chosen st) ip t ≡ addrType4 st ip t
+  pub addrType4-consistent : (st : State) (ip t : ℕ) → unchosen chosen t ≡ true → addrType4 (without chosen st) ip t ≡ addrType4 st ip t
   unfolding addrType4
-  addrType4-apart st ip t o =
-      rw (answer-apart (typeSet t) (typeSet-open t o) (flowTo ip) (st .routes), listed-apart t o st)
+  addrType4-consistent st ip t o =
+      rw (answer-consistent (typeSet t) (typeSet-open t o) (flowTo ip) (st .routes), listed-consistent t o st)
 
-  pub local4-apart : (st : State) (ip : ℕ) → local4 (without chosen st) ip ≡ local4 st ip
+  pub local4-consistent : (st : State) (ip : ℕ) → local4 (without chosen st) ip ≡ local4 st ip
   unfolding local4
-  local4-apart st ip = rw (listed-apart localTable local-open st, addrType4-apart st ip localTable local-open)
+  local4-consistent st ip = rw (listed-consistent localTable local-open st, addrType4-consistent st ip localTable local-open)
 
   -- ---- tables listed
-  pub addTable-apart : (t : ℕ) → unchosen chosen t ≡ true → (l : List ℕ) → addTable t (keep (unchosen chosen) l) ≡ keep (unchosen chosen) (addTable t l)
-  addTable-apart t o l =
+  pub addTable-consistent : (t : ℕ) → unchosen chosen t ≡ true → (l : List ℕ) → addTable t (keep (unchosen chosen) l) ≡ keep (unchosen chosen) (addTable t l)
+  addTable-consistent t o l =
       rw (any-within (eqb t) (unchosen chosen) (λ u e. unchosen-like chosen t u o e) l)
       (test-case (among t l) (λ e. rw e)
       (λ e. rw (e, keep-append (unchosen chosen) l (t ∷ []), o)))
 
-  pub create4-apart : (t : ℕ) → unchosen chosen t ≡ true → (st : State) → create4 t (without chosen st) ≡ without chosen (create4 t st)
+  pub create4-consistent : (t : ℕ) → unchosen chosen t ≡ true → (st : State) → create4 t (without chosen st) ≡ without chosen (create4 t st)
   unfolding create4 listTable
-  create4-apart t o st =
+  create4-consistent t o st =
       test-case (eqb t localTable)
-      (λ e. rw (e, addTable-apart mainTable main-open (st .tables), addTable-apart t o (addTable mainTable (st .tables))))
-      (λ e. rw (e, addTable-apart t o (st .tables)))
+      (λ e. rw (e, addTable-consistent mainTable main-open (st .tables), addTable-consistent t o (addTable mainTable (st .tables))))
+      (λ e. rw (e, addTable-consistent t o (st .tables)))
 
   -- ---- insertion
   unfoldable pub keptIn : Inserted → Inserted
-  keptIn (put rows flags) = put (keep (outside chosen) rows) flags
+  keptIn (placed rows flags) = placed (keep (outside chosen) rows) flags
   keptIn nothing = nothing
-  keptIn (Inserted.refused n) = Inserted.refused n
+  keptIn (Inserted.unplaced n) = Inserted.unplaced n
 
   module _ (new : Row) (o : outside chosen new ≡ true) where
     alike-outside : Implies (alike new) (outside chosen)
@@ -102,9 +102,9 @@ module _ (chosen : ℕ → Bool) (choice : Choice chosen) where
     equal-outside : Implies (eqRow new) (outside chosen)
     equal-outside r h = rw (sym (eqRow-true new r h)) o
 
-    ahead-apart : (rows : List Row) → ahead new (keep (outside chosen) rows) ≡ keep (outside chosen) (ahead new rows)
+    ahead-consistent : (rows : List Row) → ahead new (keep (outside chosen) rows) ≡ keep (outside chosen) (ahead new rows)
     unfolding ahead
-    ahead-apart rows =
+    ahead-consistent rows =
         rw (
           keep-append (outside chosen) (keep (λ r. before r new) rows) (new ∷ keep (λ r. not (before r new)) rows),
           o,
@@ -112,9 +112,9 @@ module _ (chosen : ℕ → Bool) (choice : Choice chosen) where
           keep-keep (outside chosen) (λ r. not (before r new)) rows,
         )
 
-    behind-apart : (rows : List Row) → behind new (keep (outside chosen) rows) ≡ keep (outside chosen) (behind new rows)
+    behind-consistent : (rows : List Row) → behind new (keep (outside chosen) rows) ≡ keep (outside chosen) (behind new rows)
     unfolding behind
-    behind-apart rows =
+    behind-consistent rows =
         rw (
           keep-append (outside chosen) (keep (λ r. not (before new r)) rows) (new ∷ keep (λ r. before new r) rows),
           o,
@@ -122,48 +122,48 @@ module _ (chosen : ℕ → Bool) (choice : Choice chosen) where
           keep-keep (outside chosen) (λ r. before new r) rows,
         )
 
-    pub insert4-apart : (flags : ℕ) (rows : List Row) → insert4 new flags (keep (outside chosen) rows) ≡ keptIn (insert4 new flags rows)
+    pub insert4-consistent : (flags : ℕ) (rows : List Row) → insert4 new flags (keep (outside chosen) rows) ≡ keptIn (insert4 new flags rows)
     unfolding insert4
-    insert4-apart flags rows =
+    insert4-consistent flags rows =
         rw (
           any-within (alike new) (outside chosen) alike-outside rows,
           first-within (alike new) (outside chosen) alike-outside rows,
           any-within (eqRow new) (outside chosen) equal-outside rows,
           replaceFirst-within (alike new) (outside chosen) alike-outside new o rows,
-          ahead-apart rows,
-          behind-apart rows,
+          ahead-consistent rows,
+          behind-consistent rows,
         )
         (simp (cond-map keptIn) (unfold keptIn in refl))
 
-    inserted-apart : (i : Inserted) (st : State) → Mirrors chosen (inserted new i st) (inserted new (keptIn i) (without chosen st))
+    inserted-consistent : (i : Inserted) (st : State) → Mirrors chosen (inserted new i st) (inserted new (keptIn i) (without chosen st))
     unfolding keptIn
-    inserted-apart (put rows flags) st = record { state = refl; emitted = refl }
-    inserted-apart nothing st = record { state = refl; emitted = refl }
-    inserted-apart (Inserted.refused n) st = record { state = refl; emitted = refl }
+    inserted-consistent (placed rows flags) st = record { state = refl; emitted = refl }
+    inserted-consistent nothing st = record { state = refl; emitted = refl }
+    inserted-consistent (Inserted.unplaced n) st = record { state = refl; emitted = refl }
 
-    pub kernelAdd4-apart : Apart chosen (kernelAdd4 new)
+    pub kernelAdd4-consistent : StepConsistent chosen (kernelAdd4 new)
     unfolding kernelAdd4
-    kernelAdd4-apart st =
+    kernelAdd4-consistent st =
         let made = create4 (table new) st in
-        rw (create4-apart (table new) o st, insert4-apart kernelFlags (made .routes))
-        (inserted-apart (insert4 new kernelFlags (made .routes)) made)
+        rw (create4-consistent (table new) o st, insert4-consistent kernelFlags (made .routes))
+        (inserted-consistent (insert4 new kernelFlags (made .routes)) made)
 
   -- ---- deletion
   -- the first row that passes goes, where only rows outside pass
   module _ (p : Row → Bool) (i : Implies p (outside chosen)) where
-    pub removal-apart : (st : State) → without chosen (withRoutes (removeFirst p (st .routes)) st) ≡ withRoutes (removeFirst p (without chosen st .routes)) (without chosen st)
-    removal-apart st = rw (removeFirst-within p (outside chosen) i (st .routes))
+    pub removal-consistent : (st : State) → without chosen (withRoutes (removeFirst p (st .routes)) st) ≡ withRoutes (removeFirst p (without chosen st .routes)) (without chosen st)
+    removal-consistent st = rw (removeFirst-within p (outside chosen) i (st .routes))
 
-    removed-apart : (r : Option Row) (st : State) → Mirrors chosen (removed p r st) (removed p r (without chosen st))
-    removed-apart none st = record { state = refl; emitted = refl }
-    removed-apart (some r) st = record { state = sym (removal-apart st); emitted = refl }
+    removed-consistent : (r : Option Row) (st : State) → Mirrors chosen (removed p r st) (removed p r (without chosen st))
+    removed-consistent none st = record { state = refl; emitted = refl }
+    removed-consistent (some r) st = record { state = sym (removal-consistent st); emitted = refl }
 
-  pub kernelDel4-apart : (p : Row) → outside chosen p ≡ true → Apart chosen (kernelDel4 p)
+  pub kernelDel4-consistent : (p : Row) → outside chosen p ≡ true → StepConsistent chosen (kernelDel4 p)
   unfolding kernelDel4
-  kernelDel4-apart p o st =
+  kernelDel4-consistent p o st =
       let i = named-outside in
       rw (first-within (named p) (outside chosen) i (st .routes))
-      (removed-apart (named p) i (first (named p) (st .routes)) st)
+      (removed-consistent (named p) i (first (named p) (st .routes)) st)
     where
       named-outside : Implies (named p) (outside chosen)
       named-outside r h =

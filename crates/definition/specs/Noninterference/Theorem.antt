@@ -13,7 +13,7 @@ use Rattle.definition.specs.Preservation.Step.{Held, held-empty, good-he
 use Rattle.definition.specs.Noninterference.Statement.{Choice, struck, unstruck, emptyWords, after, spacious, compared, observed, View, TwoRuns}
 use Rattle.definition.specs.Noninterference.Projection.{without}
 use Rattle.definition.specs.Noninterference.Calls.{freely, spaced, step-follows, bounded-freely}
-use Rattle.definition.specs.Noninterference.Apart.{same, hidden}
+use Rattle.definition.specs.Noninterference.Unwinding.{step-consistent, locally-respects}
 
 -- ---- a run without limits, on states
 ideal : (ℕ → Bool) → List Call → State → List Reply
@@ -50,11 +50,11 @@ module _ (chosen : ℕ → Bool) (choice : Choice chosen) where
       test-case (struck chosen c)
       (λ e.
       let unseen : without chosen (stateOf w′) ≡ without chosen (stateOf w) =
-      ap (without chosen) state ∙ hidden chosen choice c e (stateOf w) inOrder
+      ap (without chosen) state ∙ locally-respects chosen choice c e (stateOf w) inOrder
       in
       record { answers = rw e (later .answers ∙ ap (ideal chosen (unstruck chosen cs)) unseen); ends = rw e (later .ends ∙ ap (last (unstruck chosen cs)) unseen) })
       (λ e.
-      let m = same chosen choice c e (stateOf w) in
+      let m = step-consistent chosen choice c e (stateOf w) in
       let moved : without chosen (stateOf w′) ≡ freely (semantics c) (without chosen (stateOf w)) .state =
       ap (without chosen) state ∙ sym (m .state)
       in

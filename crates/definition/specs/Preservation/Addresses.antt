@@ -17,8 +17,8 @@ use Rattle.layout.specs.Route as Route
 use Rattle.layout.specs.Event.{newAddr4, newRoute4, delRoute4}
 use Rattle.layout.specs.Request.{fitAddV4, replaceAsked, upAtAddV4}
 use Rattle.definition.specs.State.{State, becomes, stays, withAddresses, withRoutes}
-use Rattle.definition.specs.Reference.Insert.{create4, listTable, insert4, Inserted, put, nothing, inserted, kernelAdd4, kernelDel4, named, removed, kernelFlags}
-use Rattle.definition.specs.Reference.Addresses.{Outcome, candidates, prefixRoute, bring, place4, yields, newAddress, changedTo, moved, reroutes, changeV4, addedOver, addV4, asked, asSecondary, sameAddress, sameSubnet, loopback, step, up, down, hostScope}
+use Rattle.definition.specs.Reference.Insert.{create4, listTable, insert4, Inserted, placed, nothing, inserted, kernelAdd4, kernelDel4, named, removed, kernelFlags}
+use Rattle.definition.specs.Reference.Addresses.{Outcome, candidates, prefixRoute, bring, place4, yields, newAddress, changedTo, moved, reroutes, changeV4, addedOver, addV4, asked, asSecondary, sameAddress, sameSubnet, loopback, outOf, up, down, hostScope}
 use Rattle.definition.specs.Preservation.Fit.{Fit, fields-address}
 use Rattle.definition.specs.Preservation.Routes.{keep-fit, removeFirst-fit, Puts, insert-fit, listTable-fit}
 use Rattle.definition.specs.Preservation.Keeps.{Kept, Keeps, KeptOutcome, KeepsOutcome, fit-addresses, fit-routes, fit-tables, becomes-kept, stays-keeps, also-kept, through-keeps}
@@ -30,10 +30,10 @@ unfolding create4
 create4-fit t st f = fit-tables st (listTable t (st .tables)) f (listTable-fit t (st .tables) (f .ofTables))
 
 inserted-kept : (new : Row) (i : Inserted) (st : State) → fitRoute new ≡ true → Puts i → Fit st → Kept (inserted new i st)
-inserted-kept new (put rows flags) st h p f =
+inserted-kept new (placed rows flags) st h p f =
     becomes-kept (withRoutes rows st) (newRoute4 new flags ∷ []) (newRoute4-emitted new flags h) (fit-routes st rows f p)
 inserted-kept new nothing st h p f = stays-keeps .kept st f
-inserted-kept new (Inserted.refused n) st h p f = stays-keeps .kept st f
+inserted-kept new (Inserted.unplaced n) st h p f = stays-keeps .kept st f
 
 pub kernelAdd4-keeps : (new : Row) → fitRoute new ≡ true → Keeps (kernelAdd4 new)
 unfolding kernelAdd4
@@ -127,7 +127,7 @@ addV4-keeps q now long g =
     }
 
 -- ---- up and down
-pub step-kept : (o : Outcome) → KeptOutcome o → Kept (step o)
+pub step-kept : (o : Outcome) → KeptOutcome o → Kept (outOf o)
 step-kept (Outcome.goes o) k = k
 step-kept (Outcome.refused n st) f = stays-keeps .kept st f
 
@@ -140,7 +140,7 @@ unfolding up
 up-keeps now =
     record {
       kept = λ st f.
-          also-kept (step (addV4 loopback now st)) _ (step-kept (addV4 loopback now st) ((addV4-keeps loopback now refl loopback-fit) .kept st f))
+          also-kept (outOf (addV4 loopback now st)) _ (step-kept (addV4 loopback now st) ((addV4-keeps loopback now refl loopback-fit) .kept st f))
           (record {
             kept = λ later k.
                 (through-keeps (λ a. bring (candidates (later .addresses) true a)) fitAddress (later .addresses)

@@ -16,7 +16,7 @@ use Rattle.layout.specs.Request.{fitAddV4, replaceAsked, nlmFlags}
 use Rattle.layout.specs.Route.{table, prefsrcPresent}
 use Rattle.definition.specs.State.{State, Sizes, Out, sizes, stays, also}
 use Rattle.definition.specs.Words.{within}
-use Rattle.definition.specs.Reference.Insert.{create4, insert4, Inserted, put, nothing, inserted, kernelAdd4, kernelDel4, named, removed, kernelFlags, Insertion}
+use Rattle.definition.specs.Reference.Insert.{create4, insert4, Inserted, placed, nothing, inserted, kernelAdd4, kernelDel4, named, removed, kernelFlags, Insertion}
 use Rattle.definition.specs.Reference.Addresses.{Outcome, goes, refused, prefixRoute, moved, reroutes, changeV4, addedOver, addV4, sameAddress, up, down}
 use Rattle.definition.specs.Reference.Removal.{deletes, deletedAt, removeV4, delV4, expire}
 use Rattle.definition.specs.Reference.Routes.{Reached, formCheck, reachCheck, tableNamed, badPrefix, askedRoute, validPrefsrc4, insertedAs, routed, selects, deletedRoute, delRoute4Request, addedBy}
@@ -60,9 +60,9 @@ drops-eventBound st o g d =
 
 -- ---- one row, or none
 inserted-emitted : (new : Row) (i : Inserted) (st : State) → length ((inserted new i st) .emitted) ≤ 1
-inserted-emitted new (put rows flags) st = omega arith
+inserted-emitted new (placed rows flags) st = omega arith
 inserted-emitted new nothing st = omega arith
-inserted-emitted new (Inserted.refused n) st = omega arith
+inserted-emitted new (Inserted.unplaced n) st = omega arith
 
 kernelAdd4-emitted : (new : Row) (st : State) → length ((kernelAdd4 new st) .emitted) ≤ 1
 unfolding kernelAdd4
@@ -98,12 +98,12 @@ addedOver-eventBound q now (some old) st k =
 addedOver-eventBound q now none st k = adds-eventBound st _ k (newAddress-adds _ _ st)
 
 insertedAs-eventBound : (new : Row) (i : Inserted) (st : State) → EventBoundOutcome (insertedAs new i st)
-insertedAs-eventBound new (put rows flags) st = eventBound _ (omega arith)
+insertedAs-eventBound new (placed rows flags) st = eventBound _ (omega arith)
 insertedAs-eventBound new nothing st = eventBound (stays st) (omega arith)
-insertedAs-eventBound new (Inserted.refused n) st = tt
+insertedAs-eventBound new (Inserted.unplaced n) st = tt
 
 routed-eventBound : (insert : Insertion) (q : Row) (r : Reached) (st : State) → EventBoundOutcome (routed insert q r st)
-routed-eventBound insert q (Reached.refused n) st = tt
+routed-eventBound insert q (Reached.unreached n) st = tt
 routed-eventBound insert q (Reached.by linked) st =
     cond-case EventBoundOutcome (eqb (prefsrcPresent q) 1 && not (validPrefsrc4 q st)) (λ e. tt)
     (λ e. insertedAs-eventBound (askedRoute q linked) (insert (askedRoute q linked) (nlmFlags q) (st .routes)) st)

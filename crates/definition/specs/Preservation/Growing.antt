@@ -15,8 +15,8 @@ use Rattle.layout.specs.Address.{secondary}
 use Rattle.layout.specs.Route.{alike, before, table}
 use Rattle.layout.specs.Event.{newAddr4}
 use Rattle.definition.specs.State.{State, Out, becomes, stays, also, through, withAddresses}
-use Rattle.definition.specs.Reference.Insert.{create4, insert4, Inserted, put, nothing, inserted, exclFlag, replaceFlag, createFlag, appendFlag, ahead, behind, kernelAdd4, kernelFlags}
-use Rattle.definition.specs.Reference.Addresses.{candidates, bring, place4, yields, newAddress, addedOver, addV4, sameAddress, loopback, step, up}
+use Rattle.definition.specs.Reference.Insert.{create4, insert4, Inserted, placed, nothing, inserted, exclFlag, replaceFlag, createFlag, appendFlag, ahead, behind, kernelAdd4, kernelFlags}
+use Rattle.definition.specs.Reference.Addresses.{candidates, bring, place4, yields, newAddress, addedOver, addV4, sameAddress, loopback, outOf, up}
 
 pub record Adds (st : State) (o : Out) : Type 0 where
   pub grown : length (o .emitted) + (length (st .routes) + length (st .addresses)) ≤ length (o .state .routes) + length (o .state .addresses)
@@ -36,9 +36,9 @@ through-adds f (x ∷ l) g st = also-adds st (f x st) (through f l) (g x st) (λ
 
 -- a row more, where nothing may be replaced
 abbrev pub Grows : List Row → Inserted → Type 0
-Grows l (put rows flags) = length rows ≡ suc (length l)
+Grows l (placed rows flags) = length rows ≡ suc (length l)
 Grows l nothing = Unit
-Grows l (Inserted.refused n) = Unit
+Grows l (Inserted.unplaced n) = Unit
 
 length-ahead : (new : Row) (l : List Row) → length (ahead new l) ≡ suc (length l)
 unfolding ahead
@@ -61,9 +61,9 @@ insert-grows new flags l h =
     (λ a. cond-case (Grows l) (createFlag flags) (λ g. length-ahead new l) (λ g. tt))
 
 inserted-adds : (new : Row) (i : Inserted) (st : State) → Grows (st .routes) i → Adds st (inserted new i st)
-inserted-adds new (put rows flags) st h = record { grown = omega arith }
+inserted-adds new (placed rows flags) st h = record { grown = omega arith }
 inserted-adds new nothing st h = stays-adds st
-inserted-adds new (Inserted.refused n) st h = stays-adds st
+inserted-adds new (Inserted.unplaced n) st h = stays-adds st
 
 pub no-replacing : replaceFlag kernelFlags ≡ false
 unfolding hasBit
@@ -92,14 +92,14 @@ newAddress-adds new up st =
     (λ s. bring-adds (candidates (place4 new (st .addresses)) up new) s)
 
 -- an address that isn't replaced
-added-adds : (now : ℕ) (o : Option Row) (st : State) → Adds st (step (addedOver loopback now o st))
+added-adds : (now : ℕ) (o : Option Row) (st : State) → Adds st (outOf (addedOver loopback now o st))
 added-adds now (some old) st = stays-adds st
 added-adds now none st = newAddress-adds _ _ st
 
 pub up-adds : (now : ℕ) (st : State) → Adds st (up now st)
 unfolding up addV4
 up-adds now st =
-    also-adds st (step (addedOver loopback now (first (sameAddress loopback) (st .addresses)) st))
+    also-adds st (outOf (addedOver loopback now (first (sameAddress loopback) (st .addresses)) st))
     (λ later. through (λ a. bring (candidates (later .addresses) true a)) (later .addresses) later)
     (added-adds now (first (sameAddress loopback) (st .addresses)) st)
     (λ s. through-adds (λ a. bring (candidates (s .addresses) true a)) (s .addresses) (λ a t. bring-adds (candidates (s .addresses) true a) t) s)

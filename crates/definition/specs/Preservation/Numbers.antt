@@ -17,7 +17,7 @@ use Rattle.layout.specs.Request.{fitAddRoute4, metricsError, oif, upAtAddRoute4
 use Rattle.definition.specs.State.{State}
 use Rattle.definition.specs.Step.{unfit}
 use Rattle.definition.specs.Reference.Lookup.{Flow, Found, route, answer, together, lookupIn, ruling, settled, rejects, listed, addrType4, defaultTable, mainTable, localTable, unicastKind, localKind}
-use Rattle.definition.specs.Reference.Insert.{create4, Insertion, insert4, Inserted, put, nothing, isRow, exclFlag, replaceFlag, createFlag, appendFlag}
+use Rattle.definition.specs.Reference.Insert.{create4, Insertion, insert4, Inserted, placed, nothing, isRow, exclFlag, replaceFlag, createFlag, appendFlag}
 use Rattle.definition.specs.Reference.Addresses.{Outcome, goes, refused, addedOver, addV4, sameAddress, linkScope, hostScope}
 use Rattle.definition.specs.Reference.Removal.{deletes, deletedAt, delV4}
 use Rattle.definition.specs.Reference.Routes.{Reached, then, refuse, badPrefix, deadFlags, unsupported, onlinkFlag, formCheck, onlinkCheck, toGateway, usable, foundOr, gatewayRoute, reachedBy, gateway4, reachCheck, askedRoute, validPrefsrc4, insertedAs, routed, addedBy, tableNamed, selects, deletedRoute, delRoute4Request}
@@ -70,9 +70,9 @@ lookup-number st f =
 -- ---- the gateway
 abbrev OfReached : Reached → Type 0
 OfReached (Reached.by b) = Unit
-OfReached (Reached.refused n) = Errno n
+OfReached (Reached.unreached n) = Errno n
 
-plain-number : (b : Bool) (n : ℕ) → n ≤ 133 → OfReached (cond (eqb n 0) (Reached.by b) (Reached.refused n))
+plain-number : (b : Bool) (n : ℕ) → n ≤ 133 → OfReached (cond (eqb n 0) (Reached.by b) (Reached.unreached n))
 plain-number b n h = cond-case OfReached (eqb n 0) (λ e. tt) (λ e. errno n (not-zero n e) h)
 
 onlink-number : (q : Row) (st : State) → OfReached (onlinkCheck q st)
@@ -134,9 +134,9 @@ abbrev refers : (n : ℕ) → 0 < n → n ≤ 133 → Referred n
 refers n h k = referred n (errno n h k)
 
 abbrev pub OfInserted : Inserted → Type 0
-OfInserted (put rows flags) = Unit
+OfInserted (placed rows flags) = Unit
 OfInserted nothing = Unit
-OfInserted (Inserted.refused n) = Referred n
+OfInserted (Inserted.unplaced n) = Referred n
 
 -- an insertion that refuses with numbers of the reference
 abbrev pub Numbers : Insertion → Type 0
@@ -156,12 +156,12 @@ insert-number new flags l =
     (λ a. cond-case OfInserted (createFlag flags) (λ g. tt) (λ g. wanting))
 
 insertedAs-number : (new : Row) (i : Inserted) (st : State) → OfInserted i → Numbered (insertedAs new i st)
-insertedAs-number new (put rows flags) st h = tt
+insertedAs-number new (placed rows flags) st h = tt
 insertedAs-number new nothing st h = tt
-insertedAs-number new (Inserted.refused n) st h = h
+insertedAs-number new (Inserted.unplaced n) st h = h
 
 routed-number : (insert : Insertion) → Numbers insert → (q : Row) (r : Reached) (st : State) → OfReached r → Numbered (routed insert q r st)
-routed-number insert i q (Reached.refused n) st h = referred n h
+routed-number insert i q (Reached.unreached n) st h = referred n h
 routed-number insert i q (Reached.by linked) st h =
     cond-case Numbered (eqb (prefsrcPresent q) 1 && not (validPrefsrc4 q st)) (λ e. refers 22 (omega arith) (omega arith))
     (λ e. insertedAs-number (askedRoute q linked) (insert (askedRoute q linked) (nlmFlags q) (st .routes)) st (i (askedRoute q linked) (nlmFlags q) (st .routes)))

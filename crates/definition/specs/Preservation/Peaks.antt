@@ -18,8 +18,8 @@ use Rattle.layout.specs.Event.{newAddr4, delAddr4, newRoute4, delRoute4}
 use Rattle.definition.specs.State.{State, Sizes, Out, sizes, most, becomes, stays, also, through, withAddresses, withRoutes}
 use Rattle.definition.specs.Words.{within}
 use Rattle.definition.specs.Reference.Lookup.{mainTable, localTable, localKind, listed, local4}
-use Rattle.definition.specs.Reference.Insert.{addTable, listTable, create4, insert4, Inserted, put, nothing, inserted, kernelAdd4, kernelDel4, named, removed, kernelFlags}
-use Rattle.definition.specs.Reference.Addresses.{goes, refused, candidates, bring, place4, newAddress, addedOver, addV4, sameAddress, loopback, step, up, down, hostScope}
+use Rattle.definition.specs.Reference.Insert.{addTable, listTable, create4, insert4, Inserted, placed, nothing, inserted, kernelAdd4, kernelDel4, named, removed, kernelFlags}
+use Rattle.definition.specs.Reference.Addresses.{goes, refused, candidates, bring, place4, newAddress, addedOver, addV4, sameAddress, loopback, outOf, up, down, hostScope}
 use Rattle.definition.specs.Reference.Removal.{ofKind, unwanted, dependentOn, fall, disable, removeOne, goneWith, removeV4, deletes, deletedAt, delV4, due, deprecates, deprecate, deprecateDue, passes, expire}
 use Rattle.definition.specs.Preservation.Encode.{Good}
 use Rattle.definition.specs.Preservation.Keeps.{Covers}
@@ -111,12 +111,12 @@ disable-under st =
 pub removeOne-under : (a : Row) (st : State) → Under st (removeOne a st)
 unfolding removeOne
 removeOne-under a st =
-    let left : List Row = removeFirst (eqRow a) (st .addresses) in
-    let routes : List Row = unwanted (st .addresses) left a in
+    let remaining : List Row = removeFirst (eqRow a) (st .addresses) in
+    let routes : List Row = unwanted (st .addresses) remaining a in
     also-under st _ disable
     (also-under st _ (fall a routes)
-    (also-under st (becomes (withAddresses left st) (delAddr4 a ∷ [])) (through kernelDel4 routes)
-    (becomes-under st (withAddresses left st) (delAddr4 a ∷ []) (fewer-addresses st left (length-removeFirst-most (eqRow a) (st .addresses))))
+    (also-under st (becomes (withAddresses remaining st) (delAddr4 a ∷ [])) (through kernelDel4 routes)
+    (becomes-under st (withAddresses remaining st) (delAddr4 a ∷ []) (fewer-addresses st remaining (length-removeFirst-most (eqRow a) (st .addresses))))
     (through-under kernelDel4 routes kernelDel4-under))
     (fall-under a routes))
     disable-under
@@ -205,10 +205,10 @@ listTable-longer t l =
     omega (arith, addTable-longer t (cond (eqb t localTable) (addTable mainTable l) l))
 
 inserted-rises : (new : Row) (i : Inserted) (st made : State) → Covers (sizes st) (sizes made) → Grows (made .routes) i → Rises st (inserted new i made)
-inserted-rises new (put rows flags) st made c h =
+inserted-rises new (placed rows flags) st made c h =
     becomes-rises st (withRoutes rows made) (newRoute4 new flags ∷ []) (record { ofAddresses = c .ofAddresses; ofRoutes = omega (arith, c .ofRoutes, h); ofTables = c .ofTables })
 inserted-rises new nothing st made c h = becomes-rises st made [] c
-inserted-rises new (Inserted.refused n) st made c h = becomes-rises st made [] c
+inserted-rises new (Inserted.unplaced n) st made c h = becomes-rises st made [] c
 
 pub kernelAdd4-rises : (new : Row) (st : State) → Rises st (kernelAdd4 new st)
 unfolding kernelAdd4 create4
@@ -229,14 +229,14 @@ newAddress-rises new up st =
     (becomes-rises st placed (newAddr4 new ∷ []) (record { ofAddresses = omega (arith, length-place4 new (st .addresses)); ofRoutes = omega arith; ofTables = omega arith }))
     (bring-rises (candidates (placed .addresses) up new))
 
-added-rises : (now : ℕ) (o : Option Row) (st : State) → Rises st (step (addedOver loopback now o st))
+added-rises : (now : ℕ) (o : Option Row) (st : State) → Rises st (outOf (addedOver loopback now o st))
 added-rises now (some old) st = stays-rises st
 added-rises now none st = newAddress-rises _ _ st
 
 pub up-rises : (now : ℕ) (st : State) → Rises st (up now st)
 unfolding up addV4
 up-rises now st =
-    also-rises st (step (addedOver loopback now (first (sameAddress loopback) (st .addresses)) st))
+    also-rises st (outOf (addedOver loopback now (first (sameAddress loopback) (st .addresses)) st))
     (λ later. through (λ a. bring (candidates (later .addresses) true a)) (later .addresses) later)
     (added-rises now (first (sameAddress loopback) (st .addresses)) st)
     (λ s. through-rises (λ a. bring (candidates (s .addresses) true a)) (s .addresses) (λ a t. bring-rises (candidates (s .addresses) true a) t) s)

@@ -52,12 +52,12 @@ delRoute4-leaves q st =
     refl
 
 inserted-leaves : (new : Row) (i : Inserted) (st : State) → Leaves st (insertedAs new i st)
-inserted-leaves new (Inserted.put rows flags) st = tt
+inserted-leaves new (Inserted.placed rows flags) st = tt
 inserted-leaves new Inserted.nothing st = tt
-inserted-leaves new (Inserted.refused n) st = refl
+inserted-leaves new (Inserted.unplaced n) st = refl
 
 routed-leaves : (insert : Insertion) (q : Row) (r : Reached) (st : State) → Leaves st (routed insert q r st)
-routed-leaves insert q (Reached.refused n) st = refl
+routed-leaves insert q (Reached.unreached n) st = refl
 routed-leaves insert q (Reached.by linked) st =
     leaves-either st (eqb (prefsrcPresent q) 1 && not (validPrefsrc4 q st)) (refused 22 st) (insertedAs (askedRoute q linked) (insert (askedRoute q linked) (nlmFlags q) (st .routes)) st) refl
     (inserted-leaves (askedRoute q linked) (insert (askedRoute q linked) (nlmFlags q) (st .routes)) st)

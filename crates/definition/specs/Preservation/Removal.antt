@@ -46,12 +46,12 @@ unfolding removeOne
 removeOne-keeps a h =
     record {
       kept = λ st f.
-          let left : List Row = removeFirst (eqRow a) (st .addresses) in
-          let routes : List Row = unwanted (st .addresses) left a in
+          let remaining : List Row = removeFirst (eqRow a) (st .addresses) in
+          let routes : List Row = unwanted (st .addresses) remaining a in
           also-kept _ disable
           (also-kept _ (fall a routes)
-          (also-kept (becomes (withAddresses left st) (delAddr4 a ∷ [])) (through kernelDel4 routes)
-          (becomes-kept (withAddresses left st) (delAddr4 a ∷ []) (delAddr4-emitted a h) (fit-addresses st left f (all-removeFirst fitAddress (eqRow a) (st .addresses) (f .ofAddresses))))
+          (also-kept (becomes (withAddresses remaining st) (delAddr4 a ∷ [])) (through kernelDel4 routes)
+          (becomes-kept (withAddresses remaining st) (delAddr4 a ∷ []) (delAddr4-emitted a h) (fit-addresses st remaining f (all-removeFirst fitAddress (eqRow a) (st .addresses) (f .ofAddresses))))
           (through-each kernelDel4 routes kernelDel4-keeps))
           (fall-keeps a routes))
           disable-keeps;

@@ -16,7 +16,7 @@ use Rattle.layout.specs.Event.{newRoute4, delRoute4}
 use Rattle.layout.specs.Request.{fitAddRoute4, nlmFlags}
 use Rattle.definition.specs.State.{State, withRoutes}
 use Rattle.definition.specs.Reference.Lookup.{listed}
-use Rattle.definition.specs.Reference.Insert.{create4, Insertion, Inserted, put, nothing}
+use Rattle.definition.specs.Reference.Insert.{create4, Insertion, Inserted, placed, nothing}
 use Rattle.definition.specs.Reference.Routes.{addedBy, routed, Reached, insertedAs, askedRoute, reachCheck, validPrefsrc4, formCheck, badPrefix, tableNamed, selects, deletedRoute, delRoute4Request}
 use Rattle.definition.specs.Preservation.Fit.{Fit, FitRoutes}
 use Rattle.definition.specs.Preservation.Routes.{removeFirst-fit, Puts}
@@ -25,10 +25,10 @@ use Rattle.definition.specs.Preservation.Rows.{askedRoute-fit, newRoute4
 use Rattle.definition.specs.Preservation.Addresses.{create4-fit}
 
 insertedAs-kept : (new : Row) (i : Inserted) (st : State) → fitRoute new ≡ true → Puts i → Fit st → KeptOutcome (insertedAs new i st)
-insertedAs-kept new (put rows flags) st h p f =
+insertedAs-kept new (placed rows flags) st h p f =
     becomes-kept (withRoutes rows st) (newRoute4 new flags ∷ []) (newRoute4-emitted new flags h) (fit-routes st rows f p)
 insertedAs-kept new nothing st h p f = stays-keeps .kept st f
-insertedAs-kept new (Inserted.refused n) st h p f = f
+insertedAs-kept new (Inserted.unplaced n) st h p f = f
 
 -- an insertion that leaves fit rows
 abbrev pub Fits : Insertion → Type 0
@@ -36,7 +36,7 @@ Fits insert = (new : Row) (flags : ℕ) (l : List Row) → fitRoute new ≡ true
 
 routed-kept : (insert : Insertion) → Fits insert → (q : Row) (r : Reached) (st : State) → ((linked : Bool) → fitRoute (askedRoute q linked) ≡ true) → Fit st
     → KeptOutcome (routed insert q r st)
-routed-kept insert i q (Reached.refused n) st h f = f
+routed-kept insert i q (Reached.unreached n) st h f = f
 routed-kept insert i q (Reached.by linked) st h f =
     cond-case KeptOutcome (eqb (prefsrcPresent q) 1 && not (validPrefsrc4 q st)) (λ e. f)
     (λ e. insertedAs-kept (askedRoute q linked) (insert (askedRoute q linked) (nlmFlags q) (st .routes)) st (h linked)

@@ -11,7 +11,7 @@ use Rattle.lists.specs.All.{all-cons, all-append, all-keep, all-kept, all-mono,
 use Rattle.layout.specs.Route.{fitRoute, before, alike}
 use Rattle.definition.specs.Words.{ordered, distinct, noneTwice}
 use Rattle.definition.specs.Reference.Lookup.{mainTable, localTable}
-use Rattle.definition.specs.Reference.Insert.{ahead, behind, insert4, Inserted, put, nothing, refused, isRow, exclFlag, replaceFlag, createFlag, appendFlag, addTable, listTable}
+use Rattle.definition.specs.Reference.Insert.{ahead, behind, insert4, Inserted, placed, nothing, unplaced, isRow, exclFlag, replaceFlag, createFlag, appendFlag, addTable, listTable}
 use Rattle.definition.specs.Preservation.Fit.{FitRoutes}
 use Rattle.definition.specs.Preservation.Order.{before-never, before-after, alike-before, before-alike, alike-sym, alike-refl}
 
@@ -88,9 +88,9 @@ module _ (new : Row) (l : List Row) (f : FitRoutes l) (fit : fitRoute new ≡ tr
 
 -- what an insertion makes of fit rows
 abbrev pub Puts : Inserted → Type 0
-Puts (put rows flags) = FitRoutes rows
+Puts (placed rows flags) = FitRoutes rows
 Puts nothing = Unit
-Puts (refused n) = Unit
+Puts (unplaced n) = Unit
 
 -- a row that none is alike is not among them
 pub none-equal : (new : Row) (l : List Row) → any (alike new) l ≡ false → any (eqRow new) l ≡ false

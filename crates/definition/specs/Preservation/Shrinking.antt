@@ -106,11 +106,11 @@ also-removes a st o g h k =
 pub removeOne-removes : (a : Row) (st : State) → RemovesOne a st (removeOne a st)
 unfolding removeOne
 removeOne-removes a st =
-    let left : List Row = removeFirst (eqRow a) (st .addresses) in
-    let routes : List Row = unwanted (st .addresses) left a in
+    let remaining : List Row = removeFirst (eqRow a) (st .addresses) in
+    let routes : List Row = unwanted (st .addresses) remaining a in
     also-removes a st _ disable
     (also-removes a st _ (fall a routes)
-    (also-removes a st (becomes (withAddresses left st) (delAddr4 a ∷ [])) (through kernelDel4 routes)
+    (also-removes a st (becomes (withAddresses remaining st) (delAddr4 a ∷ [])) (through kernelDel4 routes)
     (record { rest = refl; shrunk = omega arith }) (through-away kernelDel4 routes kernelDel4-away))
     (fall-away a routes))
     disable-away

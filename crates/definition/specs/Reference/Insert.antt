@@ -15,7 +15,7 @@ use Rattle.definition.specs.Reference.Lookup.{mainTable, localTable}
 abbrev pub addTable : ℕ → List ℕ → List ℕ
 addTable t l = cond (among t l) l (l ++ (t ∷ []))
 
--- a table is listed; 255 brings 254 along if that is unlisted
+-- a table is listed; 255 brings 254 along if that is unlisted [create4; fib_new_table]
 unfoldable pub listTable : ℕ → List ℕ → List ℕ
 listTable t l = addTable t (cond (eqb t localTable) (addTable mainTable l) l)
 
@@ -23,7 +23,7 @@ unfoldable pub create4 : ℕ → State → State
 create4 t st = withTables (listTable t (st .tables)) st
 
 -- ---- insertion
--- what a request's flags ask for
+-- what a request's flags ask for [F_REPLACE, F_EXCL, F_CREATE, F_APPEND; NLM_F_*]
 abbrev pub replaceFlag : ℕ → Bool
 replaceFlag f = hasBit replaceBit f
 
@@ -36,22 +36,23 @@ createFlag f = hasBit createBit f
 abbrev pub appendFlag : ℕ → Bool
 appendFlag f = hasBit appendBit f
 
--- what comes of an insertion: the rows afterwards with the flags told, nothing to do, or a refusal
+-- what comes of an insertion: the rows afterwards with the flags told, nothing to do, or a refusal [insert4's Result]
 pub data Inserted : Type 0 where
-  put : List Row → ℕ → Inserted
+  placed : List Row → ℕ → Inserted
   nothing : Inserted
-  refused : ℕ → Inserted
+  unplaced : ℕ → Inserted
 
--- in its place in the order, before the alike rows
+-- in its place in the order, before the alike rows [partition_point and `first` in insert4]
 unfoldable pub ahead : Row → List Row → List Row
 ahead new rows =
     keep (λ r. before r new) rows ++ (new ∷ keep (λ r. not (before r new)) rows)
 
--- in its place in the order, after the alike rows
+-- in its place in the order, after the alike rows [`run` in insert4]
 unfoldable pub behind : Row → List Row → List Row
 behind new rows =
     keep (λ r. not (before new r)) rows ++ (new ∷ keep (λ r. before new r) rows)
 
+-- that row is it
 abbrev pub isRow : Row → Option Row → Bool
 isRow new none = Bool.false
 isRow new (some r) = eqRow new r
@@ -62,37 +63,39 @@ Insertion = Row → ℕ → List Row → Inserted
 
 -- Among the rows alike in table, dst, len, tos and priority: EXCL refuses; with REPLACE it takes the first one's place, unless
 -- it is there already; else the same row again is refused, and it goes before them, or after them with APPEND.
--- Without CREATE a row more is refused.
+-- Without CREATE a row more is refused. [insert4; fib_table_insert]
 unfoldable pub insert4 : Row → ℕ → List Row → Inserted
 insert4 new flags rows =
     cond (any (alike new) rows)
-    (cond (exclFlag flags) (refused 17)
+    (cond (exclFlag flags) (unplaced 17)
     (cond (replaceFlag flags)
     (cond (isRow new (first (alike new) rows)) nothing
-    (cond (any (eqRow new) rows) (refused 17) (put (replaceFirst (alike new) new rows) (flag replaceBit))))
-    (cond (any (eqRow new) rows) (refused 17)
+    (cond (any (eqRow new) rows) (unplaced 17) (placed (replaceFirst (alike new) new rows) (flag replaceBit))))
+    (cond (any (eqRow new) rows) (unplaced 17)
     (cond (createFlag flags)
-    (cond (appendFlag flags) (put (behind new rows) (flag createBit + flag appendBit)) (put (ahead new rows) (flag createBit)))
-    (refused 2)))))
-    (cond (createFlag flags) (put (ahead new rows) (flag createBit + flag exclBit)) (refused 2))
+    (cond (appendFlag flags) (placed (behind new rows) (flag createBit + flag appendBit)) (placed (ahead new rows) (flag createBit)))
+    (unplaced 2)))))
+    (cond (createFlag flags) (placed (ahead new rows) (flag createBit + flag exclBit)) (unplaced 2))
 
 -- ---- the kernel's own routes
+-- an insertion whose refusal nobody hears of
 abbrev pub inserted : Row → Inserted → State → Out
-inserted new (put rows flags) st = becomes (withRoutes rows st) (newRoute4 new flags ∷ [])
+inserted new (placed rows flags) st = becomes (withRoutes rows st) (newRoute4 new flags ∷ [])
 inserted new nothing st = stays st
-inserted new (refused n) st = stays st
+inserted new (unplaced n) st = stays st
 
--- the flags of the kernel's own requests
+-- the flags of the kernel's own requests [F_CREATE | F_APPEND]
 abbrev pub kernelFlags : ℕ
 kernelFlags = flag createBit + flag appendBit
 
--- one of the kernel's routes: its table listed, told of unless the same is there
+-- one of the kernel's routes: its table listed, told of unless the same is there [kernel_add4; fib_magic]
 unfoldable pub kernelAdd4 : Row → State → Out
 kernelAdd4 new st =
     let made = create4 (table new) st in
     inserted new (insert4 new kernelFlags (made .routes)) made
 
 -- a row that the kernel's deletion of a route names: any priority where that names none, whatever metrics and gateway
+-- [`same` in kernel_del4; fib_table_delete, fib_nh_match]
 unfoldable pub named : Row → Row → Bool
 named p r =
     eqb (table r) (table p)
@@ -112,5 +115,6 @@ abbrev pub removed : (Row → Bool) → Option Row → State → Out
 removed p none st = stays st
 removed p (some r) st = becomes (withRoutes (removeFirst p (st .routes)) st) (delRoute4 r ∷ [])
 
+-- one of the kernel's routes goes [kernel_del4; fib_magic]
 unfoldable pub kernelDel4 : Row → State → Out
 kernelDel4 p st = removed (named p) (first (named p) (st .routes)) st
