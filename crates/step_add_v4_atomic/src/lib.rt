@@ -26,6 +26,9 @@ ghost use Rattle.step_new_address.specs.Sound.{AddsFrom};
 ghost use Rattle.step_add_v4_atomic.specs.Room.{hasRoom};
 ghost use Rattle.definition.specs.Step.{eventRoom};
 
+// A call lists two tables at most, 254 and 255.
+const TABLES_BEFORE: usize = TABLE_LIMIT - 2;
+
 // Whether every list has room: for an address, as many routes, and the two tables.
 fn has_room(s: &[u32], rows: usize) -> bool
     requires { ⌜ length (now s) ≡ baseSize ⌝ }
@@ -35,7 +38,7 @@ fn has_room(s: &[u32], rows: usize) -> bool
     let addresses = state::address_count(s);
     let routes = state::route_count(s);
     let tables = state::wide(s[TABLE_COUNT]);
-    (addresses < ADDRESS_LIMIT) & (routes + rows <= ROUTE_LIMIT) & (tables + 2 <= TABLE_LIMIT)
+    (addresses < ADDRESS_LIMIT) & (routes + rows <= ROUTE_LIMIT) & (tables <= TABLES_BEFORE)
 }
 
 // Tried on a copy, which is copied back where it had room.
