@@ -1,4 +1,4 @@
--- The listing of a well-formed state's words, as the functions over rows and text have it.
+-- The listing of well-formed words, as the functions over rows and text have it.
 -- Assumes nothing.
 use Prim.Native.Nat.{ℕ, _+_, _*_, _≤_}
 use mathlib.Core.Path.{_≡_, sym, ap, _∙_}
@@ -12,7 +12,7 @@ use borrow.Author.Tests.{eq-eqb, ne-eqb}
 use Rattle.lists.specs.Lists.{Row, flat, put, chop}
 use Rattle.lists.specs.Bools.{cond-true, cond-false}
 use Rattle.lists.specs.Rows.{sized, length-flat, length-put, chop-flat}
-use Rattle.definition.specs.Words.{decode, wellFormed, stateSize}
+use Rattle.definition.specs.Words.{baseSize, stateSize, decode, wellFormed, stateOf, formed}
 use Rattle.definition.specs.Reference.Source.{dump4}
 use Rattle.definition.specs.Preservation.Encode.{good-decode}
 use Rattle.definition.specs.Preservation.Reading.{dump4-listing}
@@ -20,20 +20,21 @@ use Rattle.endian.specs.Endian.{wordsOf}
 use Rattle.text.specs.Print.{render, refusedLine}
 use Rattle.app_show.specs.Show.{shownWords, shown}
 
-module _ (w : List ℕ) (l : length w ≡ stateSize) (h : wellFormed w ≡ true) where
+module _ (w : List ℕ) (l : length w ≡ baseSize) (h : wellFormed w ≡ true) where
   pub listing-few : length (dump4 (decode w)) ≤ 256
   listing-few = dump4-listing (decode w) (good-decode w l h) .0
 
   pub listing-sized : sized 32 (dump4 (decode w)) ≡ true
   listing-sized = dump4-listing (decode w) (good-decode w l h) .1
 
-  pub shown-well : shownWords w ≡ render (dump4 (decode w))
-  unfolding shownWords
-  shown-well = cond-true (wellFormed w) (render (dump4 (decode w))) (refusedLine 201) h
-
-pub shown-ill : (w : List ℕ) → wellFormed w ≡ false → shownWords w ≡ refusedLine 201
+-- what is shown of words, by their form
+pub shown-well : (w : List ℕ) → formed w ≡ true → shownWords w ≡ render (dump4 (stateOf w))
 unfolding shownWords
-shown-ill w h = cond-false (wellFormed w) (render (dump4 (decode w))) (refusedLine 201) h
+shown-well w h = cond-true (formed w) (render (dump4 (stateOf w))) (refusedLine 201) h
+
+pub shown-ill : (w : List ℕ) → formed w ≡ false → shownWords w ≡ refusedLine 201
+unfolding shownWords
+shown-ill w h = cond-false (formed w) (render (dump4 (stateOf w))) (refusedLine 201) h
 
 pub shown-words : (b : List ℕ) → length b ≡ (4 * stateSize) → shown b ≡ shownWords (wordsOf b)
 unfolding shown

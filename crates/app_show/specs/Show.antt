@@ -5,15 +5,15 @@ use mathlib.Core.Bool.{cond}
 use mathlib.Core.List.{List}
 use lib.Dec.{eqb}
 use lib.ListN.{length}
-use Rattle.definition.specs.Words.{decode, wellFormed, stateSize}
+use Rattle.definition.specs.Words.{stateSize, stateOf, formed}
 use Rattle.definition.specs.Reference.Source.{dump4}
 use Rattle.endian.specs.Endian.{wordsOf}
 use Rattle.text.specs.Print.{render, refusedLine}
 
 -- of a state's words
 unfoldable pub shownWords : List ℕ → List ℕ
-shownWords w = cond (wellFormed w) (render (dump4 (decode w))) (refusedLine 201)
+shownWords w = cond (formed w) (render (dump4 (stateOf w))) (refusedLine 201)
 
--- of any bytes: a state is 9,507 words, 38,028 bytes
+-- of any bytes: four for each word of a state
 unfoldable pub shown : List ℕ → List ℕ
 shown b = cond (eqb (length b) (4 * stateSize)) (shownWords (wordsOf b)) (refusedLine 200)

@@ -8,15 +8,20 @@ ghost use mathlib.Core.Bool.{true};
 ghost use Prim.Native.Nat.{_≤_};
 ghost use lib.ListN.{length, take};
 ghost use Rattle.lists.specs.Lists.{put};
-ghost use Rattle.definition.specs.Words.{wellFormed, stateSize};
+ghost use Rattle.definition.specs.Words.{baseSize, stateSize, decode, wellFormed};
+ghost use Rattle.definition.specs.Reference.Source.{dump4};
+ghost use Rattle.text.specs.Print.{render};
 ghost use Rattle.app_show.specs.Show.{shown, shownWords};
 
-// What is printed of a well-formed state.
+// The bytes of a state.
+const STATE_BYTES: usize = 4 * STATE_WORDS;
+
+// The listing of well-formed words.
 fn show_listing(s: &[u32], out: &mut [u8]) -> usize
-    requires { ⌜ (length (now s) ≡ stateSize) × (wellFormed (now s) ≡ true) × (19220 ≤ length (now out)) ⌝ }
+    requires { ⌜ (length (now s) ≡ baseSize) × (wellFormed (now s) ≡ true) × (19220 ≤ length (now out)) ⌝ }
     ensures { λ r. ⌜ r ≤ 19220 ⌝ }
-    ensures { λ r. ⌜ r ≡ length (shownWords (now (s .entry))) ⌝ }
-    ensures { λ _. ⌜ now (out .exit) ≡ put 0 (shownWords (now (s .entry))) (now (out .entry)) ⌝ }
+    ensures { λ r. ⌜ r ≡ length (render (dump4 (decode (now (s .entry))))) ⌝ }
+    ensures { λ _. ⌜ now (out .exit) ≡ put 0 (render (dump4 (decode (now (s .entry))))) (now (out .entry)) ⌝ }
 {
     let mut listing = [0u32; LISTING_BUFFER];
     let n = state_read::list(s, &mut listing);
@@ -31,8 +36,8 @@ fn show_words(s: &[u32], out: &mut [u8]) -> usize
     ensures { λ r. ⌜ r ≡ length (shownWords (now (s .entry))) ⌝ }
     ensures { λ _. ⌜ now (out .exit) ≡ put 0 (shownWords (now (s .entry))) (now (out .entry)) ⌝ }
 {
-    if state_well_formed::well_formed(s) {
-        return show_listing(s, out);
+    if state_well_formed::well_formed(&s[..BASE_WORDS]) {
+        return show_listing(&s[..BASE_WORDS], out);
     }
     text::refused_line(out, 0, 201)
 }
@@ -43,10 +48,10 @@ pub fn show(bytes: &[u8], out: &mut [u8; 19220]) -> usize
     ensures { λ r. ⌜ r ≡ length (shown (now (bytes .entry))) ⌝ }
     ensures { λ _. ⌜ now (out .exit) ≡ put 0 (shown (now (bytes .entry))) (now (out .entry)) ⌝ }
 {
-    if bytes.len() != 4 * STATE_WORDS {
+    if bytes.len() != STATE_BYTES {
         return text::refused_line(out, 0, 200);
     }
-    let mut s = [0u32; BASE_WORDS];
+    let mut s = [0u32; STATE_WORDS];
     endian::words_of(bytes, &mut s);
     show_words(&s, out)
 }

@@ -1,67 +1,83 @@
--- A changing call's result, by what its checks and the reference come to.
-use Prim.Native.Nat.{ℕ}
-use mathlib.Core.Path.{_≡_, refl, sym, ap, _∙_}
-use mathlib.Core.Bool.{Bool, true, _&&_, and-true}
-use mathlib.Core.List.{List, []}
+-- A changing call's answer and what it leaves, by its checks and by what the step below it left of the words that it was lent.
+-- Assumes nothing.
+use Prim.Native.Nat.{ℕ, _≤_}
+use native.Mathlib.Omega.{arith}
+use mathlib.Core.Path.{_≡_, refl, sym, ap, subst, _∙_}
+use mathlib.Core.Bool.{Bool, true, false, _&&_, and-false}
+use mathlib.Core.List.{List, [], _++_}
 use lib.Dec.{eqb}
-use lib.ListN.{length}
-use borrow.Author.Tests.{eq-eqb, ne-eqb}
-use Rattle.lists.specs.Lists.{flat, put}
+use lib.ListN.{length, drop, take-append-drop}
+use borrow.Author.Tests.{ne-eqb, eqb-true, leb-true}
+use Rattle.lists.specs.Lists.{Row, flat, put}
 use Rattle.lists.specs.Put.{put-no-rows}
-use Rattle.definition.specs.State.{State, Out}
-use Rattle.definition.specs.Words.{within, stateSize, encode, decode, wellFormed}
-use Rattle.definition.specs.Call.{refusal, written}
-use Rattle.definition.specs.Step.{Result, changing, outcome, downCall, eventsFit}
-use Rattle.definition.specs.Reference.Addresses.{Outcome, goes, down}
-use Rattle.definition.specs.Preservation.Peaks.{down-roomy}
-use Rattle.definition.specs.Preservation.Encode.{good-decode}
-use Rattle.state.specs.Represents.{Represents}
-use Rattle.call_read.specs.Laws.{tests, checked, passed}
+use Rattle.lists.specs.Bools.{and-left, and-right, test-case, cond-true, cond-false}
+use Rattle.definition.specs.Words.{baseSize, stateSize, encode, base, stateOf, leaves}
+use Rattle.definition.specs.Call.{numbers}
+use Rattle.definition.specs.Step.{Result, refuses, Checks, Semantics, checked, answered, result, roomy, outcome, perform, requestIs, eventsFit, eventRoom}
+use Rattle.definition.specs.Reference.Addresses.{Outcome, goes, refused}
+use Rattle.definition.specs.Preservation.Step.{acted}
+use Rattle.state.specs.Represents.{Sound}
+use Rattle.call_read.specs.Laws.{Passed, call-refused, call-passed}
+use Rattle.call_change.specs.declared.Done.{Done}
 use Rattle.call_change.specs.declared.Done.the-variants.{Refused, Rows}
-use Rattle.call_change.specs.Answer.{doneOf}
+use Rattle.call_change.specs.Answer.{Answers, doneBy, doneOf}
 
-module _ (buffers request : Bool) (f : State → Outcome) (w : List ℕ) (n : ℕ) (c : n ≡ checked buffers true request w) where
-  pub change-refused : (n ≡ 0 → ⊥) → changing (tests buffers true request) f w ≡ record { reply = refusal n; words = w }
-  unfolding changing
-  change-refused h = rw (← c, ne-eqb n 0 h)
+-- ---- the checks
+-- a request's number counts only where the request has its words
+pub request-checked : (size : ℕ) (q : Row) (room : Bool) (m : ℕ) (w : List ℕ) {n r : ℕ}
+    → n ≡ checked (record { buffers = requestIs size q && room; row = true; request = r }) w → (length q ≡ size → r ≡ m)
+    → n ≡ checked (record { buffers = requestIs size q && room; row = true; request = m }) w
+request-checked size q room m w {r = r} c e = c ∙ test-case (requestIs size q) sized other
+  where
+    with : ℕ → ℕ
+    with i = checked (record { buffers = requestIs size q && room; row = true; request = i }) w
 
-  pub change-made : n ≡ 0 → changing (tests buffers true request) f w ≡ outcome (f (decode w)) w
-  unfolding changing
-  change-made h = rw (← c, eq-eqb n 0 h)
+    sized : requestIs size q ≡ true → with r ≡ with m
+    sized t = ap with (e (eqb-true (length q) size t))
 
--- what a public call promises of a result
-pub record Answers (x : Result) (w′ ev ev′ : List ℕ) (r : Rattle.call_change.specs.declared.Done.Done) : Type 0 where
-  pub answer : r ≡ doneOf (x .reply)
-  pub words : w′ ≡ x .words
-  pub events : ev′ ≡ put 0 (flat (x .reply .rows)) ev
+    other : requestIs size q ≡ false → with r ≡ with m
+    other f = rw (f, and-false (eqb (length w) stateSize))
 
-pub answers-refused : (x : Result) (w ev : List ℕ) (n : ℕ) → (n ≡ 0 → ⊥) → x ≡ record { reply = refusal n; words = w } → Answers x w ev ev (Refused n)
-answers-refused x w ev n h e =
+-- what passed ones say of the request and of the buffer
+pub record Sized (size : ℕ) (q ev : List ℕ) : Type 0 where
+  pub long : length q ≡ size
+  pub room : eventRoom ≤ length ev
+
+pub sizes : (size : ℕ) (q ev : List ℕ) → requestIs size q && eventsFit (length ev) ≡ true → Sized size q ev
+sizes size q ev h =
     record {
-      answer = rw (e, ne-eqb n 0 h);
-      words = ap (λ (y : Result). y .words) (sym e);
-      events = put-no-rows ev ∙ ap (λ (y : Result). put 0 (flat (y .reply .rows)) ev) (sym e);
+      long = eqb-true (length q) size (and-left (requestIs size q) (eventsFit (length ev)) h);
+      room = leb-true eventRoom (length ev) (and-right (requestIs size q) (eventsFit (length ev)) h);
     }
 
--- a step within the limits that tells these rows
-made : (o : Out) (w : List ℕ) → within (o .peak) ≡ true → o .emitted ≡ [] → outcome (goes o) w ≡ record { reply = written []; words = encode (o .state) }
-made o w h e = rw (h, e)
+pub sound : {k : Checks} {w : List ℕ} → Passed k w → Sound (base w)
+sound {w = w} p = record { state = stateOf w; holds = p .holds; fits = p .good .fits }
 
-module _ (w ev : List ℕ) (n : ℕ) (c : n ≡ checked (eventsFit (length ev)) true true w) where
-  pub down-no : (n ≡ 0 → ⊥) → Answers (downCall (length ev) w) w ev ev (Refused n)
-  unfolding downCall
-  down-no h = answers-refused (downCall (length ev) w) w ev n h (change-refused (eventsFit (length ev)) true (λ st. goes (down st)) w n c h)
+-- ---- the answer to a result is the answer to an equal one
+answers-as : {x y : Result} {w′ ev ev′ : List ℕ} {r : Done} → x ≡ y → Answers y w′ ev ev′ r → Answers x w′ ev ev′ r
+answers-as {w′ = w′} {ev} {ev′} {r} e a = subst (λ (z : Result). Answers z w′ ev ev′ r) (sym e) a
 
-  pub down-yes : (w′ : List ℕ) → n ≡ 0 → Represents w′ (down (decode w) .state) → Answers (downCall (length ev) w) w′ ev ev (Rows 0)
-  unfolding downCall down
-  down-yes w′ z h =
-      let p = passed (eventsFit (length ev)) true true w n c z in
-      let room : within (down (decode w) .peak) ≡ true = down-roomy (decode w) (good-decode w (p .long) (p .formed)) in
-      let e : downCall (length ev) w ≡ record { reply = written []; words = encode (down (decode w) .state) } =
-      change-made (eventsFit (length ev)) true (λ st. goes (down st)) w n c z ∙ made (down (decode w)) w room refl
-      in
-      record {
-        answer = rw e refl;
-        words = h .words ∙ ap (λ (y : Result). y .words) (sym e);
-        events = put-no-rows ev ∙ ap (λ (y : Result). put 0 (flat (y .reply .rows)) ev) (sym e);
-      }
+module _ (s : Semantics) (w : List ℕ) where
+  pub answers-refused : (ev : List ℕ) {n : ℕ} → n ≡ checked (s .checks) w → (n ≡ 0 → ⊥) → Answers (perform s w) w ev ev (Refused n)
+  answers-refused ev {n} c h =
+      answers-as (call-refused s w c h) (record { answer = rw (ne-eqb n 0 h); says = refl; words = refl; events = put-no-rows ev })
+
+  pub answers-passed : {w′ ev ev′ : List ℕ} {r : Done} → Passed (s .checks) w → Answers (acted (s .action) w) w′ ev ev′ r → Answers (perform s w) w′ ev ev′ r
+  answers-passed p a = answers-as (call-passed s w p) a
+
+-- ---- a step that left v of the words that it was lent: behind them stands what stood there
+done-says : (o : Outcome) → doneBy (doneOf (answered o)) ≡ numbers (answered o)
+done-says (goes o) = refl
+done-says (refused n st) = test-case (eqb n 0) (λ e. rw (e, eqb-true n 0 e)) (λ e. rw e)
+
+module _ (o : Outcome) (w : List ℕ) {v ev ev′ : List ℕ} {r : Done} where
+  pub answers-made : roomy o ≡ true → v ≡ encode (result o) → r ≡ doneOf (answered o) → ev′ ≡ put 0 (flat (answered o .rows)) ev
+      → Answers (outcome o w) (v ++ drop baseSize w) ev ev′ r
+  answers-made h e a d =
+      answers-as (cond-true (roomy o) (record { reply = answered o; words = leaves w (result o) }) (refuses 203 w) h)
+      (record { answer = a; says = ap doneBy a ∙ done-says o; words = ap (λ (l : List ℕ). l ++ drop baseSize w) e; events = d })
+
+  pub answers-full : roomy o ≡ false → v ≡ base w → r ≡ Refused 203 → ev′ ≡ put 0 (flat []) ev → Answers (outcome o w) (v ++ drop baseSize w) ev ev′ r
+  answers-full h e a d =
+      answers-as (cond-false (roomy o) (record { reply = answered o; words = leaves w (result o) }) (refuses 203 w) h)
+      (record { answer = a; says = ap doneBy a; words = ap (λ (l : List ℕ). l ++ drop baseSize w) e ∙ take-append-drop baseSize w; events = d })

@@ -1,86 +1,118 @@
--- The answers of calls that only take away: their steps always keep to the limits, and the buffer has room for what they tell.
+-- The answers of calls, by what the step below each comes to.
+-- Assumes nothing.
 use Prim.Native.Nat.{ℕ, _≤_}
 use native.Mathlib.Omega.{arith}
-use mathlib.Core.Path.{_≡_, refl, ap, _∙_}
-use mathlib.Core.Bool.{Bool, true, _&&_}
-use mathlib.Core.List.{List}
-use lib.Dec.{leb}
-use lib.ListN.{length}
-use borrow.Author.Tests.{leb-true}
+use mathlib.Core.Path.{_≡_, refl, sym, ap, subst, _∙_}
+use mathlib.Core.Bool.{Bool, true, false, cond}
+use mathlib.Core.List.{List, [], _++_}
+use lib.ListN.{length, drop}
+use borrow.Author.Tests.{ne-eqb, leb-true}
+use Rattle.lists.specs.Lists.{flat, put}
 use Rattle.lists.specs.Count.{count-most}
-use Rattle.lists.specs.Bools.{and-iff}
+use Rattle.lists.specs.Bools.{and-iff, test-case}
 use Rattle.lists.specs.Put.{put-no-rows}
-use Rattle.life.specs.Life.{allowance}
-use Rattle.definition.specs.State.{State, Out}
-use Rattle.definition.specs.Words.{within, encode, decode}
-use Rattle.layout.specs.Request.{delV4Size, fitDelV4}
-use Rattle.definition.specs.Call.{written, refusal}
-use Rattle.definition.specs.Step.{Result, outcome, changing, expireCall, eventsFit, requestIs, clockLimit, eventRoom}
-use Rattle.definition.specs.Reference.Addresses.{Outcome, goes}
-use Rattle.definition.specs.Reference.Removal.{expire, delV4}
+use Rattle.definition.specs.State.{State, Out, sizes}
+use Rattle.definition.specs.Words.{within, baseSize, encode, base, stateOf}
+use Rattle.definition.specs.Step.{Checks, roomy, outcome, eventRoom}
+use Rattle.definition.specs.Reference.Addresses.{Outcome, goes, refused, down}
+use Rattle.definition.specs.Reference.Removal.{delV4}
 use Rattle.definition.specs.Preservation.Shrinking.{potential, live}
-use Rattle.definition.specs.Preservation.Peaks.{expire-roomy, delV4-roomy}
-use Rattle.definition.specs.Preservation.Encode.{Good, good-decode}
+use Rattle.definition.specs.Preservation.Peaks.{down-roomy, delV4-roomy}
+use Rattle.definition.specs.Preservation.Encode.{Good}
+use Rattle.definition.specs.Preservation.Numbers.{Numbered}
+use Rattle.definition.specs.Laws.Refusals.{Leaves}
 use Rattle.state.specs.Represents.{Represents}
+use Rattle.step_events.specs.Emits.{Emits}
 use Rattle.step_events.specs.EmitsWithin.{Fits, EmitsWithin}
-use Rattle.call_read.specs.Laws.{tests, checked, passed, held}
-use Rattle.call_change.specs.declared.Done.the-variants.{Refused, Rows}
+use Rattle.step_laws.specs.EmitsOrFull.{EmitsOrFull}
+use Rattle.step_laws.specs.declared.Told as Told
+use Rattle.step_add_v4.specs.declared.Done as Added
+use Rattle.step_add_v4.specs.Comes.{Comes}
 use Rattle.step_del_v4.specs.declared.Deleted as Deleted
 use Rattle.step_del_v4.specs.declared.Deleted.{Deleted}
 use Rattle.step_del_v4.specs.Asked.{Deletes}
-use Rattle.call_change.specs.Answer.{deletedOf}
-use Rattle.call_change.specs.Laws.{Answers, answers-refused, change-refused, change-made}
-use Rattle.call_change.specs.Requests.{answers-by, Asked}
+use Rattle.step_route_request.specs.declared.Done as Requested
+use Rattle.step_route_request.specs.Done.{Requested}
+use Rattle.call_read.specs.Laws.{Passed}
+use Rattle.call_change.specs.declared.Done.{Done}
+use Rattle.call_change.specs.declared.Done.the-variants.{Refused, Rows}
+use Rattle.call_change.specs.Answer.{Answers, ofTold, ofAdded, ofDeleted, ofRequested}
+use Rattle.call_change.specs.Laws.{answers-made, answers-full}
 
--- 384 rows suffice
+-- ---- room for what a step may tell: 384 rows suffice
 potential-few : (st : State) → Good st → potential st ≤ 384
 potential-few st g =
     let k = simp and-iff at (g .limits) in
     omega (arith, leb-true (length (st .addresses)) 64 (k .0 .0), leb-true (length (st .routes)) 256 (k .0 .1), count-most live (st .addresses))
 
--- a good state's words, with a buffer of 384 rows
-pub roomy-held : (w ev : List ℕ) → Good (decode w) → Represents w (decode w) → eventRoom ≤ length ev → Fits potential (decode w) w ev
-roomy-held w ev g h room = record { holds = h; room = omega (arith, potential-few (decode w) g) }
+pub fitting : {k : Checks} {w ev : List ℕ} → Passed k w → eventRoom ≤ length ev → Fits potential (stateOf w) (base w) ev
+fitting {w = w} p room = record { holds = p .holds; room = omega (arith, potential-few (stateOf w) (p .good)) }
 
--- words that passed the checks are such
-pub roomy-buffer : (buffers request : Bool) (w ev : List ℕ) (n : ℕ) → n ≡ checked buffers true request w → n ≡ 0 → eventRoom ≤ length ev → Fits potential (decode w) w ev
-roomy-buffer buffers request w ev n c z room =
-    let p = passed buffers true request w n c z in
-    roomy-held w ev (good-decode w (p .long) (p .formed)) (held buffers true request w n c z) room
+-- ---- a step that only takes away keeps to the limits
+pub within-answers : (st : State) (o : Out) (w : List ℕ) {v ev ev′ : List ℕ} {r : ℕ} → within (o .peak) ≡ true → EmitsWithin potential st o v ev ev′ r
+    → Answers (outcome (goes o) w) (v ++ drop baseSize w) ev ev′ (Rows r)
+within-answers st o w h t = answers-made (goes o) w h (t .holds .words) (ap Rows (t .count)) (t .words)
 
-made : (o : Out) (w : List ℕ) → within (o .peak) ≡ true → outcome (goes o) w ≡ record { reply = written (o .emitted); words = encode (o .state) }
-made o w h = rw h
+pub down-answers : {k : Checks} (w : List ℕ) {v : List ℕ} (ev : List ℕ) → Passed k w → Represents v (down (stateOf w) .state)
+    → Answers (outcome (goes (down (stateOf w))) w) (v ++ drop baseSize w) ev ev (Rows 0)
+unfolding down
+down-answers w ev p h = answers-made (goes (down (stateOf w))) w (down-roomy (stateOf w) (p .good)) (h .words) refl (put-no-rows ev)
 
--- a step made is what a call answers
-pub step-answers : (x : Result) (st : State) (o : Out) (w w′ ev ev′ : List ℕ) (r : ℕ) → x ≡ outcome (goes o) w → within (o .peak) ≡ true → EmitsWithin potential st o w′ ev ev′ r → Answers x w′ ev ev′ (Rows r)
-step-answers x st o w w′ ev ev′ r e h t =
-    answers-by x (record { reply = written (o .emitted); words = encode (o .state) }) w′ ev ev′ (Rows r) (e ∙ made o w h) (ap Rows (t .count)) (t .holds .words) (t .words)
+-- a deletion of an address, by what it comes to
+pub deletes-answers : {k : Checks} (q w v ev ev′ : List ℕ) (d : Deleted) {r : Done} → Passed k w → Deletes q (stateOf w) v ev ev′ d → r ≡ ofDeleted d
+    → Answers (outcome (delV4 q (stateOf w)) w) (v ++ drop baseSize w) ev ev′ r
+deletes-answers q w v ev ev′ (Deleted.the-variants.Rows n) p t e =
+    let room : within (t .out .peak) ≡ true = rw (t .is) at (delV4-roomy q (stateOf w) (p .good)) in
+    rw (t .is, e) (within-answers (stateOf w) (t .out) w room (t .step))
+deletes-answers q w v ev ev′ Deleted.the-variants.Nothing p t e =
+    rw (t .0) (answers-made (refused 99 (stateOf w)) w (p .good .limits) (t .1 .words) e (t .2 ∙ put-no-rows ev))
 
-module _ (w ev : List ℕ) (n clock : ℕ) (c : n ≡ checked (eventsFit (length ev)) true (leb clock clockLimit) w) where
-  pub expire-no : (n ≡ 0 → ⊥) → Answers (expireCall (length ev) clock w) w ev ev (Refused n)
-  unfolding expireCall
-  expire-no h =
-      answers-refused (expireCall (length ev) clock w) w ev n h
-      (change-refused (eventsFit (length ev)) (leb clock clockLimit) (λ st. goes (expire allowance clock st)) w n c h)
+-- ---- one that may find a list full: then it has left the words and the buffer
+told-cond : (b : Bool) (n : ℕ) → ofTold (cond b (Told.the-variants.Rows n) Told.the-variants.Full) ≡ cond b (Rows n) (Refused 203)
+told-cond true n = refl
+told-cond false n = refl
 
-  pub expire-room : n ≡ 0 → eventRoom ≤ length ev
-  expire-room z = leb-true eventRoom (length ev) (passed (eventsFit (length ev)) true (leb clock clockLimit) w n c z .room)
+added-cond : (b : Bool) (n : ℕ) → ofAdded (cond b (Added.the-variants.Rows n) Added.the-variants.Full) ≡ cond b (Rows n) (Refused 203)
+added-cond true n = refl
+added-cond false n = refl
 
-  pub expire-yes : (w′ ev′ : List ℕ) (r : ℕ) → n ≡ 0 → EmitsWithin potential (decode w) (expire allowance clock (decode w)) w′ ev ev′ r → Answers (expireCall (length ev) clock w) w′ ev ev′ (Rows r)
-  unfolding expireCall
-  expire-yes w′ ev′ r z t =
-      let p = passed (eventsFit (length ev)) true (leb clock clockLimit) w n c z in
-      step-answers (expireCall (length ev) clock w) (decode w) (expire allowance clock (decode w)) w w′ ev ev′ r
-      (change-made (eventsFit (length ev)) (leb clock clockLimit) (λ st. goes (expire allowance clock st)) w n c z)
-      (expire-roomy allowance clock (decode w) (good-decode w (p .long) (p .formed))) t
+module _ (w : List ℕ) {v ev ev′ : List ℕ} where
+  emits-answers : (o : Out) (b : Bool) {r : Done} → within (o .peak) ≡ b → r ≡ cond b (Rows (length (o .emitted))) (Refused 203)
+      → (b ≡ true → Emits o v ev ev′ (length (o .emitted))) → (b ≡ false → (v ≡ base w) × (ev′ ≡ ev)) → Answers (outcome (goes o) w) (v ++ drop baseSize w) ev ev′ r
+  emits-answers o true h e t f = answers-made (goes o) w h (t refl .holds .words) e (t refl .words)
+  emits-answers o false h e t f = answers-full (goes o) w h (f refl .0) e (f refl .1 ∙ put-no-rows ev)
 
--- a deletion of an address: by what it comes to
-module _ (q w ev : List ℕ) (p : Asked delV4Size (fitDelV4 q) (delV4 q) q w ev) where
-  pub deletes-answers : (w′ ev′ : List ℕ) (d : Deleted) → Deletes q (decode w) w′ ev ev′ d → Answers (changing (tests (requestIs delV4Size q && eventsFit (length ev)) true (fitDelV4 q)) (delV4 q) w) w′ ev ev′ (deletedOf d)
-  deletes-answers w′ ev′ (Deleted.the-variants.Rows r) t =
-      let roomy-here : within (t .out .peak) ≡ true = rw (t .is) at (delV4-roomy q (decode w) (p .good)) in
-      step-answers (changing (tests (requestIs delV4Size q && eventsFit (length ev)) true (fitDelV4 q)) (delV4 q) w) (decode w) (t .out) w w′ ev ev′ r
-      (p .made ∙ ap (λ (o : Outcome). outcome o w) (t .is)) roomy-here (t .step)
-  deletes-answers w′ ev′ Deleted.the-variants.Nothing t =
-      answers-by (changing (tests (requestIs delV4Size q && eventsFit (length ev)) true (fitDelV4 q)) (delV4 q) w) (record { reply = refusal 99; words = encode (decode w) }) w′ ev ev′ (Refused 99)
-      (p .made ∙ ap (λ (o : Outcome). outcome o w) (t .0) ∙ rw (p .good .limits) refl) refl (t .1 .words) (t .2 ∙ put-no-rows ev)
+  pub told-answers : (o : Out) (t : Told.Told) {r : Done} → EmitsOrFull o v ev ev′ t → (t ≡ Told.the-variants.Full → (v ≡ base w) × (ev′ ≡ ev)) → r ≡ ofTold t
+      → Answers (outcome (goes o) w) (v ++ drop baseSize w) ev ev′ r
+  told-answers o t a f e =
+      emits-answers o (within (o .peak)) refl (e ∙ ap ofTold (a .answer) ∙ told-cond (within (o .peak)) (length (o .emitted))) (a .does)
+      (λ h. f (a .answer ∙ ap (λ (b : Bool). cond b (Told.the-variants.Rows (length (o .emitted))) Told.the-variants.Full) h))
+
+  -- a refusal by the reference leaves the state too
+  pub added-answers : {k : Checks} (o : Outcome) (d : Added.Done) {r : Done} → Passed k w → Numbered o → Leaves (stateOf w) o → Comes o (base w) v ev ev′ d
+      → (d ≡ Added.the-variants.Full → (v ≡ base w) × (ev′ ≡ ev)) → r ≡ ofAdded d → Answers (outcome o w) (v ++ drop baseSize w) ev ev′ r
+  added-answers (goes o) d p m l c f e =
+      emits-answers o (within (o .peak)) refl (e ∙ ap ofAdded (c .answer) ∙ added-cond (within (o .peak)) (length (o .emitted))) (c .does)
+      (λ h. f (c .answer ∙ ap (λ (b : Bool). cond b (Added.the-variants.Rows (length (o .emitted))) Added.the-variants.Full) h))
+  added-answers (refused n later) d p m l c f e =
+      answers-made (refused n later) w (ap (λ (s : State). within (sizes s)) l ∙ p .good .limits) (c .does .0 ∙ p .holds .words ∙ ap encode (sym l))
+      (e ∙ ap ofAdded (c .answer) ∙ rw (ne-eqb n 0 (λ z. omega (arith, m .positive))) refl) (c .does .1 ∙ put-no-rows ev)
+
+  -- ---- a request for a route
+  goes-answers : (o : Out) (b : Bool) (d : Requested.Done) {r : Done} → base w ≡ encode (stateOf w) → within (o .peak) ≡ b
+      → d ≡ cond b (Requested.the-variants.Rows (length (o .emitted))) Requested.the-variants.Full → v ≡ encode (cond b (o .state) (stateOf w))
+      → ev′ ≡ put 0 (flat (cond b (o .emitted) [])) ev → r ≡ ofRequested d → Answers (outcome (goes o) w) (v ++ drop baseSize w) ev ev′ r
+  goes-answers o true d same h q g k e = answers-made (goes o) w h g (e ∙ ap ofRequested q) k
+  goes-answers o false d same h q g k e = answers-full (goes o) w h (g ∙ sym same) (e ∙ ap ofRequested q) k
+
+  refused-answers : (n : ℕ) (st : State) (b : Bool) (d : Requested.Done) {r : Done} → base w ≡ encode (stateOf w) → (n ≡ 0 → ⊥) → within (sizes st) ≡ b
+      → d ≡ cond b (Requested.the-variants.Refused n) Requested.the-variants.Full → v ≡ encode (cond b st (stateOf w))
+      → ev′ ≡ put 0 (flat []) ev → r ≡ ofRequested d → Answers (outcome (refused n st) w) (v ++ drop baseSize w) ev ev′ r
+  refused-answers n st true d same z h q g k e = answers-made (refused n st) w h g (e ∙ ap ofRequested q ∙ rw (ne-eqb n 0 z) refl) k
+  refused-answers n st false d same z h q g k e = answers-full (refused n st) w h (g ∙ sym same) (e ∙ ap ofRequested q) k
+
+  pub requested-answers : {k : Checks} (o : Outcome) (d : Requested.Done) {r : Done} → Passed k w → Numbered o → Requested o (stateOf w) v ev ev′ d → r ≡ ofRequested d
+      → Answers (outcome o w) (v ++ drop baseSize w) ev ev′ r
+  requested-answers (goes o) d p m t e = goes-answers o (within (o .peak)) d (p .holds .words) refl (t .answer) (t .holds .words) (t .events) e
+  requested-answers (refused n st) d p m t e =
+      refused-answers n st (within (sizes st)) d (p .holds .words) (λ z. omega (arith, m .positive)) refl (t .answer) (t .holds .words) (t .events) e

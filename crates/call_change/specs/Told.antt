@@ -12,7 +12,7 @@ use Rattle.lists.specs.Lists.{Row}
 use Rattle.lists.specs.Bools.{cond-case, test-case}
 use Rattle.lists.specs.Rows.{sized}
 use Rattle.definition.specs.State.{State, sizes}
-use Rattle.definition.specs.Words.{decode, within}
+use Rattle.definition.specs.Words.{stateOf, within}
 use Rattle.definition.specs.Call as Call
 use Rattle.definition.specs.Call.{Reply, refusal, written}
 use Rattle.definition.specs.Step.{Result, Action, changes, replies, lists, alters, semantics, outcome, step, upCall, downCall, addV4Call, delV4Call, expireCall, addRoute4Call, delRoute4Call}
@@ -39,7 +39,7 @@ tells : (c : Call.Call) (w : List ℕ) → alters (semantics c .action) ≡ true
 tells c w t = perform-case (λ (r : Result). Tells (r .reply)) w (semantics c) (λ z. go (semantics c .action) t) (λ n e z. tells-none n)
   where
     go : (a : Action) → alters a ≡ true → Tells (acted a w .reply)
-    go (changes listed f) t = comes Tells (f (decode w)) w tells-none (λ l. record { says = refl; counts = refl })
+    go (changes listed f) t = comes Tells (f (stateOf w)) w tells-none (λ l. record { says = refl; counts = refl })
     go (replies f) t = absurd (false≢true t)
     go (lists f) t = absurd (false≢true t)
 
@@ -83,10 +83,6 @@ module _ (w : List ℕ) (events : ℕ) where
   pub del-route4-emitted : (q : Row) → Told (delRoute4Call q events w .reply)
   unfolding delRoute4Call
   del-route4-emitted q = emitted (Call.delRoute4 q events) w refl
-
--- so a call whose answer is the reply's case promises the reply's numbers
-pub emitted-says : {x : Reply} {r : Done} → Told x → r ≡ doneOf x → doneBy r ≡ numbers x
-emitted-says t e = ap doneBy e ∙ t .says
 
 -- the count fits a word
 pub small : (d : Done) (r : Reply) → d ≡ doneOf r → Told r → doneBy d .value < 4294967296

@@ -2,28 +2,27 @@
 -- Assumes nothing.
 use Prim.Native.Nat.{ℕ}
 use mathlib.Core.Path.{_≡_, refl, sym, ap, subst, _∙_}
-use mathlib.Core.Bool.{true, false, cond, _&&_}
+use mathlib.Core.Bool.{true, false, cond}
 use mathlib.Core.List.{List, []}
 use mathlib.Core.Option.{Option, none, some}
-use lib.Dec.{eqb, leb, ltb}
+use lib.Dec.{eqb, leb}
 use borrow.Author.Tests.{ne-eqb}
 use Rattle.lists.specs.Lists.{Row, flat, put}
 use Rattle.lists.specs.Bools.{cond-case, cond-true, cond-false}
 use Rattle.lists.specs.Put.{put-no-rows}
-use Rattle.layout.specs.Address.{optional, fitAddress}
-use Rattle.layout.specs.Route.{fitRoute}
-use Rattle.definition.specs.Words.{decode}
+use Rattle.layout.specs.Address.{fitAddress}
+use Rattle.definition.specs.Words.{stateOf}
+use Rattle.definition.specs.Call as Call
 use Rattle.definition.specs.Call.{Reply, valued, optionally}
-use Rattle.definition.specs.Step.{Result, reading, delRoute4Call, dump4Call, lookup4Call, lookup4FlowCall, local4Call, source4Call, sourceCall, select4Call, leftCall}
+use Rattle.definition.specs.Step.{Result, semantics, reading, delRoute4Call, dump4Call, lookup4Call, lookup4FlowCall, local4Call, source4Call, sourceCall, select4Call, leftCall}
 use Rattle.definition.specs.Reference.Lookup as Lookup
 use Rattle.definition.specs.Reference.Source.{source, source4, select4, present}
 use Rattle.call_read.specs.Answer.{Numbers, numbers}
-use Rattle.call_change.specs.Answer.{doneBy, doneOf}
-use Rattle.call_change.specs.Laws.{Answers}
+use Rattle.call_change.specs.Answer.{Answers, doneBy}
 use Rattle.call_change.specs.declared.Done.{Done}
 use Rattle.call_reply.specs.declared.Reply as Rep
 use Rattle.call_reply.specs.Answer.{replyFrom, replyOf}
-use Rattle.call_read.specs.Numbers.{reads}
+use Rattle.call_read.specs.Laws.{reads}
 use Rattle.call_change.specs.Told.{Told, up-emitted, down-emitted, add-v4-emitted, del-v4-emitted, expire-emitted, add-route4-emitted, del-route4-emitted}
 use Rattle.call_dispatch.specs.Numbered.{clockOf, changeBy, readBy, callBy, Did}
 
@@ -42,6 +41,9 @@ change-emitted code q clock room w =
     cond-case Tells (eqb code 6) (λ e. add-route4-emitted w room q) (λ e. del-route4-emitted w room q))))))
 
 -- ---- the calls that write no row
+abbrev Quiet : Reply → Type 0
+Quiet r = r .rows ≡ []
+
 quiet-some : (o : Option ℕ) → optionally o .rows ≡ []
 quiet-some none = refl
 quiet-some (some v) = refl
@@ -49,22 +51,23 @@ quiet-some (some v) = refl
 module _ (w : List ℕ) where
   pub local4-quiet : (ip : ℕ) → local4Call ip w .reply .rows ≡ []
   unfolding local4Call
-  local4-quiet ip = reads (λ (r : Reply). r .rows ≡ []) true true true (λ st. valued (cond (Lookup.local4 st ip) 1 0)) w (λ n h. refl) (λ g. refl)
+  local4-quiet ip = reads Quiet (semantics (Call.local4 ip) .checks) (λ st. valued (cond (Lookup.local4 st ip) 1 0)) w (λ n h. refl) (λ g. refl)
 
   pub source-quiet : (ip : ℕ) → sourceCall ip w .reply .rows ≡ []
   unfolding sourceCall
-  source-quiet ip = reads (λ (r : Reply). r .rows ≡ []) true true true (λ st. valued (source st ip)) w (λ n h. refl) (λ g. refl)
+  source-quiet ip = reads Quiet (semantics (Call.source ip) .checks) (λ st. valued (source st ip)) w (λ n h. refl) (λ g. refl)
 
   pub source4-quiet : (row : Row) (ip : ℕ) → source4Call row ip w .reply .rows ≡ []
   unfolding source4Call
   source4-quiet row ip =
-      reads (λ (r : Reply). r .rows ≡ []) true (fitRoute row) true (λ st. optionally (source4 (st .addresses) row ip)) w (λ n h. refl) (λ g. quiet-some (source4 (decode w .addresses) row ip))
+      reads Quiet (semantics (Call.source4 row ip) .checks) (λ st. optionally (source4 (st .addresses) row ip)) w (λ n h. refl)
+      (λ g. quiet-some (source4 (stateOf w .addresses) row ip))
 
   pub select4-quiet : (p dst scope : ℕ) → select4Call p dst scope w .reply .rows ≡ []
   unfolding select4Call
   select4-quiet p dst scope =
-      reads (λ (r : Reply). r .rows ≡ []) true true (optional p dst && ltb scope 256) (λ st. optionally (select4 (st .addresses) (present p dst) scope)) w (λ n h. refl)
-      (λ g. quiet-some (select4 (decode w .addresses) (present p dst) scope))
+      reads Quiet (semantics (Call.select4 p dst scope) .checks) (λ st. optionally (select4 (st .addresses) (present p dst) scope)) w (λ n h. refl)
+      (λ g. quiet-some (select4 (stateOf w .addresses) (present p dst) scope))
 
 pub left-quiet : (row : Row) (clock : ℕ) → leftCall row clock .rows ≡ []
 unfolding leftCall
@@ -73,9 +76,8 @@ left-quiet row clock = cond-case (λ (r : Reply). r .rows ≡ []) (fitAddress ro
 -- ---- a call made, under its number
 -- one that changes, by what its own contract says
 module _ (code : ℕ) (q : Row) (clock room : ℕ) (w : List ℕ) where
-  pub changes : (x : Result) {w′ ev ev′ : List ℕ} {d : Done} → x ≡ changeBy code q clock room w → d ≡ doneOf (x .reply) → w′ ≡ x .words → ev′ ≡ put 0 (flat (x .reply .rows)) ev
-      → Answers (changeBy code q clock room w) w′ ev ev′ d
-  changes x {w′} {ev} {ev′} {d} e a s v = subst (λ (z : Result). Answers z w′ ev ev′ d) e (record { answer = a; words = s; events = v })
+  pub changes : {x : Result} {w′ ev ev′ : List ℕ} {d : Done} → x ≡ changeBy code q clock room w → Answers x w′ ev ev′ d → Answers (changeBy code q clock room w) w′ ev ev′ d
+  changes {x} {w′} {ev} {ev′} {d} e a = subst (λ (z : Result). Answers z w′ ev ev′ d) e a
 
   pub change-rest : (code ≡ 1 → ⊥) → (code ≡ 2 → ⊥) → (code ≡ 3 → ⊥) → (code ≡ 4 → ⊥) → (code ≡ 5 → ⊥) → (code ≡ 6 → ⊥) → delRoute4Call q room w ≡ changeBy code q clock room w
   unfolding changeBy
@@ -119,7 +121,7 @@ unfolding callBy
 called-change code lent a b c room w t {w′} {ev} {ev′} d {r} h e x f =
     let y = ap (λ (k : ℕ). changeBy code lent k room w) e ∙ sym (cond-true (leb code 7) (changeBy code lent (clockOf a b) room w) (readBy code lent a b c room w) h) in
     subst (λ (z : Result). Did z ev r w′ ev′) y
-    (record { answer = f ∙ ap replyFrom (ap doneBy (x .answer) ∙ change-emitted code lent t room w .says); words = x .words; buffer = x .events })
+    (record { answer = f ∙ ap replyFrom (x .says); words = x .words; buffer = x .events })
 
 pub called-read : (code : ℕ) (lent : Row) (a b c room : ℕ) (w bu bu′ : List ℕ) (r : Rep.Reply) → leb code 7 ≡ false
     → Did (readBy code lent a b c room w) bu r w bu′ → Did (callBy code lent a b c room w) bu r w bu′

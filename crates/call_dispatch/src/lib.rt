@@ -3,7 +3,7 @@ use call_change::Done;
 use call_reply::Reply;
 ghost use mathlib.Core.Path.{_≡_};
 ghost use lib.ListN.{length};
-ghost use Rattle.call_change.specs.Laws.{Answers};
+ghost use Rattle.call_change.specs.Answer.{Answers};
 ghost use Rattle.call_dispatch.specs.Numbered.{clockOf, changeBy, readBy, callBy, Did};
 
 fn long(x: u32) -> u64
@@ -24,9 +24,9 @@ fn change(code: u32, state: &mut [u32], lent: &[u32], clock: u64, events: &mut [
     ensures { λ r. ⌜ Answers (changeBy code (now (lent .entry)) clock (length (now (events .entry))) (now (state .entry))) (now (state .exit)) (now (events .entry)) (now (events .exit)) r ⌝ }
 {
     match code {
-        1 => call_add::up(state, events, clock),
+        1 => call_change::up(state, events, clock),
         2 => call_change::down(state, events),
-        3 => call_add::add_v4(state, lent, events, clock),
+        3 => call_change::add_v4(state, lent, events, clock),
         4 => call_change::del_v4(state, lent, events),
         5 => call_change::expire(state, events, clock),
         6 => call_change::add_route4(state, lent, events),
@@ -39,7 +39,7 @@ fn read(code: u32, state: &[u32], lent: &[u32], a: u32, b: u32, c: u32, buffer: 
     ensures { λ r. ⌜ Did (readBy code (now (lent .entry)) a b c (length (now (buffer .entry))) (now (state .entry))) (now (buffer .entry)) r (now (state .entry)) (now (buffer .exit)) ⌝ }
 {
     match code {
-        8 => call_reply::listed(call_dump::dump4(state, buffer)),
+        8 => call_reply::listed(call_read::dump4(state, buffer)),
         9 => call_reply::found(call_read::lookup4(state, buffer, a)),
         10 => call_reply::found(call_read::lookup4_flow(state, buffer, a, b, c)),
         11 => call_reply::local(call_read::local4(state, a)),

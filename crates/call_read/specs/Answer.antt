@@ -1,9 +1,10 @@
 -- The answers of the calls that read: document 01's number and values for each case, and the case for each reply.
 use Prim.Native.Nat.{ℕ}
+use mathlib.Core.Path.{_≡_}
 use mathlib.Core.Bool.{cond}
 use mathlib.Core.List.{List, [], _∷_}
 use lib.Dec.{eqb}
-use Rattle.lists.specs.Lists.{Row}
+use Rattle.lists.specs.Lists.{Row, flat, put}
 use Rattle.definition.specs.Call.{Reply}
 pub use Rattle.definition.specs.Call.{Numbers, numbers}
 use Rattle.definition.specs.Reference.Lookup as Lookup
@@ -13,6 +14,18 @@ use Rattle.call_read.specs.declared.Found as Found
 use Rattle.call_read.specs.declared.Local as Local
 use Rattle.call_read.specs.declared.Chosen as Chosen
 use Rattle.call_read.specs.declared.Sourced as Sourced
+use Rattle.call_read.specs.declared.Listed as Listed
+
+-- what a call promises of its answer r, by the reply that the definition gives: r is the reply's case, and its numbers are the reply's
+pub record Says {A : Type 0} (by : A → Numbers) (of : Reply → A) (x : Reply) (r : A) : Type 0 where
+  pub answer : r ≡ of x
+  pub says : by r ≡ numbers x
+
+-- and of the buffer b that it is lent: the reply's rows are written at its start
+pub record Writes {A : Type 0} (by : A → Numbers) (of : Reply → A) (x : Reply) (b b′ : List ℕ) (r : A) : Type 0 where
+  pub answer : r ≡ of x
+  pub says : by r ≡ numbers x
+  pub rows : b′ ≡ put 0 (flat (x .rows)) b
 
 abbrev pub refusedBy : ℕ → Numbers
 refusedBy n = record { number = n; present = 0; value = 0; second = 0 }
@@ -66,3 +79,11 @@ sourcedBy (Sourced.the-variants.Address a) = valuing a
 
 abbrev pub sourcedOf : Reply → Sourced.Sourced
 sourcedOf r = cond (eqb (r .number) 0) (Sourced.the-variants.Address (r .value)) (Sourced.the-variants.Refused (r .number))
+
+-- ---- a listing: its rows stand in the buffer
+abbrev pub listedBy : Listed.Listed → Numbers
+listedBy (Listed.the-variants.Refused n) = refusedBy n
+listedBy (Listed.the-variants.Rows n) = valuing n
+
+abbrev pub listedOf : Reply → Listed.Listed
+listedOf r = cond (eqb (r .number) 0) (Listed.the-variants.Rows (r .value)) (Listed.the-variants.Refused (r .number))

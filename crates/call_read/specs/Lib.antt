@@ -1,3 +1,3 @@
 pub mod Answer
 pub mod Laws
-pub mod Numbers
+pub mod Listing

@@ -1,4 +1,6 @@
 // The calls of the host that read a state, on lent words. Each refuses unfit input with a number and then writes nothing.
+use layout::BASE_WORDS;
+use layout::LISTING_BUFFER;
 use layout::ROUTE_WORDS;
 use layout::ROUTES_AT;
 use layout::STATE_WORDS;
@@ -14,10 +16,9 @@ ghost use Rattle.rows_lookup.specs.Flow.{flowOf};
 ghost use Rattle.definition.specs.State.{State};
 ghost use Rattle.definition.specs.Words.{routeCount};
 ghost use Rattle.definition.specs.Reference.Lookup.{lookupIn};
-ghost use Rattle.definition.specs.Step.{lookup4Call, lookup4FlowCall, local4Call, source4Call, sourceCall, select4Call};
+ghost use Rattle.definition.specs.Step.{checked, dump4Call, lookup4Call, lookup4FlowCall, local4Call, source4Call, sourceCall, select4Call};
 ghost use Rattle.state.specs.Represents.{Represents, Valid};
-ghost use Rattle.call_read.specs.Answer.{numbers, foundBy, localBy, chosenBy, sourcedBy, foundOf, localOf, chosenOf, sourcedOf, foundIn, rowsIn};
-ghost use Rattle.call_read.specs.Laws.{checked};
+ghost use Rattle.call_read.specs.Answer.{Says, Writes, foundBy, localBy, chosenBy, sourcedBy, foundOf, localOf, chosenOf, sourcedOf, listedBy, listedOf, foundIn, rowsIn, chosenFor};
 
 // What a lookup answers; the row stands in the buffer that it was lent.
 pub enum Found {
@@ -44,20 +45,23 @@ pub enum Sourced {
     Address(u32),
 }
 
+// What a listing answers: a refusal's number, or how many rows it wrote.
+pub enum Listed {
+    Refused(u32),
+    Rows(usize),
+}
+
 // The first check that fails gives its number, 0 if none does: lengths, the state with a row handed over, the request.
-pub fn checked(s: &[u32], buffers: bool, handed: bool, request: bool) -> u32
-    ensures { λ r. ⌜ r ≡ checked buffers handed request (now (s .entry)) ⌝ }
+pub fn checked(s: &[u32], buffers: bool, handed: bool, request: u32) -> u32
+    ensures { λ r. ⌜ r ≡ checked (record { buffers = buffers; row = handed; request = request }) (now (s .entry)) ⌝ }
 {
     if !((s.len() == STATE_WORDS) & buffers) {
         return 200;
     }
-    if !(state_well_formed::well_formed(s) & handed) {
+    if !(state_well_formed::well_formed(&s[..BASE_WORDS]) & handed) {
         return 201;
     }
-    if !request {
-        return 202;
-    }
-    0
+    request
 }
 
 // Route i, copied into the buffer.
@@ -88,16 +92,14 @@ fn look(s: &[u32], row: &mut [u32], f: Flow) -> Found
 
 // The route to a destination, in the row buffer.
 pub fn lookup4(state: &[u32], row: &mut [u32], ip: u32) -> Found
-    ensures { λ r. ⌜ foundBy r ≡ numbers (lookup4Call (length (now (row .entry))) ip (now (state .entry)) .reply) ⌝ }
-    ensures { λ r. ⌜ r ≡ foundOf (lookup4Call (length (now (row .entry))) ip (now (state .entry)) .reply) ⌝ }
-    ensures { λ _. ⌜ now (row .exit) ≡ put 0 (flat (lookup4Call (length (now (row .entry))) ip (now (state .entry)) .reply .rows)) (now (row .entry)) ⌝ }
+    ensures { λ r. ⌜ Writes foundBy foundOf (lookup4Call (length (now (row .entry))) ip (now (state .entry)) .reply) (now (row .entry)) (now (row .exit)) r ⌝ }
 {
-    let n = checked(state, ROUTE_WORDS <= row.len(), true, true);
+    let n = checked(state, ROUTE_WORDS <= row.len(), true, 0);
     if n != 0 {
         return Found::Refused(n);
     }
     look(
-        state,
+        &state[..BASE_WORDS],
         row,
         Flow {
             ip: ip,
@@ -110,16 +112,19 @@ pub fn lookup4(state: &[u32], row: &mut [u32], ip: u32) -> Found
 
 // The same for a type of service and a device, 0 for any.
 pub fn lookup4_flow(state: &[u32], row: &mut [u32], ip: u32, tos: u32, oif: u32) -> Found
-    ensures { λ r. ⌜ foundBy r ≡ numbers (lookup4FlowCall (length (now (row .entry))) ip tos oif (now (state .entry)) .reply) ⌝ }
-    ensures { λ r. ⌜ r ≡ foundOf (lookup4FlowCall (length (now (row .entry))) ip tos oif (now (state .entry)) .reply) ⌝ }
-    ensures { λ _. ⌜ now (row .exit) ≡ put 0 (flat (lookup4FlowCall (length (now (row .entry))) ip tos oif (now (state .entry)) .reply .rows)) (now (row .entry)) ⌝ }
+    ensures { λ r. ⌜ Writes foundBy foundOf (lookup4FlowCall (length (now (row .entry))) ip tos oif (now (state .entry)) .reply) (now (row .entry)) (now (row .exit)) r ⌝ }
 {
-    let n = checked(state, ROUTE_WORDS <= row.len(), true, tos < 256);
+    let n = checked(
+        state,
+        ROUTE_WORDS <= row.len(),
+        true,
+        request_fit::fit_flow(tos),
+    );
     if n != 0 {
         return Found::Refused(n);
     }
     look(
-        state,
+        &state[..BASE_WORDS],
         row,
         Flow {
             ip: ip,
@@ -132,61 +137,71 @@ pub fn lookup4_flow(state: &[u32], row: &mut [u32], ip: u32, tos: u32, oif: u32)
 
 // Whether the address is the loopback's.
 pub fn local4(state: &[u32], ip: u32) -> Local
-    ensures { λ r. ⌜ localBy r ≡ numbers (local4Call ip (now (state .entry)) .reply) ⌝ }
-    ensures { λ r. ⌜ r ≡ localOf (local4Call ip (now (state .entry)) .reply) ⌝ }
+    ensures { λ r. ⌜ Says localBy localOf (local4Call ip (now (state .entry)) .reply) r ⌝ }
 {
-    let n = checked(state, true, true, true);
+    let n = checked(state, true, true, 0);
     if n != 0 {
         return Local::Refused(n);
     }
-    Local::Is(state_read::local4(state, ip))
+    Local::Is(state_read::local4(&state[..BASE_WORDS], ip))
 }
 
 // The source address for a destination; 127.0.0.1 where there is no other.
 pub fn source(state: &[u32], ip: u32) -> Sourced
-    ensures { λ r. ⌜ sourcedBy r ≡ numbers (sourceCall ip (now (state .entry)) .reply) ⌝ }
-    ensures { λ r. ⌜ r ≡ sourcedOf (sourceCall ip (now (state .entry)) .reply) ⌝ }
+    ensures { λ r. ⌜ Says sourcedBy sourcedOf (sourceCall ip (now (state .entry)) .reply) r ⌝ }
 {
-    let n = checked(state, true, true, true);
+    let n = checked(state, true, true, 0);
     if n != 0 {
         return Sourced::Refused(n);
     }
-    Sourced::Address(state_read::source(state, ip))
+    Sourced::Address(state_read::source(&state[..BASE_WORDS], ip))
 }
 
-// The source address for a route, handed over as any row of words.
-pub fn source4(state: &[u32], row: &[u32], ip: u32) -> Chosen
-    ensures { λ r. ⌜ chosenBy r ≡ numbers (source4Call (now (row .entry)) ip (now (state .entry)) .reply) ⌝ }
-    ensures { λ r. ⌜ r ≡ chosenOf (source4Call (now (row .entry)) ip (now (state .entry)) .reply) ⌝ }
+// The choice as an answer.
+pub fn chosen_for(s: Selected) -> Chosen
+    ensures { λ r. ⌜ r ≡ chosenFor s ⌝ }
 {
-    let n = checked(state, true, row_route::fit_route(row), true);
-    if n != 0 {
-        return Chosen::Refused(n);
-    }
-    let selected = state_read::source4(state, row, ip);
-    match selected {
+    match s {
         Selected::Local(a) => Chosen::Address(a),
         Selected::Nothing => Chosen::Nothing,
     }
 }
 
+// The source address for a route, handed over as any row of words.
+pub fn source4(state: &[u32], row: &[u32], ip: u32) -> Chosen
+    ensures { λ r. ⌜ Says chosenBy chosenOf (source4Call (now (row .entry)) ip (now (state .entry)) .reply) r ⌝ }
+{
+    let n = checked(state, true, row_route::fit_route(row), 0);
+    if n != 0 {
+        return Chosen::Refused(n);
+    }
+    chosen_for(state_read::source4(&state[..BASE_WORDS], row, ip))
+}
+
 // The address that is chosen for a scope, and for a destination if there is one.
 pub fn select4(state: &[u32], dst_present: u32, dst: u32, scope: u32) -> Chosen
-    ensures { λ r. ⌜ chosenBy r ≡ numbers (select4Call «dst_present» dst scope (now (state .entry)) .reply) ⌝ }
-    ensures { λ r. ⌜ r ≡ chosenOf (select4Call «dst_present» dst scope (now (state .entry)) .reply) ⌝ }
+    ensures { λ r. ⌜ Says chosenBy chosenOf (select4Call «dst_present» dst scope (now (state .entry)) .reply) r ⌝ }
 {
     let n = checked(
         state,
         true,
         true,
-        row_address::fit_optional(dst_present, dst) & (scope < 256),
+        request_fit::fit_select(dst_present, dst, scope),
     );
     if n != 0 {
         return Chosen::Refused(n);
     }
-    let selected = state_read::select4(state, dst_present == 1, dst, scope);
-    match selected {
-        Selected::Local(a) => Chosen::Address(a),
-        Selected::Nothing => Chosen::Nothing,
+    chosen_for(state_read::select4(&state[..BASE_WORDS], dst_present == 1, dst, scope))
+}
+
+// The route rows of the listed tables, in the order in which Linux lists tables.
+pub fn dump4(state: &[u32], listing: &mut [u32]) -> Listed
+    ensures { λ r. ⌜ Writes listedBy listedOf (dump4Call (length (now (listing .entry))) (now (state .entry)) .reply) (now (listing .entry)) (now (listing .exit)) r ⌝ }
+{
+    let n = checked(state, LISTING_BUFFER <= listing.len(), true, 0);
+    if n != 0 {
+        return Listed::Refused(n);
     }
+    let rows = state_listed::list(&state[..BASE_WORDS], listing);
+    Listed::Rows(rows)
 }

@@ -1,6 +1,6 @@
 -- What a pass over the records finds is what the reference says of their rows.
 -- Assumes nothing.
-use Prim.Native.Nat.{ℕ, _+_, _-_, _≤_, _<_, min}
+use Prim.Native.Nat.{ℕ, _+_, _≤_, _<_, min}
 use native.Mathlib.Numerals.{add-one}
 use native.Mathlib.Omega.{arith}
 use mathlib.Core.Path.{_≡_, refl, sym, ap, _∙_}
@@ -13,10 +13,8 @@ use lib.Seq.{take-suc, take-suc-set}
 use borrow.Author.Tests.{le-ltb}
 use Rattle.lists.specs.Lists.{Row, first}
 use Rattle.lists.specs.Bools.{test-case, and-left, and-right, and-rest}
-use Rattle.layout.specs.Address.{local, secondary, fitAddress}
-use Rattle.definition.specs.State.{State}
-use Rattle.definition.specs.Words.{addressCount, decode}
-use Rattle.definition.specs.Call.{Reply, valued}
+use Rattle.layout.specs.Address.{local, secondary}
+use Rattle.definition.specs.Words.{addressCount}
 use Rattle.definition.specs.Reference.Addresses.{covers, sameSubnet, hostScope, localOr, primaryOf}
 use Rattle.definition.specs.Reference.Source.{eligible, reaches, select4, localOf, orElse}
 use Rattle.row_address.specs.declared.V4.{V4}
@@ -25,13 +23,7 @@ use Rattle.row_address.specs.Words.{rowOf}
 use Rattle.rows_source.specs.Selected.{wanted, localIn}
 use Rattle.rows_source.specs.Laws.{reaches-test}
 use Rattle.state.specs.Represents.{Valid, sizes-valid}
-use Rattle.call_read.specs.declared.Sourced.{Sourced}
-use Rattle.call_read.specs.declared.Sourced.the-variants.{Refused, Address}
-use Rattle.call_read.specs.Answer.{numbers, sourcedBy, sourcedOf}
-use Rattle.call_read.specs.Numbers.{reads, sourced-none}
-use Rattle.call_read.specs.Laws.{checked, read-refused, read-answered, sourced-refused}
 use Rattle.call_records.specs.declared.Best.{Best}
-use Rattle.call_records.specs.Call.{primaryOfCall}
 use Rattle.call_records.specs.Best.{better, start, bestFrom, selectRank, selectedOf, primaryRank, primaryIn}
 
 abbrev at : ℕ → ℕ → Best
@@ -175,25 +167,3 @@ read-more rows i l v b c e sofar =
 -- the addresses in use are 64 at most
 pub few : {w : List ℕ} (n : ℕ) → Valid w → n ≡ addressCount w → n ≤ 64
 few n v e = omega (arith, sizes-valid v .addresses)
-
--- ---- the public primary_of
-module _ (w : List ℕ) (row : Row) (n : ℕ) (fit : Bool) (f : fit ≡ fitAddress row) where
-  abbrev reply : State → Reply
-  reply st = valued (primaryOf (st .addresses) row)
-
-  same : n ≡ checked true fit true w → n ≡ checked true (fitAddress row) true w
-  same c = c ∙ ap (λ (b : Bool). checked true b true w) f
-
-  pub primary-no : n ≡ checked true fit true w → (n ≡ 0 → ⊥) → Refused n ≡ sourcedOf (primaryOfCall row w .reply)
-  unfolding primaryOfCall
-  primary-no c h = sourced-refused n h ∙ ap sourcedOf (sym (read-refused true (fitAddress row) true reply w n (same c) h))
-
-  pub primary-yes : (a : ℕ) → n ≡ checked true fit true w → n ≡ 0 → a ≡ primaryOf (decode w .addresses) row → Address a ≡ sourcedOf (primaryOfCall row w .reply)
-  unfolding primaryOfCall
-  primary-yes a c z e = ap (λ (v : ℕ). sourcedOf (valued v)) e ∙ ap sourcedOf (sym (read-answered true (fitAddress row) true reply w n (same c) z))
-
-pub primary-says : (w : List ℕ) (row : Row) {r : Sourced} → r ≡ sourcedOf (primaryOfCall row w .reply) → sourcedBy r ≡ numbers (primaryOfCall row w .reply)
-unfolding primaryOfCall
-primary-says w row e =
-    ap sourcedBy e
-    ∙ reads (λ (r : Reply). sourcedBy (sourcedOf r) ≡ numbers r) true (fitAddress row) true (λ st. valued (primaryOf (st .addresses) row)) w (λ n h. sourced-none n) (λ g. refl)

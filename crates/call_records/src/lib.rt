@@ -3,6 +3,7 @@ use call_read::Chosen;
 use call_read::Sourced;
 use layout::ADDRESS_LIMIT;
 use layout::ADDRESS_WORDS;
+use layout::BASE_WORDS;
 use row_address::V4;
 use rows_source::Selected;
 ghost use mathlib.Core.Path.{_≡_};
@@ -21,7 +22,7 @@ ghost use Rattle.definition.specs.Words.{addressCount};
 ghost use Rattle.definition.specs.Step.{select4Call};
 ghost use Rattle.rows_source.specs.Selected.{wanted, localIn};
 ghost use Rattle.state.specs.Represents.{Represents, Valid};
-ghost use Rattle.call_read.specs.Answer.{numbers, chosenBy, sourcedBy, chosenOf, sourcedOf};
+ghost use Rattle.call_read.specs.Answer.{Says, chosenBy, sourcedBy, chosenOf, sourcedOf};
 ghost use Rattle.call_records.specs.Best.{better, selectRank, selectedOf, primaryRank, primaryIn};
 ghost use Rattle.call_records.specs.Call.{primaryOfCall};
 
@@ -188,33 +189,27 @@ fn primary_of_in(s: &[u32], row: &[u32]) -> u32
 
 // The call on the words of a state.
 pub fn select4_words(state: &[u32], dst_present: u32, dst: u32, scope: u32) -> Chosen
-    ensures { λ r. ⌜ chosenBy r ≡ numbers (select4Call «dst_present» dst scope (now (state .entry)) .reply) ⌝ }
-    ensures { λ r. ⌜ r ≡ chosenOf (select4Call «dst_present» dst scope (now (state .entry)) .reply) ⌝ }
+    ensures { λ r. ⌜ Says chosenBy chosenOf (select4Call «dst_present» dst scope (now (state .entry)) .reply) r ⌝ }
 {
     let n = call_read::checked(
         state,
         true,
         true,
-        row_address::fit_optional(dst_present, dst) & (scope < 256),
+        request_fit::fit_select(dst_present, dst, scope),
     );
     if n != 0 {
         return Chosen::Refused(n);
     }
-    let selected = select4_in(state, dst_present == 1, dst, scope);
-    match selected {
-        Selected::Local(a) => Chosen::Address(a),
-        Selected::Nothing => Chosen::Nothing,
-    }
+    call_read::chosen_for(select4_in(&state[..BASE_WORDS], dst_present == 1, dst, scope))
 }
 
 // By the words of a state, the local address of the primary whose subnet an address is in, handed over as any row of words.
 pub fn primary_of_words(state: &[u32], row: &[u32]) -> Sourced
-    ensures { λ r. ⌜ sourcedBy r ≡ numbers (primaryOfCall (now (row .entry)) (now (state .entry)) .reply) ⌝ }
-    ensures { λ r. ⌜ r ≡ sourcedOf (primaryOfCall (now (row .entry)) (now (state .entry)) .reply) ⌝ }
+    ensures { λ r. ⌜ Says sourcedBy sourcedOf (primaryOfCall (now (row .entry)) (now (state .entry)) .reply) r ⌝ }
 {
-    let n = call_read::checked(state, true, row_address::fit_address(row), true);
+    let n = call_read::checked(state, true, row_address::fit_address(row), 0);
     if n != 0 {
         return Sourced::Refused(n);
     }
-    Sourced::Address(primary_of_in(state, row))
+    Sourced::Address(primary_of_in(&state[..BASE_WORDS], row))
 }

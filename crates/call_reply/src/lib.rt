@@ -1,16 +1,16 @@
 // A call's answer as four numbers, the same for every call.
 use call_change::Done;
-use call_dump::Listed;
 use call_read::Chosen;
 use call_read::Found;
+use call_read::Listed;
 use call_read::Local;
 use call_read::Sourced;
 use row_address::LeftReply;
 ghost use mathlib.Core.Path.{_≡_};
 ghost use Prim.Native.Nat.{_<_};
-ghost use Rattle.call_read.specs.Answer.{foundBy, localBy, chosenBy, sourcedBy};
+ghost use Rattle.definition.specs.Step.{unfit};
+ghost use Rattle.call_read.specs.Answer.{foundBy, localBy, chosenBy, sourcedBy, listedBy};
 ghost use Rattle.call_change.specs.Answer.{doneBy};
-ghost use Rattle.call_dump.specs.Answer.{listedBy};
 ghost use Rattle.row_address.specs.Row.{replyOf as row-address·replyOf};
 ghost use Rattle.call_reply.specs.Answer.{replyFrom, replyOf};
 
@@ -32,6 +32,13 @@ pub fn refused(n: u32) -> Reply
         value: 0,
         second: 0,
     }
+}
+
+// Whether a call that is refused with this number has left every word, whatever the call.
+pub fn unfit(n: u32) -> bool
+    ensures { λ r. ⌜ r ≡ unfit n ⌝ }
+{
+    200 <= n
 }
 
 fn valued(v: u32) -> Reply

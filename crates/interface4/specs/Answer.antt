@@ -5,13 +5,13 @@ use mathlib.Core.List.{List}
 use lib.Dec.{eqb, leb}
 use lib.ListN.{length}
 use Rattle.definition.specs.Call as Call
-use Rattle.definition.specs.Words.{stateSize, wellFormed}
+use Rattle.definition.specs.Words.{stateSize, formed}
 use Rattle.definition.specs.Step.{Result, checks, eventRoom}
 pub use Rattle.definition_bytes.specs.Bytes.{onBytes, stateFits, rowWords, stateOn}
 
 -- words looked at alone: 200 or 201 as each call gives it, else 0
 abbrev pub checkCall : List ℕ → Result
-checkCall w = record { reply = Call.refusal (checks (eqb (length w) stateSize) (wellFormed w) 0); words = w }
+checkCall w = record { reply = Call.refusal (checks (eqb (length w) stateSize) (formed w) 0); words = w }
 
 -- ---- on bytes: 200 where there are not as many as there must be (crate runs)
 -- a reading call's buffers, one of at least n bytes to write to

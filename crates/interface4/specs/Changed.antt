@@ -22,7 +22,7 @@ use Rattle.definition_bytes.specs.Bytes.{Narrow}
 use Rattle.call_reply.specs.declared.Reply.{Reply}
 use Rattle.call_reply.specs.Answer.{replyOf}
 use Rattle.call_change.specs.Told.{Told}
-use Rattle.call_dump.specs.Listing.{Lists}
+use Rattle.call_read.specs.Listing.{Lists}
 use Rattle.interface4.specs.Answer.{onBytes, stateFits, roomFits, changeFits, requestFits, stateOn}
 use Rattle.interface4.specs.Rows.{OneRow}
 use Rattle.interface4.specs.Narrow.{rows-below, narrow-yes}

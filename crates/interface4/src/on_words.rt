@@ -118,7 +118,7 @@ pub extern "C" fn interface4w_up(state: &mut [u32], events: &mut [u32], clock: u
     ensures { λ _. ⌜ now (state .exit) ≡ upCall (length (now (events .entry))) clock (now (state .entry)) .words ⌝ }
     ensures { λ _. ⌜ now (events .exit) ≡ put 0 (flat (upCall (length (now (events .entry))) clock (now (state .entry)) .reply .rows)) (now (events .entry)) ⌝ }
 {
-    call_reply::done(call_add::up(state, events, clock))
+    call_reply::done(call_change::up(state, events, clock))
 }
 
 #[no_mangle]
@@ -132,7 +132,7 @@ pub extern "C" fn interface4w_add_v4(
     ensures { λ _. ⌜ now (state .exit) ≡ addV4Call (now (request .entry)) (length (now (events .entry))) clock (now (state .entry)) .words ⌝ }
     ensures { λ _. ⌜ now (events .exit) ≡ put 0 (flat (addV4Call (now (request .entry)) (length (now (events .entry))) clock (now (state .entry)) .reply .rows)) (now (events .entry)) ⌝ }
 {
-    call_reply::done(call_add::add_v4(state, request, events, clock))
+    call_reply::done(call_change::add_v4(state, request, events, clock))
 }
 
 #[no_mangle]
@@ -162,5 +162,5 @@ pub extern "C" fn interface4w_dump4(state: &[u32], listing: &mut [u32]) -> Reply
     ensures { λ r. ⌜ r ≡ replyOf (dump4Call (length (now (listing .entry))) (now (state .entry)) .reply) ⌝ }
     ensures { λ _. ⌜ now (listing .exit) ≡ put 0 (flat (dump4Call (length (now (listing .entry))) (now (state .entry)) .reply .rows)) (now (listing .entry)) ⌝ }
 {
-    call_reply::listed(call_dump::dump4(state, listing))
+    call_reply::listed(call_read::dump4(state, listing))
 }

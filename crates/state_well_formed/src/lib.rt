@@ -9,6 +9,7 @@ use layout::ROUTE_COUNT;
 use layout::ROUTE_LIMIT;
 use layout::ROUTE_WORDS;
 use layout::ROUTES_AT;
+use layout::STATE_WORDS;
 use layout::TABLE_COUNT;
 use layout::TABLE_LIMIT;
 use layout::TABLES_AT;
@@ -21,7 +22,7 @@ ghost use lib.ListN.{length, getD, drop};
 ghost use Rattle.lists.specs.Lists.{Row, all, among, chop, eqRow};
 ghost use Rattle.layout.specs.Address.{fitAddress};
 ghost use Rattle.layout.specs.Route.{fitRoute};
-ghost use Rattle.definition.specs.Words.{stateSize, ordered, distinct, noneTwice, unusedZero, wellFormed, addressCount, routeCount, tableCount, baseSize};
+ghost use Rattle.definition.specs.Words.{stateSize, formed, ordered, distinct, noneTwice, unusedZero, wellFormed, addressCount, routeCount, tableCount, baseSize};
 ghost use Rattle.definition.specs.Step.{checks};
 ghost use Rattle.state_well_formed.specs.Place.{inPlace};
 ghost use Rattle.state_well_formed.specs.Twice.{marked};
@@ -207,12 +208,12 @@ pub fn well_formed(s: &[u32]) -> bool
 
 // What any words get: 200 where they are not as many as a state's, 201 where they are not well-formed, else 0.
 pub fn check(s: &[u32]) -> u32
-    ensures { λ r. ⌜ r ≡ checks (eqb (length (now (s .entry))) stateSize) (wellFormed (now (s .entry))) 0 ⌝ }
+    ensures { λ r. ⌜ r ≡ checks (eqb (length (now (s .entry))) stateSize) (formed (now (s .entry))) 0 ⌝ }
 {
-    if s.len() != BASE_WORDS {
+    if s.len() != STATE_WORDS {
         return 200;
     }
-    if well_formed(s) {
+    if well_formed(&s[..BASE_WORDS]) {
         return 0;
     }
     201

@@ -1,4 +1,4 @@
--- `app_show::show` meets its contract: 38,028 bytes are a state's words, and no others.
+-- `app_show::show` meets its contract: so many bytes are a state's words, and no others.
 -- Assumes nothing.
 use Prim.Native.Nat.{ℕ, _-_}
 use mathlib.Core.Path.{refl, sym, ap, _∙_}

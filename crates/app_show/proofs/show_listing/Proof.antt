@@ -7,7 +7,7 @@ use native.Mathlib.Omega.{arith}
 use denote.Ref.{now}
 use lib.ListN.{length}
 use Rattle.lists.specs.Lists.{put}
-use Rattle.app_show.specs.Laws.{listing-few, listing-sized, shown-well, listed-rows}
+use Rattle.app_show.specs.Laws.{listing-few, listing-sized, listed-rows}
 use lib.Seq.{length-take-le}
 use Rattle.definition.specs.Words.{decode}
 use Rattle.definition.specs.Reference.Source.{dump4}
@@ -60,7 +60,7 @@ returns c =
     let n = t .0 in
     let r = c .before .before .render .ensures in
     let rows = listed-rows (dump4 (decode w)) (c .before .before .before .before .before .before .list .last .1 .0) _ (c .before .before .before .before .before .before .list .result) (listing-sized w (a .pre .0) (a .pre .1)) n (t .1) in
-    let e = ap render rows ∙ sym (shown-well w (a .pre .0) (a .pre .1)) in
+    let e = ap render rows in
     (omega (arith, r .0), (r .1 .0 ∙ ap (λ (x : List ℕ). length x) e, r .1 .1 ∙ ap (λ (x : List ℕ). put 0 x (now (a .args .out))) e))
 
 pub show-listing-spec : {M : Type 1} → statement M

@@ -1,13 +1,16 @@
+-- `call_change::del_v4` meets its contract.
+-- Assumes nothing.
+use native.Mathlib.Omega.{arith}
+use mathlib.Core.Path.{sym}
 use lib.ListN.{length}
-use mathlib.Core.Path.{sym, ap, _∙_}
 use Rattle.layout.specs.Request.{delV4Size, fitDelV4}
-use Rattle.definition.specs.Words.{decode}
-use Rattle.definition.specs.Step.{delV4Call}
+use Rattle.definition.specs.Call as Call
+use Rattle.definition.specs.Words.{stateOf}
+use Rattle.definition.specs.Step.{unless, eventsFit, semantics, delV4Call}
 use Rattle.definition.specs.Reference.Removal.{delV4}
-use Rattle.call_change.specs.Answer.{deletedOf}
-use Rattle.call_change.specs.Requests.{request-no, request-asked}
-use Rattle.call_change.specs.Steps.{roomy-held, deletes-answers}
-use Rattle.call_change.specs.Told.{del-v4-emitted, emitted-says}
+use Rattle.call_read.specs.Laws.{passed, lent}
+use Rattle.call_change.specs.Laws.{request-checked, sizes, answers-refused, answers-passed}
+use Rattle.call_change.specs.Steps.{fitting, deletes-answers}
 use borrow.Author.Needs.{needs}
 use Rattle.call_change.proofs.del_v4.Statement.{statement}
 use Rattle.call_change.proofs.del_v4.Tie as tie
@@ -24,27 +27,58 @@ same-length c = search needs
 returns : tie.Need-returns
 unfolding delV4Call
 returns c =
-    let k = c .before in
-    let i = k .before .before in
-    let a = i .before .before .before .before .args in
-    let x = request-no (a .q .now) (a .state .now) (a .events .now) (k .checked .result) delV4Size (fitDelV4 (a .q .now)) (i .fit-del-v4 .result) (delV4 (a .q .now)) (i .fit-del-v4 .ensures) (k .checked .ensures) (c .if1 .taken) in
-    let e = x .answer in
-    (emitted-says (del-v4-emitted (a .state .now) (length (a .events .now)) (a .q .now)) e, (e, (x .words, x .events)))
+    let at-check = c .before in
+    let at-fit = at-check .before .before in
+    let a = at-fit .before .before .before .before .args in
+    let q = a .q .now in
+    let w = a .state .now in
+    let ev = a .events .now in
+    let call = semantics (Call.delV4 q (length ev)) in
+    let n-is = request-checked delV4Size q (eventsFit (length ev)) (unless (fitDelV4 q) 202) w (at-check .checked .ensures) (at-fit .fit-del-v4 .ensures) in
+    answers-refused call w ev n-is (c .if1 .taken)
+
+slice-relend-prefix-del-v4 : tie.Need-slice-relend-prefix-del-v4
+slice-relend-prefix-del-v4 c =
+    let at-check = c .before in
+    let at-fit = at-check .before .before in
+    let a = at-fit .before .before .before .before .args in
+    let q = a .q .now in
+    let w = a .state .now in
+    let ev = a .events .now in
+    let call = semantics (Call.delV4 q (length ev)) in
+    let n-is = request-checked delV4Size q (eventsFit (length ev)) (unless (fitDelV4 q) 202) w (at-check .checked .ensures) (at-fit .fit-del-v4 .ensures) in
+    let p = passed (call .checks) w n-is (c .if1 .left) in
+    omega (arith, p .long)
+
+slice-aggregate-del-v4 : tie.Need-slice-aggregate-del-v4
+slice-aggregate-del-v4 c =
+    let at-check = c .before .before in
+    let at-fit = at-check .before .before in
+    let a = at-fit .before .before .before .before .args in
+    let q = a .q .now in
+    let w = a .state .now in
+    let ev = a .events .now in
+    let call = semantics (Call.delV4 q (length ev)) in
+    let n-is = request-checked delV4Size q (eventsFit (length ev)) (unless (fitDelV4 q) 202) w (at-check .checked .ensures) (at-fit .fit-del-v4 .ensures) in
+    let p = passed (call .checks) w n-is (c .before .if1 .left) in
+    sym (lent p)
 
 del-v4-requires : tie.Need-del-v4-requires
 del-v4-requires c κs =
-    let e = c .before .before in
-    let k = e .before in
-    let i = k .before .before in
-    let a = i .before .before .before .before .args in
-    let p = request-asked (a .q .now) (a .state .now) (a .events .now) (k .checked .result) delV4Size (fitDelV4 (a .q .now)) (i .fit-del-v4 .result) (delV4 (a .q .now)) (i .fit-del-v4 .ensures) (k .checked .ensures) (e .if1 .left) in
-    (record { state = decode (a .state .now); fits = roomy-held (a .state .now) (a .events .now) (p .good) (p .holds) (p .room) }, p .long)
+    let at-check = c .before .before .before in
+    let at-fit = at-check .before .before in
+    let a = at-fit .before .before .before .before .args in
+    let q = a .q .now in
+    let w = a .state .now in
+    let ev = a .events .now in
+    let call = semantics (Call.delV4 q (length ev)) in
+    let n-is = request-checked delV4Size q (eventsFit (length ev)) (unless (fitDelV4 q) 202) w (at-check .checked .ensures) (at-fit .fit-del-v4 .ensures) in
+    let p = passed (call .checks) w n-is (c .before .before .if1 .left) in
+    let size = sizes delV4Size q ev (p .room) in
+    (record { state = stateOf w; fits = fitting p (size .room) }, size .long)
 
-enum-known-deleted : tie.Need-enum-known-deleted
-enum-known-deleted c = search needs
-
-enum-told : tie.Need-enum-told
-enum-told c = search needs
+of-deleted-requires : tie.Need-of-deleted-requires
+of-deleted-requires c κs = search needs
 
 same-length-2 : tie.Need-same-length-2
 same-length-2 c = search needs
@@ -55,36 +89,18 @@ same-length-3 c = search needs
 returns-2 : tie.Need-returns-2
 unfolding delV4Call
 returns-2 c =
-    let y = c .before .before .before .before .before .before .before in
-    let e = y .before .before .before in
-    let k = e .before in
-    let i = k .before .before in
-    let a = i .before .before .before .before .args in
-    let p = request-asked (a .q .now) (a .state .now) (a .events .now) (k .checked .result) delV4Size (fitDelV4 (a .q .now)) (i .fit-del-v4 .result) (delV4 (a .q .now)) (i .fit-del-v4 .ensures) (k .checked .ensures) (e .if1 .left) in
-    let d = y .del-v4 .ensures (decode (a .state .now)) (roomy-held (a .state .now) (a .events .now) (p .good) (p .holds) (p .room)) in
-    let x = deletes-answers (a .q .now) (a .state .now) (a .events .now) p _ _ (y .del-v4 .result) d in
-    let e = ap deletedOf (sym (c .before .deleted .given .1)) ∙ x .answer in
-    (emitted-says (del-v4-emitted (a .state .now) (length (a .events .now)) (a .q .now)) e, (e, (x .words, x .events)))
-
-same-length-4 : tie.Need-same-length-4
-same-length-4 c = search needs
-
-same-length-5 : tie.Need-same-length-5
-same-length-5 c = search needs
-
-returns-3 : tie.Need-returns-3
-unfolding delV4Call
-returns-3 c =
-    let y = c .before .before .before .before .before .before in
-    let e = y .before .before .before in
-    let k = e .before in
-    let i = k .before .before in
-    let a = i .before .before .before .before .args in
-    let p = request-asked (a .q .now) (a .state .now) (a .events .now) (k .checked .result) delV4Size (fitDelV4 (a .q .now)) (i .fit-del-v4 .result) (delV4 (a .q .now)) (i .fit-del-v4 .ensures) (k .checked .ensures) (e .if1 .left) in
-    let d = y .del-v4 .ensures (decode (a .state .now)) (roomy-held (a .state .now) (a .events .now) (p .good) (p .holds) (p .room)) in
-    let x = deletes-answers (a .q .now) (a .state .now) (a .events .now) p _ _ (y .del-v4 .result) d in
-    let e = ap deletedOf (sym (c .enum-told .given .1)) ∙ x .answer in
-    (emitted-says (del-v4-emitted (a .state .now) (length (a .events .now)) (a .q .now)) e, (e, (x .words, x .events)))
+    let at-step = c .before .before .before .before .before in
+    let at-check = at-step .before .before .before .before in
+    let at-fit = at-check .before .before in
+    let a = at-fit .before .before .before .before .args in
+    let q = a .q .now in
+    let w = a .state .now in
+    let ev = a .events .now in
+    let call = semantics (Call.delV4 q (length ev)) in
+    let n-is = request-checked delV4Size q (eventsFit (length ev)) (unless (fitDelV4 q) 202) w (at-check .checked .ensures) (at-fit .fit-del-v4 .ensures) in
+    let p = passed (call .checks) w n-is (at-step .before .before .before .if1 .left) in
+    answers-passed call w p
+    (deletes-answers q w _ ev _ (at-step .del-v4 .result) p (at-step .del-v4 .ensures (stateOf w) (fitting p (sizes delV4Size q ev (p .room) .room))) (c .of-deleted .ensures))
 
 pub del-v4-spec : {M : Type 1} → statement M
 del-v4-spec =
@@ -94,12 +110,10 @@ del-v4-spec =
     checked-requires
     same-length
     returns
+    slice-relend-prefix-del-v4
+    slice-aggregate-del-v4
     del-v4-requires
-    enum-known-deleted
-    enum-told
+    of-deleted-requires
     same-length-2
     same-length-3
-    returns-2
-    same-length-4
-    same-length-5
-    returns-3)
+    returns-2)

@@ -1,10 +1,15 @@
-use mathlib.Core.Bool.{true}
+-- `call_change::down` meets its contract.
+-- Assumes nothing.
+use native.Mathlib.Omega.{arith}
+use mathlib.Core.Path.{sym}
 use lib.ListN.{length}
-use Rattle.definition.specs.Words.{decode}
-use Rattle.definition.specs.Step.{eventsFit}
-use Rattle.call_read.specs.Laws.{valid, held}
-use Rattle.call_change.specs.Laws.{down-no, down-yes}
-use Rattle.call_change.specs.Told.{down-emitted, emitted-says}
+use Rattle.definition.specs.Call as Call
+use Rattle.definition.specs.Words.{stateOf}
+use Rattle.definition.specs.Step.{semantics, downCall}
+use Rattle.definition.specs.Reference.Addresses.{down}
+use Rattle.call_read.specs.Laws.{passed, lent, valid}
+use Rattle.call_change.specs.Laws.{answers-refused, answers-passed}
+use Rattle.call_change.specs.Steps.{down-answers}
 use borrow.Author.Needs.{needs}
 use Rattle.call_change.proofs.down.Statement.{statement}
 use Rattle.call_change.proofs.down.Tie as tie
@@ -16,34 +21,70 @@ same-length : tie.Need-same-length
 same-length c = search needs
 
 returns : tie.Need-returns
+unfolding downCall
 returns c =
-    let k = c .before in
-    let a = k .before .before .before .before .args in
-    let x = down-no (a .state .now) (a .events .now) (k .checked .result) (k .checked .ensures) (c .if1 .taken) in
-    let e = x .answer in
-    (emitted-says (down-emitted (a .state .now) (length (a .events .now))) e, (e, (x .words, x .events)))
+    let at-check = c .before in
+    let a = at-check .before .before .before .before .args in
+    let w = a .state .now in
+    let ev = a .events .now in
+    let call = semantics (Call.down (length ev)) in
+    answers-refused call w ev (at-check .checked .ensures) (c .if1 .taken)
+
+slice-relend-prefix-down : tie.Need-slice-relend-prefix-down
+slice-relend-prefix-down c =
+    let at-check = c .before in
+    let a = at-check .before .before .before .before .args in
+    let w = a .state .now in
+    let ev = a .events .now in
+    let call = semantics (Call.down (length ev)) in
+    let p = passed (call .checks) w (at-check .checked .ensures) (c .if1 .left) in
+    omega (arith, p .long)
+
+slice-aggregate-down : tie.Need-slice-aggregate-down
+slice-aggregate-down c =
+    let at-check = c .before .before in
+    let a = at-check .before .before .before .before .args in
+    let w = a .state .now in
+    let ev = a .events .now in
+    let call = semantics (Call.down (length ev)) in
+    let p = passed (call .checks) w (at-check .checked .ensures) (c .before .if1 .left) in
+    sym (lent p)
 
 down-requires : tie.Need-down-requires
 down-requires c κs =
-    let e = c .before in
-    let k = e .before in
-    let a = k .before .before .before .before .args in
-    valid (eventsFit (length (a .events .now))) true true (a .state .now) (k .checked .result) (k .checked .ensures) (e .if1 .left)
+    let at-check = c .before .before in
+    let a = at-check .before .before .before .before .args in
+    let w = a .state .now in
+    let ev = a .events .now in
+    let call = semantics (Call.down (length ev)) in
+    let p = passed (call .checks) w (at-check .checked .ensures) (c .before .if1 .left) in
+    valid p
 
 same-length-2 : tie.Need-same-length-2
 same-length-2 c = search needs
 
 returns-2 : tie.Need-returns-2
+unfolding downCall
 returns-2 c =
-    let y = c .before .before in
-    let e = y .before .before in
-    let k = e .before in
-    let a = k .before .before .before .before .args in
-    let h = held (eventsFit (length (a .events .now))) true true (a .state .now) (k .checked .result) (k .checked .ensures) (e .if1 .left) in
-    let x = down-yes (a .state .now) (a .events .now) (k .checked .result) (k .checked .ensures) _ (e .if1 .left) (y .down .ensures (decode (a .state .now)) h) in
-    let e = x .answer in
-    (emitted-says (down-emitted (a .state .now) (length (a .events .now))) e, (e, (x .words, x .events)))
+    let at-step = c .before .before in
+    let at-check = at-step .before .before .before in
+    let a = at-check .before .before .before .before .args in
+    let w = a .state .now in
+    let ev = a .events .now in
+    let call = semantics (Call.down (length ev)) in
+    let p = passed (call .checks) w (at-check .checked .ensures) (at-step .before .before .if1 .left) in
+    answers-passed call w p
+    (down-answers w ev p (at-step .down .ensures (stateOf w) (p .holds)))
 
 pub down-spec : {M : Type 1} → statement M
 down-spec =
-    tie.close (tie.spec checked-requires same-length returns down-requires same-length-2 returns-2)
+    tie.close
+    (tie.spec
+    checked-requires
+    same-length
+    returns
+    slice-relend-prefix-down
+    slice-aggregate-down
+    down-requires
+    same-length-2
+    returns-2)

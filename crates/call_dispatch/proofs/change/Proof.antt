@@ -4,7 +4,6 @@ use Prim.Native.Nat.{ℕ}
 use mathlib.Core.Path.{sym, ap}
 use denote.Ref.{now}
 use lib.ListN.{length}
-use Rattle.definition.specs.Step.{upCall, downCall, addV4Call, delV4Call, expireCall, addRoute4Call, delRoute4Call}
 use Rattle.call_dispatch.specs.Numbered.{changeBy}
 use Rattle.call_dispatch.specs.Laws.{changes, change-rest}
 use borrow.Author.Needs.{needs}
@@ -48,8 +47,7 @@ returns c =
     let t = a .clock in
     let e = length (now (a .events)) in
     let w = now (a .state) in
-    let r = k .up .ensures in
-    changes (a .code) q t e w (upCall e t w) (ap (λ (k : ℕ). changeBy k q t e w) (sym (m .match .keys1))) (r .1 .0) (r .1 .1 .0) (r .1 .1 .1)
+    changes (a .code) q t e w (ap (λ (k : ℕ). changeBy k q t e w) (sym (m .match .keys1))) (k .up .ensures)
 
 same-length-3 : tie.Need-same-length-3
 same-length-3 c = search needs
@@ -67,8 +65,7 @@ returns-2 c =
     let t = a .clock in
     let e = length (now (a .events)) in
     let w = now (a .state) in
-    let r = k .down .ensures in
-    changes (a .code) q t e w (downCall e w) (ap (λ (k : ℕ). changeBy k q t e w) (sym (m .match .keys2))) (r .1 .0) (r .1 .1 .0) (r .1 .1 .1)
+    changes (a .code) q t e w (ap (λ (k : ℕ). changeBy k q t e w) (sym (m .match .keys2))) (k .down .ensures)
 
 same-length-5 : tie.Need-same-length-5
 same-length-5 c = search needs
@@ -86,8 +83,7 @@ returns-3 c =
     let t = a .clock in
     let e = length (now (a .events)) in
     let w = now (a .state) in
-    let r = k .add-v4 .ensures in
-    changes (a .code) q t e w (addV4Call q e t w) (ap (λ (k : ℕ). changeBy k q t e w) (sym (m .match .keys3))) (r .1 .0) (r .1 .1 .0) (r .1 .1 .1)
+    changes (a .code) q t e w (ap (λ (k : ℕ). changeBy k q t e w) (sym (m .match .keys3))) (k .add-v4 .ensures)
 
 same-length-7 : tie.Need-same-length-7
 same-length-7 c = search needs
@@ -105,8 +101,7 @@ returns-4 c =
     let t = a .clock in
     let e = length (now (a .events)) in
     let w = now (a .state) in
-    let r = k .del-v4 .ensures in
-    changes (a .code) q t e w (delV4Call q e w) (ap (λ (k : ℕ). changeBy k q t e w) (sym (m .match .keys4))) (r .1 .0) (r .1 .1 .0) (r .1 .1 .1)
+    changes (a .code) q t e w (ap (λ (k : ℕ). changeBy k q t e w) (sym (m .match .keys4))) (k .del-v4 .ensures)
 
 same-length-9 : tie.Need-same-length-9
 same-length-9 c = search needs
@@ -124,8 +119,7 @@ returns-5 c =
     let t = a .clock in
     let e = length (now (a .events)) in
     let w = now (a .state) in
-    let r = k .expire .ensures in
-    changes (a .code) q t e w (expireCall e t w) (ap (λ (k : ℕ). changeBy k q t e w) (sym (m .match .keys5))) (r .1 .0) (r .1 .1 .0) (r .1 .1 .1)
+    changes (a .code) q t e w (ap (λ (k : ℕ). changeBy k q t e w) (sym (m .match .keys5))) (k .expire .ensures)
 
 same-length-11 : tie.Need-same-length-11
 same-length-11 c = search needs
@@ -143,8 +137,7 @@ returns-6 c =
     let t = a .clock in
     let e = length (now (a .events)) in
     let w = now (a .state) in
-    let r = k .add-route4 .ensures in
-    changes (a .code) q t e w (addRoute4Call q e w) (ap (λ (k : ℕ). changeBy k q t e w) (sym (m .match .keys6))) (r .1 .0) (r .1 .1 .0) (r .1 .1 .1)
+    changes (a .code) q t e w (ap (λ (k : ℕ). changeBy k q t e w) (sym (m .match .keys6))) (k .add-route4 .ensures)
 
 same-length-13 : tie.Need-same-length-13
 same-length-13 c = search needs
@@ -161,8 +154,7 @@ returns-7 c =
     let t = a .clock in
     let e = length (now (a .events)) in
     let w = now (a .state) in
-    let r = k .del-route4 .ensures in
-    changes (a .code) q t e w (delRoute4Call q e w) (change-rest (a .code) q t e w (m .match .rest .0 .0 .0 .0 .0 .1) (m .match .rest .0 .0 .0 .0 .1) (m .match .rest .0 .0 .0 .1) (m .match .rest .0 .0 .1) (m .match .rest .0 .1) (m .match .rest .1)) (r .1 .0) (r .1 .1 .0) (r .1 .1 .1)
+    changes (a .code) q t e w (change-rest (a .code) q t e w (m .match .rest .0 .0 .0 .0 .0 .1) (m .match .rest .0 .0 .0 .0 .1) (m .match .rest .0 .0 .0 .1) (m .match .rest .0 .0 .1) (m .match .rest .0 .1) (m .match .rest .1)) (k .del-route4 .ensures)
 
 pub change-spec : {M : Type 1} → statement M
 change-spec =

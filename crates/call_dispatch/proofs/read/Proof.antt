@@ -5,11 +5,10 @@ use mathlib.Core.Path.{sym, ap, _∙_}
 use denote.Ref.{now}
 use lib.ListN.{length}
 use Rattle.definition.specs.Step.{dump4Call, lookup4Call, lookup4FlowCall, local4Call, source4Call, sourceCall, select4Call, leftCall}
-use Rattle.call_read.specs.Answer.{numbers, foundBy, localBy, chosenBy, sourcedBy}
-use Rattle.call_dump.specs.Answer.{listedBy}
+use Rattle.call_read.specs.Answer.{numbers, foundBy, localBy, chosenBy, sourcedBy, listedBy}
 use Rattle.row_address.specs.Row.{replyOf as row-address·replyOf}
 use Rattle.call_dispatch.specs.Numbered.{readBy, clockOf}
-use Rattle.call_dump.specs.Listing.{dump4-lists, listed-small}
+use Rattle.call_read.specs.Listing.{dump4-lists, listed-small}
 use Rattle.call_dispatch.specs.Laws.{writes, answers, read-rest, local4-quiet, source4-quiet, source-quiet, select4-quiet, left-quiet}
 use borrow.Author.Needs.{needs}
 use Rattle.call_dispatch.proofs.read.Statement.{statement}
@@ -24,7 +23,7 @@ listed-requires c κs =
     let a = k .before .before .before .before .before .before .args in
     let n = length (now (a .buffer)) in
     let w = now (a .state) in
-    listed-small (k .dump4 .result) (dump4Call n w .reply) (k .dump4 .ensures .0) (dump4-lists w n)
+    listed-small (k .dump4 .result) (dump4Call n w .reply) (k .dump4 .ensures .says) (dump4-lists w n)
 
 lookup4-requires : tie.Need-lookup4-requires
 lookup4-requires c κs = search needs
@@ -86,7 +85,7 @@ returns c =
     let z = a .c in
     let n = length (now (a .buffer)) in
     let w = now (a .state) in
-    writes (a .code) row x y z n w (dump4Call n w) (listedBy (k .dump4 .result)) (ap (λ (k : ℕ). readBy k row x y z n w) (sym (m .match .keys1))) (c .listed .ensures) (k .dump4 .ensures .0) (k .dump4 .ensures .1 .1)
+    writes (a .code) row x y z n w (dump4Call n w) (listedBy (k .dump4 .result)) (ap (λ (k : ℕ). readBy k row x y z n w) (sym (m .match .keys1))) (c .listed .ensures) (k .dump4 .ensures .says) (k .dump4 .ensures .rows)
 
 same-length-2 : tie.Need-same-length-2
 same-length-2 c = search needs
@@ -103,7 +102,7 @@ returns-2 c =
     let z = a .c in
     let n = length (now (a .buffer)) in
     let w = now (a .state) in
-    writes (a .code) row x y z n w (lookup4Call n x w) (foundBy (k .lookup4 .result)) (ap (λ (k : ℕ). readBy k row x y z n w) (sym (m .match .keys2))) (c .found .ensures) (k .lookup4 .ensures .0) (k .lookup4 .ensures .1 .1)
+    writes (a .code) row x y z n w (lookup4Call n x w) (foundBy (k .lookup4 .result)) (ap (λ (k : ℕ). readBy k row x y z n w) (sym (m .match .keys2))) (c .found .ensures) (k .lookup4 .ensures .says) (k .lookup4 .ensures .rows)
 
 same-length-3 : tie.Need-same-length-3
 same-length-3 c = search needs
@@ -120,7 +119,7 @@ returns-3 c =
     let z = a .c in
     let n = length (now (a .buffer)) in
     let w = now (a .state) in
-    writes (a .code) row x y z n w (lookup4FlowCall n x y z w) (foundBy (k .lookup4-flow .result)) (ap (λ (k : ℕ). readBy k row x y z n w) (sym (m .match .keys3))) (c .found2 .ensures) (k .lookup4-flow .ensures .0) (k .lookup4-flow .ensures .1 .1)
+    writes (a .code) row x y z n w (lookup4FlowCall n x y z w) (foundBy (k .lookup4-flow .result)) (ap (λ (k : ℕ). readBy k row x y z n w) (sym (m .match .keys3))) (c .found2 .ensures) (k .lookup4-flow .ensures .says) (k .lookup4-flow .ensures .rows)
 
 returns-4 : tie.Need-returns-4
 unfolding readBy
@@ -134,7 +133,7 @@ returns-4 c =
     let z = a .c in
     let n = length (now (a .buffer)) in
     let w = now (a .state) in
-    answers (a .code) row x y z n w (local4Call x w) (localBy (k .local4 .result)) (ap (λ (k : ℕ). readBy k row x y z n w) (sym (m .match .keys4))) (c .local .ensures) (k .local4 .ensures .0) (local4-quiet w x)
+    answers (a .code) row x y z n w (local4Call x w) (localBy (k .local4 .result)) (ap (λ (k : ℕ). readBy k row x y z n w) (sym (m .match .keys4))) (c .local .ensures) (k .local4 .ensures .says) (local4-quiet w x)
 
 returns-5 : tie.Need-returns-5
 unfolding readBy
@@ -148,7 +147,7 @@ returns-5 c =
     let z = a .c in
     let n = length (now (a .buffer)) in
     let w = now (a .state) in
-    answers (a .code) row x y z n w (source4Call row x w) (chosenBy (k .source4 .result)) (ap (λ (k : ℕ). readBy k row x y z n w) (sym (m .match .keys5))) (c .chosen .ensures) (k .source4 .ensures .0) (source4-quiet w row x)
+    answers (a .code) row x y z n w (source4Call row x w) (chosenBy (k .source4 .result)) (ap (λ (k : ℕ). readBy k row x y z n w) (sym (m .match .keys5))) (c .chosen .ensures) (k .source4 .ensures .says) (source4-quiet w row x)
 
 returns-6 : tie.Need-returns-6
 unfolding readBy
@@ -162,7 +161,7 @@ returns-6 c =
     let z = a .c in
     let n = length (now (a .buffer)) in
     let w = now (a .state) in
-    answers (a .code) row x y z n w (sourceCall x w) (sourcedBy (k .source .result)) (ap (λ (k : ℕ). readBy k row x y z n w) (sym (m .match .keys6))) (c .sourced .ensures) (k .source .ensures .0) (source-quiet w x)
+    answers (a .code) row x y z n w (sourceCall x w) (sourcedBy (k .source .result)) (ap (λ (k : ℕ). readBy k row x y z n w) (sym (m .match .keys6))) (c .sourced .ensures) (k .source .ensures .says) (source-quiet w x)
 
 returns-7 : tie.Need-returns-7
 unfolding readBy
@@ -176,7 +175,7 @@ returns-7 c =
     let z = a .c in
     let n = length (now (a .buffer)) in
     let w = now (a .state) in
-    answers (a .code) row x y z n w (select4Call x y z w) (chosenBy (k .select4 .result)) (ap (λ (k : ℕ). readBy k row x y z n w) (sym (m .match .keys7))) (c .chosen2 .ensures) (k .select4 .ensures .0) (select4-quiet w x y z)
+    answers (a .code) row x y z n w (select4Call x y z w) (chosenBy (k .select4 .result)) (ap (λ (k : ℕ). readBy k row x y z n w) (sym (m .match .keys7))) (c .chosen2 .ensures) (k .select4 .ensures .says) (select4-quiet w x y z)
 
 returns-8 : tie.Need-returns-8
 returns-8 c =

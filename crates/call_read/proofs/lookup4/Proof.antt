@@ -1,12 +1,13 @@
-use mathlib.Core.Bool.{true}
-use lib.Dec.{leb}
+-- `call_read::lookup4` meets its contract.
+-- Assumes nothing.
+use mathlib.Core.Path.{sym}
 use lib.ListN.{length}
 use borrow.Author.Tests.{leb-true}
-use Rattle.definition.specs.Words.{decode}
+use Rattle.definition.specs.Call as Call
+use Rattle.definition.specs.Words.{stateOf}
+use Rattle.definition.specs.Reference.Lookup.{Flow, lookup4}
+use Rattle.call_read.specs.Laws.{lent, valid, passed, looking, look-no, look-yes}
 use Rattle.definition.specs.Step.{lookup4Call}
-use Rattle.definition.specs.Reference.Lookup.{lookup4}
-use Rattle.call_read.specs.Laws.{passed, valid, held, look-no, look-yes}
-use Rattle.call_read.specs.Numbers.{lookup4-says}
 use borrow.Author.Needs.{needs}
 use Rattle.call_read.proofs.lookup4.Statement.{statement}
 use Rattle.call_read.proofs.lookup4.Tie as tie
@@ -17,20 +18,29 @@ checked-requires c κs = search needs
 returns : tie.Need-returns
 unfolding lookup4Call lookup4
 returns c =
-    let k = c .before in
-    let a = k .before .before .before .args in
-    let x =
-    look-no (a .state .now) (a .row .now) (k .checked .result) true (record { ip = a .ip; tos = 0; scope = 0; oif = 0 }) (k .checked .ensures) (c .if1 .taken)
-    in
-    (lookup4-says (a .state .now) (length (a .row .now)) (a .ip) (x .0), x)
+    let at-check = c .before in
+    let a = at-check .before .before .before .args in
+    let flow : Flow = record { ip = a .ip; tos = 0; scope = 0; oif = 0 } in
+    let call = looking (a .row .now) 0 flow in
+    look-no (a .state .now) (a .row .now) 0 flow (at-check .checked .ensures) (c .if1 .taken)
+
+slice-aggregate-look : tie.Need-slice-aggregate-look
+slice-aggregate-look c =
+    let at-check = c .before .before in
+    let a = at-check .before .before .before .args in
+    let flow : Flow = record { ip = a .ip; tos = 0; scope = 0; oif = 0 } in
+    let call = looking (a .row .now) 0 flow in
+    let p = passed (call .checks) (a .state .now) (at-check .checked .ensures) (c .before .if1 .left) in
+    sym (lent p)
 
 look-requires : tie.Need-look-requires
 look-requires c κs =
-    let e = c .before in
-    let k = e .before in
-    let a = k .before .before .before .args in
-    let p = passed (leb 32 (length (a .row .now))) true true (a .state .now) (k .checked .result) (k .checked .ensures) (e .if1 .left) in
-    (valid (leb 32 (length (a .row .now))) true true (a .state .now) (k .checked .result) (k .checked .ensures) (e .if1 .left), leb-true 32 (length (a .row .now)) (p .room))
+    let at-check = c .before .before .before in
+    let a = at-check .before .before .before .args in
+    let flow : Flow = record { ip = a .ip; tos = 0; scope = 0; oif = 0 } in
+    let call = looking (a .row .now) 0 flow in
+    let p = passed (call .checks) (a .state .now) (at-check .checked .ensures) (c .before .before .if1 .left) in
+    (valid p, leb-true 32 (length (a .row .now)) (p .room))
 
 same-length : tie.Need-same-length
 same-length c = search needs
@@ -38,16 +48,16 @@ same-length c = search needs
 returns-2 : tie.Need-returns-2
 unfolding lookup4Call lookup4
 returns-2 c =
-    let y = c .before .before in
-    let e = y .before .before in
-    let k = e .before in
-    let a = k .before .before .before .args in
-    let h = held (leb 32 (length (a .row .now))) true true (a .state .now) (k .checked .result) (k .checked .ensures) (e .if1 .left) in
-    let x =
-    look-yes (a .state .now) (a .row .now) (k .checked .result) true (record { ip = a .ip; tos = 0; scope = 0; oif = 0 }) (y .look .result) _ (k .checked .ensures) (e .if1 .left)
-    (y .look .ensures .0 (decode (a .state .now)) h) (y .look .ensures .1 (decode (a .state .now)) h)
-    in
-    (lookup4-says (a .state .now) (length (a .row .now)) (a .ip) (x .0), x)
+    let at-look = c .before .before in
+    let at-check = at-look .before .before .before .before in
+    let a = at-check .before .before .before .args in
+    let flow : Flow = record { ip = a .ip; tos = 0; scope = 0; oif = 0 } in
+    let call = looking (a .row .now) 0 flow in
+    let p = passed (call .checks) (a .state .now) (at-check .checked .ensures) (at-look .before .before .before .if1 .left) in
+    let looked = at-look .look .ensures in
+    look-yes (a .state .now) (a .row .now) 0 flow p (looked .0 (stateOf (a .state .now)) (p .holds)) (looked .1 (stateOf (a .state .now)) (p .holds))
 
 pub lookup4-spec : {M : Type 1} → statement M
-lookup4-spec = tie.close (tie.spec checked-requires returns look-requires same-length returns-2)
+lookup4-spec =
+    tie.close
+    (tie.spec checked-requires returns slice-aggregate-look look-requires same-length returns-2)

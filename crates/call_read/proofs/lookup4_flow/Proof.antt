@@ -1,15 +1,20 @@
-use mathlib.Core.Bool.{true}
-use lib.Dec.{leb, ltb}
+-- `call_read::lookup4_flow` meets its contract.
+-- Assumes nothing.
+use mathlib.Core.Path.{refl, sym}
+use lib.Dec.{ltb}
 use lib.ListN.{length}
 use borrow.Author.Tests.{leb-true}
-use Rattle.definition.specs.Words.{decode}
-use Rattle.definition.specs.Step.{lookup4FlowCall}
-use Rattle.definition.specs.Reference.Lookup.{lookup4Flow}
-use Rattle.call_read.specs.Laws.{passed, valid, held, look-no, look-yes}
-use Rattle.call_read.specs.Numbers.{lookup4-flow-says}
+use Rattle.definition.specs.Call as Call
+use Rattle.definition.specs.Words.{stateOf}
+use Rattle.definition.specs.Reference.Lookup.{Flow, lookup4Flow}
+use Rattle.call_read.specs.Laws.{checked-as, lent, valid, passed, looking, look-no, look-yes}
+use Rattle.definition.specs.Step.{unless, lookup4FlowCall}
 use borrow.Author.Needs.{needs}
 use Rattle.call_read.proofs.lookup4_flow.Statement.{statement}
 use Rattle.call_read.proofs.lookup4_flow.Tie as tie
+
+fit-flow-requires : tie.Need-fit-flow-requires
+fit-flow-requires c κs = search needs
 
 checked-requires : tie.Need-checked-requires
 checked-requires c κs = search needs
@@ -17,20 +22,32 @@ checked-requires c κs = search needs
 returns : tie.Need-returns
 unfolding lookup4FlowCall lookup4Flow
 returns c =
-    let k = c .before in
-    let a = k .before .before .before .args in
-    let x =
-    look-no (a .state .now) (a .row .now) (k .checked .result) (ltb (a .tos) 256) (record { ip = a .ip; tos = a .tos; scope = 0; oif = a .oif }) (k .checked .ensures) (c .if1 .taken)
-    in
-    (lookup4-flow-says (a .state .now) (length (a .row .now)) (a .ip) (a .tos) (a .oif) (x .0), x)
+    let at-check = c .before in
+    let a = at-check .before .before .before .before .args in
+    let flow : Flow = record { ip = a .ip; tos = a .tos; scope = 0; oif = a .oif } in
+    let call = looking (a .row .now) (unless (ltb (a .tos) 256) 202) flow in
+    let n-is = checked-as (call .checks) (a .state .now) (at-check .checked .ensures) refl (at-check .before .fit-flow .ensures) in
+    look-no (a .state .now) (a .row .now) (unless (ltb (a .tos) 256) 202) flow n-is (c .if1 .taken)
+
+slice-aggregate-look : tie.Need-slice-aggregate-look
+slice-aggregate-look c =
+    let at-check = c .before .before in
+    let a = at-check .before .before .before .before .args in
+    let flow : Flow = record { ip = a .ip; tos = a .tos; scope = 0; oif = a .oif } in
+    let call = looking (a .row .now) (unless (ltb (a .tos) 256) 202) flow in
+    let n-is = checked-as (call .checks) (a .state .now) (at-check .checked .ensures) refl (at-check .before .fit-flow .ensures) in
+    let p = passed (call .checks) (a .state .now) n-is (c .before .if1 .left) in
+    sym (lent p)
 
 look-requires : tie.Need-look-requires
 look-requires c κs =
-    let e = c .before in
-    let k = e .before in
-    let a = k .before .before .before .args in
-    let p = passed (leb 32 (length (a .row .now))) true (ltb (a .tos) 256) (a .state .now) (k .checked .result) (k .checked .ensures) (e .if1 .left) in
-    (valid (leb 32 (length (a .row .now))) true (ltb (a .tos) 256) (a .state .now) (k .checked .result) (k .checked .ensures) (e .if1 .left), leb-true 32 (length (a .row .now)) (p .room))
+    let at-check = c .before .before .before in
+    let a = at-check .before .before .before .before .args in
+    let flow : Flow = record { ip = a .ip; tos = a .tos; scope = 0; oif = a .oif } in
+    let call = looking (a .row .now) (unless (ltb (a .tos) 256) 202) flow in
+    let n-is = checked-as (call .checks) (a .state .now) (at-check .checked .ensures) refl (at-check .before .fit-flow .ensures) in
+    let p = passed (call .checks) (a .state .now) n-is (c .before .before .if1 .left) in
+    (valid p, leb-true 32 (length (a .row .now)) (p .room))
 
 same-length : tie.Need-same-length
 same-length c = search needs
@@ -38,17 +55,24 @@ same-length c = search needs
 returns-2 : tie.Need-returns-2
 unfolding lookup4FlowCall lookup4Flow
 returns-2 c =
-    let y = c .before .before in
-    let e = y .before .before in
-    let k = e .before in
-    let a = k .before .before .before .args in
-    let h = held (leb 32 (length (a .row .now))) true (ltb (a .tos) 256) (a .state .now) (k .checked .result) (k .checked .ensures) (e .if1 .left) in
-    let x =
-    look-yes (a .state .now) (a .row .now) (k .checked .result) (ltb (a .tos) 256) (record { ip = a .ip; tos = a .tos; scope = 0; oif = a .oif }) (y .look .result) _ (k .checked .ensures) (e .if1 .left)
-    (y .look .ensures .0 (decode (a .state .now)) h) (y .look .ensures .1 (decode (a .state .now)) h)
-    in
-    (lookup4-flow-says (a .state .now) (length (a .row .now)) (a .ip) (a .tos) (a .oif) (x .0), x)
+    let at-look = c .before .before in
+    let at-check = at-look .before .before .before .before in
+    let a = at-check .before .before .before .before .args in
+    let flow : Flow = record { ip = a .ip; tos = a .tos; scope = 0; oif = a .oif } in
+    let call = looking (a .row .now) (unless (ltb (a .tos) 256) 202) flow in
+    let n-is = checked-as (call .checks) (a .state .now) (at-check .checked .ensures) refl (at-check .before .fit-flow .ensures) in
+    let p = passed (call .checks) (a .state .now) n-is (at-look .before .before .before .if1 .left) in
+    let looked = at-look .look .ensures in
+    look-yes (a .state .now) (a .row .now) (unless (ltb (a .tos) 256) 202) flow p (looked .0 (stateOf (a .state .now)) (p .holds)) (looked .1 (stateOf (a .state .now)) (p .holds))
 
 pub lookup4-flow-spec : {M : Type 1} → statement M
 lookup4-flow-spec =
-    tie.close (tie.spec checked-requires returns look-requires same-length returns-2)
+    tie.close
+    (tie.spec
+    fit-flow-requires
+    checked-requires
+    returns
+    slice-aggregate-look
+    look-requires
+    same-length
+    returns-2)

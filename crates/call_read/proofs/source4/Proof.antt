@@ -1,10 +1,11 @@
-use mathlib.Core.Path.{sym, ap, _∙_}
-use mathlib.Core.Bool.{true}
-use Rattle.definition.specs.Words.{decode}
+-- `call_read::source4` meets its contract.
+-- Assumes nothing.
+use mathlib.Core.Path.{refl, sym}
+use Rattle.definition.specs.Call as Call
+use Rattle.definition.specs.Words.{stateOf}
 use Rattle.definition.specs.Preservation.Fit.{length-route}
-use Rattle.call_read.specs.Answer.{chosenFor}
-use Rattle.call_read.specs.Laws.{valid, held, passed, source4-no, source4-yes}
-use Rattle.call_read.specs.Numbers.{source4-says}
+use Rattle.call_read.specs.Laws.{checked-as, lent, valid, passed, says-refused, says-passed, chosen-refused, chosen-answer}
+use Rattle.definition.specs.Step.{semantics, source4Call}
 use borrow.Author.Needs.{needs}
 use Rattle.call_read.proofs.source4.Statement.{statement}
 use Rattle.call_read.proofs.source4.Tie as tie
@@ -16,56 +17,46 @@ checked-requires : tie.Need-checked-requires
 checked-requires c κs = search needs
 
 returns : tie.Need-returns
+unfolding source4Call
 returns c =
-    let k = c .before in
-    let r = k .before in
-    let a = r .before .before .before .args in
-    let x =
-    source4-no (a .state .now) (k .checked .result) (a .ip) (a .row .now) (r .fit-route .result) (r .fit-route .ensures) (k .checked .ensures) (c .if1 .taken)
-    in
-    (source4-says (a .state .now) (a .row .now) (a .ip) x, x)
+    let at-check = c .before in
+    let a = at-check .before .before .before .before .args in
+    let call = semantics (Call.source4 (a .row .now) (a .ip)) in
+    let n-is = checked-as (call .checks) (a .state .now) (at-check .checked .ensures) (at-check .before .fit-route .ensures) refl in
+    says-refused call (a .state .now) n-is (c .if1 .taken) (chosen-refused (at-check .checked .result) (c .if1 .taken))
+
+slice-aggregate-source4 : tie.Need-slice-aggregate-source4
+slice-aggregate-source4 c =
+    let at-check = c .before .before in
+    let a = at-check .before .before .before .before .args in
+    let call = semantics (Call.source4 (a .row .now) (a .ip)) in
+    let n-is = checked-as (call .checks) (a .state .now) (at-check .checked .ensures) (at-check .before .fit-route .ensures) refl in
+    let p = passed (call .checks) (a .state .now) n-is (c .before .if1 .left) in
+    sym (lent p)
 
 source4-requires : tie.Need-source4-requires
 source4-requires c κs =
-    let k = c .before in
-    let r = k .before in
-    let a = r .before .before .before .args in
-    let p = passed true (r .fit-route .result) true (a .state .now) (k .checked .result) (k .checked .ensures) (c .if1 .left) in (
-      valid true (r .fit-route .result) true (a .state .now) (k .checked .result) (k .checked .ensures) (c .if1 .left),
-      length-route (a .row .now) (sym (r .fit-route .ensures) ∙ p .handed),
-    )
+    let at-check = c .before .before in
+    let a = at-check .before .before .before .before .args in
+    let call = semantics (Call.source4 (a .row .now) (a .ip)) in
+    let n-is = checked-as (call .checks) (a .state .now) (at-check .checked .ensures) (at-check .before .fit-route .ensures) refl in
+    let p = passed (call .checks) (a .state .now) n-is (c .before .if1 .left) in
+    (valid p, length-route (a .row .now) (p .handed))
 
-enum-known-selected : tie.Need-enum-known-selected
-enum-known-selected c = search needs
-
-enum-told : tie.Need-enum-told
-enum-told c = search needs
+chosen-for-requires : tie.Need-chosen-for-requires
+chosen-for-requires c κs = search needs
 
 returns-2 : tie.Need-returns-2
+unfolding source4Call
 returns-2 c =
-    let y = c .before .before .before in
-    let k = y .before .before in
-    let r = k .before in
-    let a = r .before .before .before .args in
-    let x =
-    ap chosenFor (sym (c .before .selected .given .1))
-    ∙ source4-yes (a .state .now) (k .checked .result) (a .ip) (a .row .now) (r .fit-route .result) (r .fit-route .ensures) (y .source4 .result) (k .checked .ensures) (y .before .if1 .left)
-    (y .source4 .ensures (decode (a .state .now)) (held true (r .fit-route .result) true (a .state .now) (k .checked .result) (k .checked .ensures) (y .before .if1 .left)))
-    in
-    (source4-says (a .state .now) (a .row .now) (a .ip) x, x)
-
-returns-3 : tie.Need-returns-3
-returns-3 c =
-    let y = c .before .before in
-    let k = y .before .before in
-    let r = k .before in
-    let a = r .before .before .before .args in
-    let x =
-    ap chosenFor (sym (c .enum-told .given .1))
-    ∙ source4-yes (a .state .now) (k .checked .result) (a .ip) (a .row .now) (r .fit-route .result) (r .fit-route .ensures) (y .source4 .result) (k .checked .ensures) (y .before .if1 .left)
-    (y .source4 .ensures (decode (a .state .now)) (held true (r .fit-route .result) true (a .state .now) (k .checked .result) (k .checked .ensures) (y .before .if1 .left)))
-    in
-    (source4-says (a .state .now) (a .row .now) (a .ip) x, x)
+    let at-choice = c .before in
+    let at-check = at-choice .before .before .before in
+    let a = at-check .before .before .before .before .args in
+    let call = semantics (Call.source4 (a .row .now) (a .ip)) in
+    let n-is = checked-as (call .checks) (a .state .now) (at-check .checked .ensures) (at-check .before .fit-route .ensures) refl in
+    let p = passed (call .checks) (a .state .now) n-is (at-choice .before .before .if1 .left) in
+    says-passed call (a .state .now) p
+    (chosen-answer (at-choice .source4 .result) _ (c .chosen-for .ensures) (at-choice .source4 .ensures (stateOf (a .state .now)) (p .holds)))
 
 pub source4-spec : {M : Type 1} → statement M
 source4-spec =
@@ -74,8 +65,7 @@ source4-spec =
     fit-route-requires
     checked-requires
     returns
+    slice-aggregate-source4
     source4-requires
-    enum-known-selected
-    enum-told
-    returns-2
-    returns-3)
+    chosen-for-requires
+    returns-2)

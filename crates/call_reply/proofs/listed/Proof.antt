@@ -1,10 +1,10 @@
 -- `call_reply::listed` meets its contract, case by case.
 -- Assumes nothing.
-use Rattle.call_dump.specs.Listing.{listed-rows-small}
+use Rattle.call_read.specs.Listing.{listed-rows-small}
 use mathlib.Core.Path.{sym, ap, _∙_}
 use Rattle.call_reply.specs.Answer.{replyFrom}
-use Rattle.call_dump.specs.Answer.{listedBy}
-use Rattle.call_dump.specs.declared.Listed.{Listed}
+use Rattle.call_read.specs.Answer.{listedBy}
+use Rattle.call_read.specs.declared.Listed.{Listed}
 use borrow.Author.Needs.{needs}
 use Rattle.call_reply.proofs.listed.Statement.{statement}
 use Rattle.call_reply.proofs.listed.Tie as tie

@@ -1,16 +1,16 @@
 -- `request_fit::fit_add_v4` meets its contract.
 -- Assumes nothing.
-use borrow.Author.Tests.{eq-eqb, ne-eqb}
+use mathlib.Core.Path.{_∙_}
 use Rattle.layout.specs.Request.{fitAddV4}
 use borrow.Author.Needs.{needs}
 use Rattle.request_fit.proofs.fit_add_v4.Statement.{statement}
 use Rattle.request_fit.proofs.fit_add_v4.Tie as tie
 
 returns : tie.Need-returns
-returns c = simp (ne-eqb _ _ (c .if1 .taken))
+returns c = search needs
 
-shared-slice-read-result : tie.Need-shared-slice-read-result
-shared-slice-read-result c = search needs
+shared-slice-read-fit : tie.Need-shared-slice-read-fit
+shared-slice-read-fit c = search needs
 
 shared-slice-read-fit-optional : tie.Need-shared-slice-read-fit-optional
 shared-slice-read-fit-optional c = search needs
@@ -21,11 +21,11 @@ shared-slice-read-fit-optional-2 c = search needs
 fit-optional-requires : tie.Need-fit-optional-requires
 fit-optional-requires c κs = search needs
 
-shared-slice-read-result-2 : tie.Need-shared-slice-read-result-2
-shared-slice-read-result-2 c = search needs
+shared-slice-read-fit-2 : tie.Need-shared-slice-read-fit-2
+shared-slice-read-fit-2 c = search needs
 
-shared-slice-read-result-3 : tie.Need-shared-slice-read-result-3
-shared-slice-read-result-3 c = search needs
+shared-slice-read-fit-3 : tie.Need-shared-slice-read-fit-3
+shared-slice-read-fit-3 c = search needs
 
 shared-slice-read-fit-label : tie.Need-shared-slice-read-fit-label
 shared-slice-read-fit-label c = search needs
@@ -45,33 +45,40 @@ shared-slice-read-fit-label-5 c = search needs
 fit-label-requires : tie.Need-fit-label-requires
 fit-label-requires c κs = search needs
 
-shared-slice-read-result-4 : tie.Need-shared-slice-read-result-4
-shared-slice-read-result-4 c = search needs
+shared-slice-read-fit-4 : tie.Need-shared-slice-read-fit-4
+shared-slice-read-fit-4 c = search needs
 
-shared-slice-read-result-5 : tie.Need-shared-slice-read-result-5
-shared-slice-read-result-5 c = search needs
+shared-slice-read-fit-5 : tie.Need-shared-slice-read-fit-5
+shared-slice-read-fit-5 c = search needs
+
+unless-requires : tie.Need-unless-requires
+unless-requires c κs = search needs
 
 returns-2 : tie.Need-returns-2
 unfolding fitAddV4
-returns-2 c = rw (eq-eqb _ _ (c .before .before .before .before .before .before .before .before .before .before .before .before .before .before .if1 .left), c .before .before .before .before .before .before .before .before .before .before .fit-optional .ensures, c .before .before .fit-label .ensures)
+returns-2 c =
+    let at-label = c .before .before .before in
+    let at-broadcast = at-label .before .before .before .before .before .before .before .before in
+    λ h. c .unless .ensures ∙ rw (at-broadcast .fit-optional .ensures, at-label .fit-label .ensures)
 
 pub fit-add-v4-spec : {M : Type 1} → statement M
 fit-add-v4-spec =
     tie.close
     (tie.spec
     returns
-    shared-slice-read-result
+    shared-slice-read-fit
     shared-slice-read-fit-optional
     shared-slice-read-fit-optional-2
     fit-optional-requires
-    shared-slice-read-result-2
-    shared-slice-read-result-3
+    shared-slice-read-fit-2
+    shared-slice-read-fit-3
     shared-slice-read-fit-label
     shared-slice-read-fit-label-2
     shared-slice-read-fit-label-3
     shared-slice-read-fit-label-4
     shared-slice-read-fit-label-5
     fit-label-requires
-    shared-slice-read-result-4
-    shared-slice-read-result-5
+    shared-slice-read-fit-4
+    shared-slice-read-fit-5
+    unless-requires
     returns-2)

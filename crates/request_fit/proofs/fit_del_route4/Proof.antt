@@ -1,14 +1,17 @@
 -- `request_fit::fit_del_route4` meets its contract.
 -- Assumes nothing.
-use borrow.Author.Tests.{eq-eqb, ne-eqb}
-use Rattle.request_fit.specs.Laws.{count-over, count-within}
+use Prim.Native.Nat.{ℕ}
+use mathlib.Core.Path.{ap, _∙_}
+use mathlib.Core.Bool.{Bool}
 use denote.Ref.{now}
+use Rattle.definition.specs.Step.{unless}
+use Rattle.request_fit.specs.Laws.{count-over, count-within}
 use borrow.Author.Needs.{needs}
 use Rattle.request_fit.proofs.fit_del_route4.Statement.{statement}
 use Rattle.request_fit.proofs.fit_del_route4.Tie as tie
 
 returns : tie.Need-returns
-returns c = simp (ne-eqb _ _ (c .if1 .taken))
+returns c = search needs
 
 fit-route-words-requires : tie.Need-fit-route-words-requires
 fit-route-words-requires c κs = search needs
@@ -26,15 +29,26 @@ shared-slice-read-if2 : tie.Need-shared-slice-read-if2
 shared-slice-read-if2 c = search needs
 
 returns-2 : tie.Need-returns-2
-returns-2 c = rw (eq-eqb _ _ (c .before .before .before .before .before .before .if1 .left)) (count-over (now (c .before .before .before .before .before .before .before .before .args .q)) (c .if2 .taken))
+returns-2 c =
+    let start = c .before .before .before .before .before .before .before .before in
+    λ h. ap (λ (b : Bool). unless b 202) (count-over (now (start .args .q)) (c .if2 .taken))
 
 fit-pairs-requires : tie.Need-fit-pairs-requires
 fit-pairs-requires c κs = search needs
 
+unless-requires : tie.Need-unless-requires
+unless-requires c κs = search needs
+
 returns-3 : tie.Need-returns-3
 returns-3 c =
-    rw (eq-eqb _ _ (c .before .before .before .before .before .before .before .if1 .left), c .before .before .before .before .before .before .fit-route-words .ensures, c .before .before .before .fit-optional .ensures, c .fit-pairs .ensures)
-    (count-within (now (c .before .before .before .before .before .before .before .before .before .args .q)) (c .before .if2 .left))
+    let at-pairs = c .before in
+    let at-list = at-pairs .before .before .before in
+    let at-words = at-list .before .before .before in
+    let start = at-words .before .before .before in
+    λ h.
+    c .unless .ensures
+    ∙ rw (at-words .fit-route-words .ensures, at-list .fit-optional .ensures, at-pairs .fit-pairs .ensures)
+    (ap (λ (b : Bool). unless b 202) (count-within (now (start .args .q)) (at-pairs .before .if2 .left)))
 
 pub fit-del-route4-spec : {M : Type 1} → statement M
 fit-del-route4-spec =
@@ -48,4 +62,5 @@ fit-del-route4-spec =
     shared-slice-read-if2
     returns-2
     fit-pairs-requires
+    unless-requires
     returns-3)

@@ -1,16 +1,16 @@
 -- `request_fit::fit_del_v4` meets its contract.
 -- Assumes nothing.
-use borrow.Author.Tests.{eq-eqb, ne-eqb}
+use mathlib.Core.Path.{_∙_}
 use Rattle.layout.specs.Request.{fitDelV4}
 use borrow.Author.Needs.{needs}
 use Rattle.request_fit.proofs.fit_del_v4.Statement.{statement}
 use Rattle.request_fit.proofs.fit_del_v4.Tie as tie
 
 returns : tie.Need-returns
-returns c = simp (ne-eqb _ _ (c .if1 .taken))
+returns c = search needs
 
-shared-slice-read-result : tie.Need-shared-slice-read-result
-shared-slice-read-result c = search needs
+shared-slice-read-fit : tie.Need-shared-slice-read-fit
+shared-slice-read-fit c = search needs
 
 shared-slice-read-fit-optional : tie.Need-shared-slice-read-fit-optional
 shared-slice-read-fit-optional c = search needs
@@ -57,16 +57,26 @@ shared-slice-read-fit-label-5 c = search needs
 fit-label-requires : tie.Need-fit-label-requires
 fit-label-requires c κs = search needs
 
+unless-requires : tie.Need-unless-requires
+unless-requires c κs = search needs
+
 returns-2 : tie.Need-returns-2
 unfolding fitDelV4
-returns-2 c = rw (eq-eqb _ _ (c .before .before .before .before .before .before .before .before .before .before .before .before .before .before .before .before .if1 .left), c .before .before .before .before .before .before .before .before .before .before .before .before .fit-optional .ensures, c .before .before .before .before .before .before .before .before .before .fit-optional2 .ensures, c .before .before .before .before .before .before .fit-optional3 .ensures, c .fit-label .ensures)
+returns-2 c =
+    let at-label = c .before in
+    let at-named = at-label .before .before .before .before .before .before in
+    let at-address = at-named .before .before .before in
+    let at-local = at-address .before .before .before in
+    λ h.
+    c .unless .ensures
+    ∙ rw (at-local .fit-optional .ensures, at-address .fit-optional2 .ensures, at-named .fit-optional3 .ensures, at-label .fit-label .ensures)
 
 pub fit-del-v4-spec : {M : Type 1} → statement M
 fit-del-v4-spec =
     tie.close
     (tie.spec
     returns
-    shared-slice-read-result
+    shared-slice-read-fit
     shared-slice-read-fit-optional
     shared-slice-read-fit-optional-2
     fit-optional-requires
@@ -82,4 +92,5 @@ fit-del-v4-spec =
     shared-slice-read-fit-label-4
     shared-slice-read-fit-label-5
     fit-label-requires
+    unless-requires
     returns-2)

@@ -16,7 +16,7 @@ done-requires : tie.Need-done-requires
 done-requires c κs =
     let k = c .before .before .before .before in
     let a = k .before .before .before .before .before .before .args in
-    small (k .del-route4 .result) (delRoute4Call (a .request .now) (length (a .events .now)) (a .state .now) .reply) (k .del-route4 .ensures .1 .0) (del-route4-emitted (a .state .now) (length (a .events .now)) (a .request .now))
+    small (k .del-route4 .result) (delRoute4Call (a .request .now) (length (a .events .now)) (a .state .now) .reply) (k .del-route4 .ensures .answer) (del-route4-emitted (a .state .now) (length (a .events .now)) (a .request .now))
 
 same-length : tie.Need-same-length
 same-length c = search needs
@@ -28,7 +28,7 @@ returns : tie.Need-returns
 returns c =
     let k = c .before .before .before .before .before in
     let a = k .before .before .before .before .before .before .args in
-    (c .done .ensures ∙ ap replyFrom (k .del-route4 .ensures .0), k .del-route4 .ensures .1 .1)
+    (c .done .ensures ∙ ap replyFrom (k .del-route4 .ensures .says), (k .del-route4 .ensures .words, k .del-route4 .ensures .events))
 
 pub interface4w-del-route4-spec : {M : Type 1} → statement M
 interface4w-del-route4-spec =

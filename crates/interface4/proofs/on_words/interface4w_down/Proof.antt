@@ -16,7 +16,7 @@ done-requires : tie.Need-done-requires
 done-requires c κs =
     let k = c .before .before .before .before in
     let a = k .before .before .before .before .before .args in
-    small (k .down .result) (downCall (length (a .events .now)) (a .state .now) .reply) (k .down .ensures .1 .0) (down-emitted (a .state .now) (length (a .events .now)))
+    small (k .down .result) (downCall (length (a .events .now)) (a .state .now) .reply) (k .down .ensures .answer) (down-emitted (a .state .now) (length (a .events .now)))
 
 same-length : tie.Need-same-length
 same-length c = search needs
@@ -28,7 +28,7 @@ returns : tie.Need-returns
 returns c =
     let k = c .before .before .before .before .before in
     let a = k .before .before .before .before .before .args in
-    (c .done .ensures ∙ ap replyFrom (k .down .ensures .0), k .down .ensures .1 .1)
+    (c .done .ensures ∙ ap replyFrom (k .down .ensures .says), (k .down .ensures .words, k .down .ensures .events))
 
 pub interface4w-down-spec : {M : Type 1} → statement M
 interface4w-down-spec =

@@ -16,7 +16,7 @@ returns : tie.Need-returns
 returns c =
     let k = c .before in
     let a = k .before .before .args in
-    c .local .ensures ∙ ap replyFrom (k .local4 .ensures .0)
+    c .local .ensures ∙ ap replyFrom (k .local4 .ensures .says)
 
 pub interface4w-local4-spec : {M : Type 1} → statement M
 interface4w-local4-spec = tie.close (tie.spec local4-requires local-requires returns)

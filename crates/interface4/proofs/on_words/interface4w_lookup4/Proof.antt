@@ -19,7 +19,7 @@ returns : tie.Need-returns
 returns c =
     let k = c .before .before .before in
     let a = k .before .before .before .before .args in
-    (c .found .ensures ∙ ap replyFrom (k .lookup4 .ensures .0), k .lookup4 .ensures .1 .1)
+    (c .found .ensures ∙ ap replyFrom (k .lookup4 .ensures .says), k .lookup4 .ensures .rows)
 
 pub interface4w-lookup4-spec : {M : Type 1} → statement M
 interface4w-lookup4-spec = tie.close (tie.spec lookup4-requires found-requires same-length returns)

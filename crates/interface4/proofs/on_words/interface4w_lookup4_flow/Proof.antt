@@ -19,7 +19,7 @@ returns : tie.Need-returns
 returns c =
     let k = c .before .before .before in
     let a = k .before .before .before .before .args in
-    (c .found .ensures ∙ ap replyFrom (k .lookup4-flow .ensures .0), k .lookup4-flow .ensures .1 .1)
+    (c .found .ensures ∙ ap replyFrom (k .lookup4-flow .ensures .says), k .lookup4-flow .ensures .rows)
 
 pub interface4w-lookup4-flow-spec : {M : Type 1} → statement M
 interface4w-lookup4-flow-spec =

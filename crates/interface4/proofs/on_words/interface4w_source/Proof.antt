@@ -16,7 +16,7 @@ returns : tie.Need-returns
 returns c =
     let k = c .before in
     let a = k .before .before .args in
-    c .sourced .ensures ∙ ap replyFrom (k .source .ensures .0)
+    c .sourced .ensures ∙ ap replyFrom (k .source .ensures .says)
 
 pub interface4w-source-spec : {M : Type 1} → statement M
 interface4w-source-spec = tie.close (tie.spec source-requires sourced-requires returns)

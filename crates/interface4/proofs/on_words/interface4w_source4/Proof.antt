@@ -16,7 +16,7 @@ returns : tie.Need-returns
 returns c =
     let k = c .before in
     let a = k .before .before .before .args in
-    c .chosen .ensures ∙ ap replyFrom (k .source4 .ensures .0)
+    c .chosen .ensures ∙ ap replyFrom (k .source4 .ensures .says)
 
 pub interface4w-source4-spec : {M : Type 1} → statement M
 interface4w-source4-spec = tie.close (tie.spec source4-requires chosen-requires returns)

@@ -9,7 +9,7 @@ use Rattle.definition.specs.Step.{dump4Call, listingRoom}
 use Rattle.endian.specs.Endian.{wordsOf}
 use Rattle.interface4.specs.Answer.{roomFits}
 use Rattle.endian.specs.Laws.{words-whole}
-use Rattle.call_dump.specs.Listing.{dump4-lists}
+use Rattle.call_read.specs.Listing.{dump4-lists}
 use Rattle.interface4.specs.Changed.{room, wrote-no, wrote-yes, wrote-on, listing-words}
 use borrow.Author.Needs.{needs}
 use Rattle.interface4.proofs.reading.interface4_dump4.Statement.{statement}

@@ -2,24 +2,23 @@
 -- Assumes nothing.
 use Prim.Native.Nat.{ℕ, _≤_, _<_}
 use native.Mathlib.Omega.{arith}
-use mathlib.Core.Path.{_≡_, refl, ap, _∙_}
+use mathlib.Core.Path.{_≡_, refl, ap}
 use mathlib.Core.Bool.{true}
 use mathlib.Core.List.{List}
-use lib.Dec.{eqb, leb}
+use lib.Dec.{eqb}
 use lib.ListN.{length}
 use borrow.Author.Tests.{eqb-true}
 use Rattle.lists.specs.Bools.{test-case}
 use Rattle.lists.specs.Rows.{sized}
-use Rattle.definition.specs.Words.{decode}
+use Rattle.definition.specs.Words.{stateOf}
 use Rattle.definition.specs.Call.{Reply, refusal, written}
-use Rattle.definition.specs.Step.{dump4Call, listingRoom}
+use Rattle.definition.specs.Step.{listing, dump4Call}
 use Rattle.definition.specs.Reference.Source.{dump4}
 use Rattle.definition.specs.Preservation.Reading.{dump4-listing}
-use Rattle.call_read.specs.Answer.{Numbers, numbers}
-use Rattle.call_dump.specs.Answer.{listedBy, listedOf}
-use Rattle.call_dump.specs.declared.Listed.{Listed}
-use Rattle.call_dump.specs.declared.Listed.the-variants.{Rows}
-use Rattle.call_read.specs.Numbers.{reads}
+use Rattle.call_read.specs.Answer.{Numbers, numbers, listedBy, listedOf}
+use Rattle.call_read.specs.declared.Listed.{Listed}
+use Rattle.call_read.specs.declared.Listed.the-variants.{Rows}
+use Rattle.call_read.specs.Laws.{reads}
 
 pub record Lists (r : Reply) : Type 0 where
   pub says : listedBy (listedOf r) ≡ numbers r
@@ -34,13 +33,9 @@ lists-none n =
 pub dump4-lists : (w : List ℕ) (room : ℕ) → Lists (dump4Call room w .reply)
 unfolding dump4Call
 dump4-lists w room =
-    reads Lists (leb listingRoom room) true true (λ st. written (dump4 st)) w (λ n h. lists-none n)
-    (λ g.
-    let l = dump4-listing (decode w) g in
+    reads Lists (listing room dump4 .checks) (λ st. written (dump4 st)) w (λ n h. lists-none n) (λ g.
+    let l = dump4-listing (stateOf w) g in
     record { says = refl; counts = refl; few = l .0; size = l .1 })
-
-pub dump4-says : (w : List ℕ) (room : ℕ) {r : Listed} → r ≡ listedOf (dump4Call room w .reply) → listedBy r ≡ numbers (dump4Call room w .reply)
-dump4-says w room e = ap listedBy e ∙ dump4-lists w room .says
 
 -- the count fits a word
 pub listed-small : (d : Listed) (r : Reply) → listedBy d ≡ numbers r → Lists r → listedBy d .value < 4294967296
