@@ -9,10 +9,8 @@ use Rattle.lists.specs.Lists.{flat, put}
 use Rattle.definition.specs.Call.{Reply, Numbers, numbers}
 use Rattle.definition.specs.Step.{Result}
 use Rattle.call_read.specs.Answer.{refusedBy, valuing}
-use Rattle.step_laws.specs.declared.Told as step-laws
-use Rattle.step_add_v4.specs.declared.Done as step-add-v4
-use Rattle.step_del_v4.specs.declared.Deleted as step-del-v4
-use Rattle.step_route_request.specs.declared.Done as step-route-request
+use Rattle.step_events.specs.declared.Told as Step
+use Rattle.step_events.specs.declared.Done as Request
 use Rattle.call_change.specs.declared.Done.{Done}
 use Rattle.call_change.specs.declared.Done.the-variants.{Refused, Rows}
 
@@ -31,21 +29,12 @@ pub record Answers (x : Result) (w′ ev ev′ : List ℕ) (r : Done) : Type 0 w
   pub words : w′ ≡ x .words
   pub events : ev′ ≡ put 0 (flat (x .reply .rows)) ev
 
--- ---- what the steps come to as answers: 203 where a list would pass its limit, 99 where no address meets the conditions
-abbrev pub ofTold : step-laws.Told → Done
-ofTold (step-laws.the-variants.Rows n) = Rows n
-ofTold step-laws.the-variants.Full = Refused 203
+-- ---- what the steps come to as answers: 203 where a list would pass its limit
+abbrev pub ofTold : Step.Told → Done
+ofTold (Step.the-variants.Rows n) = Rows n
+ofTold Step.the-variants.Full = Refused 203
 
-abbrev pub ofAdded : step-add-v4.Done → Done
-ofAdded (step-add-v4.the-variants.Rows n) = Rows n
-ofAdded (step-add-v4.the-variants.Refused n) = Refused n
-ofAdded step-add-v4.the-variants.Full = Refused 203
-
-abbrev pub ofDeleted : step-del-v4.Deleted → Done
-ofDeleted (step-del-v4.the-variants.Rows n) = Rows n
-ofDeleted step-del-v4.the-variants.Nothing = Refused 99
-
-abbrev pub ofRequested : step-route-request.Done → Done
-ofRequested (step-route-request.the-variants.Rows n) = Rows n
-ofRequested (step-route-request.the-variants.Refused n) = Refused n
-ofRequested step-route-request.the-variants.Full = Refused 203
+abbrev pub ofDone : Request.Done → Done
+ofDone (Request.the-variants.Rows n) = Rows n
+ofDone (Request.the-variants.Refused n) = Refused n
+ofDone Request.the-variants.Full = Refused 203

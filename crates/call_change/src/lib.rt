@@ -10,7 +10,7 @@ use life::Nanoseconds;
 ghost use mathlib.Core.Path.{_≡_};
 ghost use lib.ListN.{length};
 ghost use Rattle.definition.specs.Step.{upCall, downCall, addV4Call, delV4Call, expireCall, addRoute4Call, delRoute4Call};
-ghost use Rattle.call_change.specs.Answer.{Answers, ofTold, ofAdded, ofDeleted, ofRequested};
+ghost use Rattle.call_change.specs.Answer.{Answers, ofTold, ofDone};
 
 // What a changing call answers: a refusal's number, or how many event rows it wrote.
 pub enum Done {
@@ -19,41 +19,22 @@ pub enum Done {
 }
 
 // What the steps come to as answers: 203 where a list would pass its limit.
-fn of_told(t: step_laws::Told) -> Done
+fn of_told(t: step_events::Told) -> Done
     ensures { λ r. ⌜ r ≡ ofTold t ⌝ }
 {
     match t {
-        step_laws::Told::Rows(n) => Done::Rows(n),
-        step_laws::Told::Full => Done::Refused(203),
+        step_events::Told::Rows(n) => Done::Rows(n),
+        step_events::Told::Full => Done::Refused(203),
     }
 }
 
-fn of_added(d: step_add_v4::Done) -> Done
-    ensures { λ r. ⌜ r ≡ ofAdded d ⌝ }
+fn of_done(d: step_events::Done) -> Done
+    ensures { λ r. ⌜ r ≡ ofDone d ⌝ }
 {
     match d {
-        step_add_v4::Done::Rows(n) => Done::Rows(n),
-        step_add_v4::Done::Refused(n) => Done::Refused(n),
-        step_add_v4::Done::Full => Done::Refused(203),
-    }
-}
-
-fn of_deleted(d: step_del_v4::Deleted) -> Done
-    ensures { λ r. ⌜ r ≡ ofDeleted d ⌝ }
-{
-    match d {
-        step_del_v4::Deleted::Rows(n) => Done::Rows(n),
-        step_del_v4::Deleted::Nothing => Done::Refused(layout::NO_SUCH_ADDRESS),
-    }
-}
-
-fn of_requested(d: step_route_request::Done) -> Done
-    ensures { λ r. ⌜ r ≡ ofRequested d ⌝ }
-{
-    match d {
-        step_route_request::Done::Rows(n) => Done::Rows(n),
-        step_route_request::Done::Refused(n) => Done::Refused(n),
-        step_route_request::Done::Full => Done::Refused(203),
+        step_events::Done::Rows(n) => Done::Rows(n),
+        step_events::Done::Refused(n) => Done::Refused(n),
+        step_events::Done::Full => Done::Refused(203),
     }
 }
 
@@ -115,7 +96,7 @@ pub fn add_v4(state: &mut [u32], q: &[u32], events: &mut [u32], clock: u64) -> D
     if n != 0 {
         return Done::Refused(n);
     }
-    of_added(step_add_v4_atomic::add_v4(&mut state[..BASE_WORDS], events, q, Nanoseconds(clock)))
+    of_done(step_add_v4_atomic::add_v4(&mut state[..BASE_WORDS], events, q, Nanoseconds(clock)))
 }
 
 // The first address that meets the conditions goes, with what goes with it.
@@ -132,7 +113,7 @@ pub fn del_v4(state: &mut [u32], q: &[u32], events: &mut [u32]) -> Done
     if n != 0 {
         return Done::Refused(n);
     }
-    of_deleted(step_del_v4::del_v4(&mut state[..BASE_WORDS], events, q))
+    of_done(step_del_v4::del_v4(&mut state[..BASE_WORDS], events, q))
 }
 
 // A route is put in, or replaces one. A refusal by the reference may leave its table listed.
@@ -149,7 +130,7 @@ pub fn add_route4(state: &mut [u32], q: &[u32], events: &mut [u32]) -> Done
     if n != 0 {
         return Done::Refused(n);
     }
-    of_requested(step_route_request::add_route4(&mut state[..BASE_WORDS], events, q))
+    of_done(step_route_request::add_route4(&mut state[..BASE_WORDS], events, q))
 }
 
 // The first route that matches goes.
@@ -166,5 +147,5 @@ pub fn del_route4(state: &mut [u32], q: &[u32], events: &mut [u32]) -> Done
     if n != 0 {
         return Done::Refused(n);
     }
-    of_requested(step_route_request::del_route4(&mut state[..BASE_WORDS], events, q))
+    of_done(step_route_request::del_route4(&mut state[..BASE_WORDS], events, q))
 }

@@ -202,6 +202,6 @@ pub fn dump4(state: &[u32], listing: &mut [u32]) -> Listed
     if n != 0 {
         return Listed::Refused(n);
     }
-    let rows = state_listed::list(&state[..BASE_WORDS], listing);
+    let rows = state_read::list(&state[..BASE_WORDS], listing);
     Listed::Rows(rows)
 }

@@ -64,7 +64,7 @@ pub record Went (q : Row) (st : State) (s ev₀ ev : List ℕ) (n : ℕ) : Type 
 
 abbrev pub Deletes : Row → State → List ℕ → List ℕ → List ℕ → Done → Type 0
 Deletes q st s ev₀ ev (Rows n) = Went q st s ev₀ ev n
-Deletes q st s ev₀ ev (Refused n) = (delV4 q st ≡ refused n st) × Represents s st × (ev ≡ ev₀)
+Deletes q st s ev₀ ev (Refused n) = (n ≡ 99) × (delV4 q st ≡ refused 99 st) × Represents s st × (ev ≡ ev₀)
 Deletes q st s ev₀ ev Full = ⊥
 
 module _ (q : Row) {st : State} {s ev : List ℕ} (f : Fits potential st s ev) (n i : ℕ) (en : n ≡ addressCount s) (e : i ≡ placeOf (deletes q) (st .addresses)) where
@@ -73,7 +73,7 @@ module _ (q : Row) {st : State} {s ev : List ℕ} (f : Fits potential st s ev) (
 
   pub deleted-none : n ≤ i → Deletes q st s ev ev (Refused 99)
   unfolding delV4
-  deleted-none b = (rw (place, nothing-from (st .addresses) i (omega (arith, count-addresses (f .holds)))), f .holds, refl)
+  deleted-none b = (refl, rw (place, nothing-from (st .addresses) i (omega (arith, count-addresses (f .holds)))), f .holds, refl)
 
   in-use : i < n → i < length (st .addresses)
   in-use b = omega (arith, count-addresses (f .holds))

@@ -79,8 +79,8 @@ add-route4-requires c κs =
     let size = sizes addRoute4Size q ev (p .room) in
     (sound p, ((size .long, unless-passed (fitAddRoute4 q) (p .fit)), omega (arith, size .room)))
 
-of-requested-requires : tie.Need-of-requested-requires
-of-requested-requires c κs = search needs
+of-done-requires : tie.Need-of-done-requires
+of-done-requires c κs = search needs
 
 same-length-2 : tie.Need-same-length-2
 same-length-2 c = search needs
@@ -103,7 +103,7 @@ returns-2 c =
     let p = passed (call .checks) w n-is (at-step .before .before .before .if1 .left) in
     answers-passed call w p
     (requested-answers w (addRoute4 q (stateOf w)) (at-step .add-route4 .result) p (addRoute4-number q (stateOf w) (unless-passed (fitAddRoute4 q) (p .fit)))
-    (at-step .add-route4 .ensures (stateOf w) (p .holds) (p .good .fits)) (c .of-requested .ensures))
+    (at-step .add-route4 .ensures (stateOf w) (p .holds) (p .good .fits)) (c .of-done .ensures))
 
 pub add-route4-spec : {M : Type 1} → statement M
 add-route4-spec =
@@ -116,7 +116,7 @@ add-route4-spec =
     slice-relend-prefix-add-route4
     slice-aggregate-add-route4
     add-route4-requires
-    of-requested-requires
+    of-done-requires
     same-length-2
     same-length-3
     returns-2)

@@ -80,8 +80,8 @@ add-v4-requires c κs =
     let size = sizes addV4Size q ev (p .room) in
     (sound p, ((size .long, unless-passed (fitAddV4 q) (p .fit)), omega (arith, size .room)))
 
-of-added-requires : tie.Need-of-added-requires
-of-added-requires c κs = search needs
+of-done-requires : tie.Need-of-done-requires
+of-done-requires c κs = search needs
 
 same-length-2 : tie.Need-same-length-2
 same-length-2 c = search needs
@@ -104,7 +104,7 @@ returns-2 c =
     let p = passed (call .checks) w n-is (at-step .before .before .before .if1 .left) in
     answers-passed call w p
     (added-answers w (addV4 q (a .clock) (stateOf w)) (at-step .add-v4 .result) p (addV4-number q (a .clock) (stateOf w)) (addV4-leaves q (a .clock) (stateOf w))
-    (at-step .add-v4 .ensures .1 .1 (stateOf w) (p .holds) (p .good .fits)) (at-step .add-v4 .ensures .1 .0) (c .of-added .ensures))
+    (at-step .add-v4 .ensures .1 .1 (stateOf w) (p .holds) (p .good .fits)) (at-step .add-v4 .ensures .1 .0) (c .of-done .ensures))
 
 pub add-v4-spec : {M : Type 1} → statement M
 add-v4-spec =
@@ -117,7 +117,7 @@ add-v4-spec =
     slice-relend-prefix-add-v4
     slice-aggregate-add-v4
     add-v4-requires
-    of-added-requires
+    of-done-requires
     same-length-2
     same-length-3
     returns-2)

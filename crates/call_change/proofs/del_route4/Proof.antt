@@ -80,8 +80,8 @@ del-route4-requires c κs =
     let size = sizes delRoute4Size q ev (p .room) in
     (sound-valid (sound p), ((size .long, unless-passed (fitDelRoute4 q) (p .fit)), omega (arith, size .room)))
 
-of-requested-requires : tie.Need-of-requested-requires
-of-requested-requires c κs = search needs
+of-done-requires : tie.Need-of-done-requires
+of-done-requires c κs = search needs
 
 same-length-2 : tie.Need-same-length-2
 same-length-2 c = search needs
@@ -104,7 +104,7 @@ returns-2 c =
     let p = passed (call .checks) w n-is (at-step .before .before .before .if1 .left) in
     answers-passed call w p
     (requested-answers w (delRoute4Request q (stateOf w)) (at-step .del-route4 .result) p (delRoute4-number q (stateOf w))
-    (at-step .del-route4 .ensures (stateOf w) (p .holds)) (c .of-requested .ensures))
+    (at-step .del-route4 .ensures (stateOf w) (p .holds)) (c .of-done .ensures))
 
 pub del-route4-spec : {M : Type 1} → statement M
 del-route4-spec =
@@ -117,7 +117,7 @@ del-route4-spec =
     slice-relend-prefix-del-route4
     slice-aggregate-del-route4
     del-route4-requires
-    of-requested-requires
+    of-done-requires
     same-length-2
     same-length-3
     returns-2)

@@ -77,8 +77,8 @@ del-v4-requires c κs =
     let size = sizes delV4Size q ev (p .room) in
     (record { state = stateOf w; fits = fitting p (size .room) }, size .long)
 
-of-deleted-requires : tie.Need-of-deleted-requires
-of-deleted-requires c κs = search needs
+of-done-requires : tie.Need-of-done-requires
+of-done-requires c κs = search needs
 
 same-length-2 : tie.Need-same-length-2
 same-length-2 c = search needs
@@ -100,7 +100,7 @@ returns-2 c =
     let n-is = request-checked delV4Size q (eventsFit (length ev)) (unless (fitDelV4 q) 202) w (at-check .checked .ensures) (at-fit .fit-del-v4 .ensures) in
     let p = passed (call .checks) w n-is (at-step .before .before .before .if1 .left) in
     answers-passed call w p
-    (deletes-answers q w _ ev _ (at-step .del-v4 .result) p (at-step .del-v4 .ensures (stateOf w) (fitting p (sizes delV4Size q ev (p .room) .room))) (c .of-deleted .ensures))
+    (deletes-answers q w _ ev _ (at-step .del-v4 .result) p (at-step .del-v4 .ensures (stateOf w) (fitting p (sizes delV4Size q ev (p .room) .room))) (c .of-done .ensures))
 
 pub del-v4-spec : {M : Type 1} → statement M
 del-v4-spec =
@@ -113,7 +113,7 @@ del-v4-spec =
     slice-relend-prefix-del-v4
     slice-aggregate-del-v4
     del-v4-requires
-    of-deleted-requires
+    of-done-requires
     same-length-2
     same-length-3
     returns-2)
