@@ -1,5 +1,5 @@
 -- A run of the code on bytes, as its caller sees it, and the claim of two runs about it. The contract of each public call on bytes
--- (crate ffi) says what Made says: where there are as many bytes as there must be, it is the call on their words, given back as bytes.
+-- (crate interface4) is what Made says: where there are as many bytes as there must be, it is the call on their words, given back as bytes.
 use Prim.Native.Nat.{ℕ, _*_}
 use mathlib.Core.Path.{_≡_}
 use mathlib.Core.Bool.{Bool, true, cond, not, _&&_}
@@ -9,9 +9,11 @@ use lib.ListN.{length, take}
 use Rattle.lists.specs.Lists.{flat, put, keep, zeros}
 use Rattle.endian.specs.Endian.{wordsOf, bytesOf}
 use Rattle.endian.specs.Laws.{Below}
-use Rattle.definition.specs.Words.{stateOf}
+use Rattle.layout.specs.Route as Route
+use Rattle.layout.specs.Request.{addV4Size, delV4Size, addRoute4Size, delRoute4Size}
+use Rattle.definition.specs.Words.{stateOf, stateSize}
 use Rattle.definition.specs.Call.{Call, Reply, Numbers, numbers, refusal}
-use Rattle.definition.specs.Step.{Result, alters, semantics, step}
+use Rattle.definition.specs.Step.{Result, alters, semantics, step, eventRoom, listingRoom}
 use Rattle.definition.specs.Noninterference.Statement.{Choice, struck, view}
 use Rattle.definition.specs.Noninterference.Public.{Lent, Seen, answers, spared, Equal}
 
@@ -21,7 +23,7 @@ onBytes fit r = cond fit r (refusal 200)
 
 -- a state's bytes
 abbrev pub stateFits : List ℕ → Bool
-stateFits b = eqb (length b) 38028
+stateFits b = eqb (length b) (4 * stateSize)
 
 -- a row handed over, of n bytes; other bytes are no row
 abbrev pub rowWords : ℕ → List ℕ → List ℕ
@@ -38,16 +40,16 @@ with s n room = stateFits s && leb n room
 
 -- there are as many bytes as there must be
 abbrev pub suffices : Call → List ℕ → Bool
-suffices (Call.up events now) s = with s 52224 events
-suffices (Call.down events) s = with s 52224 events
-suffices (Call.addV4 q events now) s = eqb (length q) 72 && with s 52224 events
-suffices (Call.delV4 q events) s = eqb (length q) 44 && with s 52224 events
-suffices (Call.expire events now) s = with s 52224 events
-suffices (Call.addRoute4 q events) s = eqb (length q) 136 && with s 52224 events
-suffices (Call.delRoute4 q events) s = eqb (length q) 196 && with s 52224 events
-suffices (Call.dump4 room) s = with s 32768 room
-suffices (Call.lookup4 room ip) s = with s 128 room
-suffices (Call.lookup4Flow room ip tos oif) s = with s 128 room
+suffices (Call.up events now) s = with s (4 * eventRoom) events
+suffices (Call.down events) s = with s (4 * eventRoom) events
+suffices (Call.addV4 q events now) s = eqb (length q) (4 * addV4Size) && with s (4 * eventRoom) events
+suffices (Call.delV4 q events) s = eqb (length q) (4 * delV4Size) && with s (4 * eventRoom) events
+suffices (Call.expire events now) s = with s (4 * eventRoom) events
+suffices (Call.addRoute4 q events) s = eqb (length q) (4 * addRoute4Size) && with s (4 * eventRoom) events
+suffices (Call.delRoute4 q events) s = eqb (length q) (4 * delRoute4Size) && with s (4 * eventRoom) events
+suffices (Call.dump4 room) s = with s (4 * listingRoom) room
+suffices (Call.lookup4 room ip) s = with s (4 * Route.size) room
+suffices (Call.lookup4Flow room ip tos oif) s = with s (4 * Route.size) room
 suffices (Call.local4 ip) s = stateFits s
 suffices (Call.source4 row ip) s = stateFits s
 suffices (Call.source ip) s = stateFits s
@@ -55,18 +57,18 @@ suffices (Call.select4 dstPresent dst scope) s = stateFits s
 
 -- then it is this call on words
 abbrev pub inner : Call → Call
-inner (Call.up events now) = Call.up 13056 now
-inner (Call.down events) = Call.down 13056
-inner (Call.addV4 q events now) = Call.addV4 (wordsOf q) 13056 now
-inner (Call.delV4 q events) = Call.delV4 (wordsOf q) 13056
-inner (Call.expire events now) = Call.expire 13056 now
-inner (Call.addRoute4 q events) = Call.addRoute4 (wordsOf q) 13056
-inner (Call.delRoute4 q events) = Call.delRoute4 (wordsOf q) 13056
-inner (Call.dump4 room) = Call.dump4 8192
-inner (Call.lookup4 room ip) = Call.lookup4 32 ip
-inner (Call.lookup4Flow room ip tos oif) = Call.lookup4Flow 32 ip tos oif
+inner (Call.up events now) = Call.up eventRoom now
+inner (Call.down events) = Call.down eventRoom
+inner (Call.addV4 q events now) = Call.addV4 (wordsOf q) eventRoom now
+inner (Call.delV4 q events) = Call.delV4 (wordsOf q) eventRoom
+inner (Call.expire events now) = Call.expire eventRoom now
+inner (Call.addRoute4 q events) = Call.addRoute4 (wordsOf q) eventRoom
+inner (Call.delRoute4 q events) = Call.delRoute4 (wordsOf q) eventRoom
+inner (Call.dump4 room) = Call.dump4 listingRoom
+inner (Call.lookup4 room ip) = Call.lookup4 Route.size ip
+inner (Call.lookup4Flow room ip tos oif) = Call.lookup4Flow Route.size ip tos oif
 inner (Call.local4 ip) = Call.local4 ip
-inner (Call.source4 row ip) = Call.source4 (rowWords 128 row) ip
+inner (Call.source4 row ip) = Call.source4 (rowWords (4 * Route.size) row) ip
 inner (Call.source ip) = Call.source ip
 inner (Call.select4 dstPresent dst scope) = Call.select4 dstPresent dst scope
 
@@ -98,18 +100,18 @@ abbrev pub roomIn : ℕ → ℕ → ℕ
 roomIn k n = cond (leb (4 * k) n) k 0
 
 abbrev pub asWords : Call → Call
-asWords (Call.up events now) = Call.up (roomIn 13056 events) now
-asWords (Call.down events) = Call.down (roomIn 13056 events)
-asWords (Call.addV4 q events now) = Call.addV4 (requestIn 18 q) (roomIn 13056 events) now
-asWords (Call.delV4 q events) = Call.delV4 (requestIn 11 q) (roomIn 13056 events)
-asWords (Call.expire events now) = Call.expire (roomIn 13056 events) now
-asWords (Call.addRoute4 q events) = Call.addRoute4 (requestIn 34 q) (roomIn 13056 events)
-asWords (Call.delRoute4 q events) = Call.delRoute4 (requestIn 49 q) (roomIn 13056 events)
-asWords (Call.dump4 room) = Call.dump4 (roomIn 8192 room)
-asWords (Call.lookup4 room ip) = Call.lookup4 (roomIn 32 room) ip
-asWords (Call.lookup4Flow room ip tos oif) = Call.lookup4Flow (roomIn 32 room) ip tos oif
+asWords (Call.up events now) = Call.up (roomIn eventRoom events) now
+asWords (Call.down events) = Call.down (roomIn eventRoom events)
+asWords (Call.addV4 q events now) = Call.addV4 (requestIn addV4Size q) (roomIn eventRoom events) now
+asWords (Call.delV4 q events) = Call.delV4 (requestIn delV4Size q) (roomIn eventRoom events)
+asWords (Call.expire events now) = Call.expire (roomIn eventRoom events) now
+asWords (Call.addRoute4 q events) = Call.addRoute4 (requestIn addRoute4Size q) (roomIn eventRoom events)
+asWords (Call.delRoute4 q events) = Call.delRoute4 (requestIn delRoute4Size q) (roomIn eventRoom events)
+asWords (Call.dump4 room) = Call.dump4 (roomIn listingRoom room)
+asWords (Call.lookup4 room ip) = Call.lookup4 (roomIn Route.size room) ip
+asWords (Call.lookup4Flow room ip tos oif) = Call.lookup4Flow (roomIn Route.size room) ip tos oif
 asWords (Call.local4 ip) = Call.local4 ip
-asWords (Call.source4 row ip) = Call.source4 (rowWords 128 row) ip
+asWords (Call.source4 row ip) = Call.source4 (rowWords (4 * Route.size) row) ip
 asWords (Call.source ip) = Call.source ip
 asWords (Call.select4 dstPresent dst scope) = Call.select4 dstPresent dst scope
 
@@ -122,7 +124,7 @@ abbrev pub Agree : (ℕ → Bool) → List Call → List Call → Type 0
 Agree chosen cs ds = keep (λ c. not (struck chosen (asWords c))) cs ≡ keep (λ c. not (struck chosen (asWords c))) ds
 
 abbrev pub emptyBytes : List ℕ
-emptyBytes = zeros 38028
+emptyBytes = zeros (4 * stateSize)
 
 -- The claim, of two whole runs of the code on bytes: the answers read from the buffers, and what is read from the states, are equal.
 abbrev pub ByteRuns : Type 0

@@ -47,12 +47,12 @@ none-below i = omega arith
 
 -- the bytes, as long as they must be, hold well-formed words
 record Represents (s : List ℕ) : Type 0 where
-  long : length s ≡ 38028
+  long : length s ≡ 4 * stateSize
   held : Held (wordsOf s)
 
 record Goes (c : Call) (s : List ℕ) (x : Seen) (s′ : List ℕ) : Type 0 where
   shows : Shows (asWords c) (wordsOf s) (inWords x) (wordsOf s′)
-  long : length s′ ≡ 38028
+  long : length s′ ≡ 4 * stateSize
 
 module _ (c : Call) (s b : List ℕ) (n : Numbers) (s′ b′ : List ℕ) (m : Made c s b n s′ b′) (h : Represents s) where
   w : List ℕ
@@ -124,10 +124,10 @@ wordsOf-zeros zero = refl
 wordsOf-zeros (suc n) = rw (mul-suc 4 n, add-four, wordsOf-zeros n)
 
 empty-words : wordsOf emptyBytes ≡ emptyWords
-empty-words = wordsOf-zeros 9507
+empty-words = wordsOf-zeros stateSize
 
 holds-empty : Represents emptyBytes
-holds-empty = record { long = length-zeros 38028; held = subst Held (sym empty-words) held-empty }
+holds-empty = record { long = length-zeros (4 * stateSize); held = subst Held (sym empty-words) held-empty }
 
 -- ---- the claim
 keep-map : (p : Call → Bool) (f : Call → Call) (l : List Call) → keep p (map f l) ≡ map f (keep (λ x. p (f x)) l)
