@@ -49,7 +49,7 @@ pub record Told (r : Reply) : Type 0 where
   pub few : length (r .rows) ≤ 384
   pub size : sized 34 (r .rows) ≡ true
 
-emitted : (c : Call.Call) (w : List ℕ) → alters (semantics c .action) ≡ true → Told (step c w .reply)
+pub emitted : (c : Call.Call) (w : List ℕ) → alters (semantics c .action) ≡ true → Told (step c w .reply)
 emitted c w e =
     let t = tells c w e in
     let b = emitted-bound c w e in

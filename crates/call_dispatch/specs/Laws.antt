@@ -1,130 +1,187 @@
--- Every call under its number: what it tells, that a reading call leaves the words, and what making it does.
+-- Every call under its number: of what kind it is, what it tells, and what making it does.
 -- Assumes nothing.
 use Prim.Native.Nat.{ℕ}
+use native.Mathlib.Omega.{arith}
 use mathlib.Core.Path.{_≡_, refl, sym, ap, subst, _∙_}
-use mathlib.Core.Bool.{true, false, cond}
-use mathlib.Core.List.{List, []}
-use mathlib.Core.Option.{Option, none, some}
+use mathlib.Core.Bool.{true, false}
+use mathlib.Core.List.{List, [], _∷_}
 use lib.Dec.{eqb, leb}
+use lib.ListN.{length}
 use borrow.Author.Tests.{ne-eqb}
 use Rattle.lists.specs.Lists.{Row, flat, put}
-use Rattle.lists.specs.Bools.{cond-case, cond-true, cond-false}
+use Rattle.lists.specs.Bools.{cond-case}
 use Rattle.lists.specs.Put.{put-no-rows}
 use Rattle.layout.specs.Address.{fitAddress}
-use Rattle.definition.specs.Words.{stateOf}
-use Rattle.definition.specs.Call as Call
-use Rattle.definition.specs.Call.{Reply, valued, optionally}
-use Rattle.definition.specs.Step.{Result, semantics, reading, delRoute4Call, dump4Call, lookup4Call, lookup4FlowCall, local4Call, source4Call, sourceCall, select4Call, leftCall}
-use Rattle.definition.specs.Reference.Lookup as Lookup
-use Rattle.definition.specs.Reference.Source.{source, source4, select4, present}
-use Rattle.call_read.specs.Answer.{Numbers, numbers}
+use Rattle.definition.specs.Call.{Call, Reply, Numbers, numbers}
+use Rattle.definition.specs.Step.{Result, Buffer, unlent, forEvents, forListing, forRow, alters, semantics, step, delRoute4Call, leftCall}
+use Rattle.definition.specs.Preservation.Step.{perform-reads}
+use Rattle.definition.specs.Noninterference.Public.{Lent, Made, many}
+use Rattle.definition.specs.Noninterference.ReadBack.{shaped}
 use Rattle.call_change.specs.Answer.{Answers, doneBy}
+use Rattle.call_change.specs.Told.{Told, emitted}
 use Rattle.call_change.specs.declared.Done.{Done}
 use Rattle.call_reply.specs.declared.Reply as Rep
-use Rattle.call_reply.specs.Answer.{replyFrom, replyOf}
-use Rattle.call_read.specs.Laws.{reads}
-use Rattle.call_change.specs.Told.{Told, up-emitted, down-emitted, add-v4-emitted, del-v4-emitted, expire-emitted, add-route4-emitted, del-route4-emitted}
-use Rattle.call_dispatch.specs.Numbered.{clockOf, changeBy, readBy, callBy, Did}
+use Rattle.call_reply.specs.Answer.{replyFrom, replyOf, numbersIn}
+use Rattle.call_dispatch.specs.Numbered.{Change, upAt, downAt, addV4At, delV4At, expireAt, addRoute4At, delRoute4At, changeAt}
+use Rattle.call_dispatch.specs.Numbered.{clockOf, findAt, askAt, callBy, Did}
 
--- ---- a call that changes
-abbrev Tells : Result → Type 0
-Tells x = Told (x .reply)
+-- ---- the calls that change
+-- what holds of each holds of the one with a number
+pub change-case : (P : Change → Type 0) → P upAt → P downAt → P addV4At → P delV4At → P expireAt → P addRoute4At → P delRoute4At
+    → (code : ℕ) → P (changeAt code)
+change-case P up down addV4 delV4 expire addRoute4 delRoute4 code =
+    cond-case P (eqb code 1) (λ e. up) (λ e.
+    cond-case P (eqb code 2) (λ e. down) (λ e.
+    cond-case P (eqb code 3) (λ e. addV4) (λ e.
+    cond-case P (eqb code 4) (λ e. delV4) (λ e.
+    cond-case P (eqb code 5) (λ e. expire) (λ e.
+    cond-case P (eqb code 6) (λ e. addRoute4) (λ e. delRoute4))))))
 
-pub change-emitted : (code : ℕ) (q : Row) (clock room : ℕ) (w : List ℕ) → Told (changeBy code q clock room w .reply)
-unfolding changeBy
-change-emitted code q clock room w =
-    cond-case Tells (eqb code 1) (λ e. up-emitted w room clock) (λ e.
-    cond-case Tells (eqb code 2) (λ e. down-emitted w room) (λ e.
-    cond-case Tells (eqb code 3) (λ e. add-v4-emitted w room q clock) (λ e.
-    cond-case Tells (eqb code 4) (λ e. del-v4-emitted w room q) (λ e.
-    cond-case Tells (eqb code 5) (λ e. expire-emitted w room clock) (λ e.
-    cond-case Tells (eqb code 6) (λ e. add-route4-emitted w room q) (λ e. del-route4-emitted w room q))))))
+pub record Changes (c : Call) (room : ℕ) : Type 0 where
+  pub changes : alters (semantics c .action) ≡ true
+  pub buffer : semantics c .lent ≡ forEvents room
 
--- ---- the calls that write no row
-abbrev Quiet : Reply → Type 0
-Quiet r = r .rows ≡ []
+pub change-is : (code : ℕ) (q : Row) (clock room : ℕ) → Changes (changeAt code .call q clock room) room
+change-is code q clock room =
+    change-case (λ (x : Change). Changes (x .call q clock room) room)
+    (record { changes = refl; buffer = refl })
+    (record { changes = refl; buffer = refl })
+    (record { changes = refl; buffer = refl })
+    (record { changes = refl; buffer = refl })
+    (record { changes = refl; buffer = refl })
+    (record { changes = refl; buffer = refl })
+    (record { changes = refl; buffer = refl })
+    code
 
-quiet-some : (o : Option ℕ) → optionally o .rows ≡ []
-quiet-some none = refl
-quiet-some (some v) = refl
+module _ (code : ℕ) (q : Row) (clock : ℕ) (w ev : List ℕ) where
+  abbrev c : Call
+  c = changeAt code .call q clock (length ev)
 
-module _ (w : List ℕ) where
-  pub local4-quiet : (ip : ℕ) → local4Call ip w .reply .rows ≡ []
-  unfolding local4Call
-  local4-quiet ip = reads Quiet (semantics (Call.local4 ip) .checks) (λ st. valued (cond (Lookup.local4 st ip) 1 0)) w (λ n h. refl) (λ g. refl)
+  pub change-emitted : Told (step c w .reply)
+  change-emitted = emitted c w (change-is code q clock (length ev) .changes)
 
-  pub source-quiet : (ip : ℕ) → sourceCall ip w .reply .rows ≡ []
-  unfolding sourceCall
-  source-quiet ip = reads Quiet (semantics (Call.source ip) .checks) (λ st. valued (source st ip)) w (λ n h. refl) (λ g. refl)
+  pub answered : (x : Result) {w′ ev′ : List ℕ} {d : Done} → x ≡ step c w → Answers x w′ ev ev′ d → Answers (step c w) w′ ev ev′ d
+  answered x {w′} {ev′} {d} e a = subst (λ (z : Result). Answers z w′ ev ev′ d) e a
 
-  pub source4-quiet : (row : Row) (ip : ℕ) → source4Call row ip w .reply .rows ≡ []
-  unfolding source4Call
-  source4-quiet row ip =
-      reads Quiet (semantics (Call.source4 row ip) .checks) (λ st. optionally (source4 (st .addresses) row ip)) w (λ n h. refl)
-      (λ g. quiet-some (source4 (stateOf w .addresses) row ip))
+  pub change-rest : (code ≡ 1 → ⊥) → (code ≡ 2 → ⊥) → (code ≡ 3 → ⊥) → (code ≡ 4 → ⊥) → (code ≡ 5 → ⊥) → (code ≡ 6 → ⊥)
+      → delRoute4Call q (length ev) w ≡ step c w
+  unfolding delRoute4Call
+  change-rest h i j k l m =
+      let last : delRoute4At ≡ changeAt code = simp (ne-eqb _ _ h, ne-eqb _ _ i, ne-eqb _ _ j, ne-eqb _ _ k, ne-eqb _ _ l, ne-eqb _ _ m) in
+      ap (λ (x : Change). step (x .call q clock (length ev)) w) last
 
-  pub select4-quiet : (p dst scope : ℕ) → select4Call p dst scope w .reply .rows ≡ []
-  unfolding select4Call
-  select4-quiet p dst scope =
-      reads Quiet (semantics (Call.select4 p dst scope) .checks) (λ st. optionally (select4 (st .addresses) (present p dst) scope)) w (λ n h. refl)
-      (λ g. quiet-some (select4 (stateOf w .addresses) (present p dst) scope))
+  pub change-made : {w′ ev′ : List ℕ} (d : Done) (r : Rep.Reply) → Answers (step c w) w′ ev ev′ d → r ≡ replyFrom (doneBy d) → Made c w ev (numbersIn r) w′ ev′
+  change-made d r x e =
+      record {
+        lent = subst (λ (k : Buffer). Lent k ev) (sym (change-is code q clock (length ev) .buffer)) refl;
+        reply = ap numbersIn (e ∙ ap replyFrom (x .says));
+        words = x .words;
+        buffer = x .events;
+      }
 
-pub left-quiet : (row : Row) (clock : ℕ) → leftCall row clock .rows ≡ []
+-- ---- the calls that read
+pub record Reads (c : Call) (k : Buffer) : Type 0 where
+  pub reads : alters (semantics c .action) ≡ false
+  pub buffer : semantics c .lent ≡ k
+
+pub find-is : (code room a b c : ℕ) → Reads (findAt code room a b c) (forRow room)
+find-is code room a b c =
+    cond-case (λ (x : Call). Reads x (forRow room)) (eqb code 9) (λ e. record { reads = refl; buffer = refl }) (λ e. record { reads = refl; buffer = refl })
+
+pub ask-is : (code : ℕ) (row : Row) (a b c : ℕ) → Reads (askAt code row a b c) unlent
+ask-is code row a b c =
+    cond-case (λ (x : Call). Reads x unlent) (eqb code 11) (λ e. record { reads = refl; buffer = refl }) (λ e.
+    cond-case (λ (x : Call). Reads x unlent) (eqb code 12) (λ e. record { reads = refl; buffer = refl }) (λ e.
+    cond-case (λ (x : Call). Reads x unlent) (eqb code 13) (λ e. record { reads = refl; buffer = refl }) (λ e. record { reads = refl; buffer = refl })))
+
+no-rows : (rows : List Row) → 0 ≡ length rows → rows ≡ []
+no-rows [] h = refl
+no-rows (x ∷ l) h = absurd (omega arith)
+
+-- one that is lent no buffer writes no row
+pub quiet : (c : Call) (w : List ℕ) → semantics c .lent ≡ unlent → step c w .reply .rows ≡ []
+quiet c w e = no-rows (step c w .reply .rows) (sym (ap (λ (k : Buffer). many k (numbers (step c w .reply))) e) ∙ shaped c w .counts)
+
+module _ (c : Call) (w : List ℕ) (n : Numbers) (r : Rep.Reply) (a : r ≡ replyFrom n) (e : n ≡ numbers (step c w .reply)) where
+  pub read-made : {k : Buffer} (b b′ : List ℕ) → Reads c k → Lent k b → b′ ≡ put 0 (flat (step c w .reply .rows)) b → Made c w b (numbersIn r) w b′
+  read-made b b′ x l v =
+      record {
+        lent = subst (λ (m : Buffer). Lent m b) (sym (x .buffer)) l;
+        reply = ap numbersIn (a ∙ ap replyFrom e);
+        words = sym (perform-reads (semantics c) w (x .reads));
+        buffer = v;
+      }
+
+pub list-is : (room : ℕ) → Reads (Call.dump4 room) (forListing room)
+list-is room = record { reads = refl; buffer = refl }
+
+-- by its number: the call that it is, and what its own contract says
+pub find-made : (code a b c : ℕ) (w row : List ℕ) (x : Call) → x ≡ findAt code (length row) a b c → (n : Numbers) (r : Rep.Reply)
+    → r ≡ replyFrom n → n ≡ numbers (step x w .reply) → {row′ : List ℕ} → row′ ≡ put 0 (flat (step x w .reply .rows)) row
+    → Made (findAt code (length row) a b c) w row (numbersIn r) w row′
+find-made code a b c w row x e n r f g {row′} v =
+    let is : Reads x (forRow (length row)) = subst (λ (d : Call). Reads d (forRow (length row))) (sym e) (find-is code (length row) a b c) in
+    subst (λ (d : Call). Made d w row (numbersIn r) w row′) e (read-made x w n r f g row row′ is refl v)
+
+pub ask-made : (code : ℕ) (row : Row) (a b c : ℕ) (w : List ℕ) (x : Call) → x ≡ askAt code row a b c → (n : Numbers) (r : Rep.Reply)
+    → r ≡ replyFrom n → n ≡ numbers (step x w .reply) → Made (askAt code row a b c) w [] (numbersIn r) w []
+ask-made code row a b c w x e n r f g =
+    let is : Reads x unlent = subst (λ (d : Call). Reads d unlent) (sym e) (ask-is code row a b c) in
+    let none = put-no-rows [] ∙ ap (λ (l : List Row). put 0 (flat l) []) (sym (quiet x w (is .buffer))) in
+    subst (λ (d : Call). Made d w [] (numbersIn r) w []) e (read-made x w n r f g [] [] is tt none)
+
+pub find-rest : (code room a b c : ℕ) → (code ≡ 9 → ⊥) → Call.lookup4Flow room a b c ≡ findAt code room a b c
+find-rest code room a b c h = simp (ne-eqb _ _ h)
+
+pub ask-rest : (code : ℕ) (row : Row) (a b c : ℕ) → (code ≡ 11 → ⊥) → (code ≡ 12 → ⊥) → (code ≡ 13 → ⊥) → Call.select4 a b c ≡ askAt code row a b c
+ask-rest code row a b c h i j = simp (ne-eqb _ _ h, ne-eqb _ _ i, ne-eqb _ _ j)
+
+left-quiet : (row : Row) (clock : ℕ) → leftCall row clock .rows ≡ []
 unfolding leftCall
 left-quiet row clock = cond-case (λ (r : Reply). r .rows ≡ []) (fitAddress row) (λ e. refl) (λ e. refl)
 
--- ---- a call made, under its number
--- one that changes, by what its own contract says
-module _ (code : ℕ) (q : Row) (clock room : ℕ) (w : List ℕ) where
-  pub changes : {x : Result} {w′ ev ev′ : List ℕ} {d : Done} → x ≡ changeBy code q clock room w → Answers x w′ ev ev′ d → Answers (changeBy code q clock room w) w′ ev ev′ d
-  changes {x} {w′} {ev} {ev′} {d} e a = subst (λ (z : Result). Answers z w′ ev ev′ d) e a
+-- ---- a call by its number
+made-did : {c : Call} {w b w′ b′ : List ℕ} {r : Rep.Reply} → Made c w b (numbersIn r) w′ b′ → Did (step c w) b r w′ b′
+made-did m = record { answer = ap replyFrom (m .reply); words = m .words; buffer = m .buffer }
 
-  pub change-rest : (code ≡ 1 → ⊥) → (code ≡ 2 → ⊥) → (code ≡ 3 → ⊥) → (code ≡ 4 → ⊥) → (code ≡ 5 → ⊥) → (code ≡ 6 → ⊥) → delRoute4Call q room w ≡ changeBy code q clock room w
-  unfolding changeBy
-  change-rest a b c d e f = simp (ne-eqb _ _ a, ne-eqb _ _ b, ne-eqb _ _ c, ne-eqb _ _ d, ne-eqb _ _ e, ne-eqb _ _ f)
+module _ (code : ℕ) (lent : Row) (a b c room : ℕ) (w bu : List ℕ) (r : Rep.Reply) where
+  -- which call it is
+  called : (x : Result) {w′ bu′ : List ℕ} → callBy code lent a b c room w ≡ x → Did x bu r w′ bu′ → Did (callBy code lent a b c room w) bu r w′ bu′
+  called x {w′} {bu′} e d = subst (λ (z : Result). Did z bu r w′ bu′) (sym e) d
 
--- one that reads
-module _ (code : ℕ) (row : Row) (a b c room : ℕ) (w : List ℕ) where
-  read-words : readBy code row a b c room w .words ≡ w
-  unfolding readBy dump4Call lookup4Call lookup4FlowCall local4Call source4Call sourceCall select4Call reading
-  read-words =
-      cond-case (λ (x : Result). x .words ≡ w) (eqb code 8) (λ e. refl) (λ e.
-      cond-case (λ (x : Result). x .words ≡ w) (eqb code 9) (λ e. refl) (λ e.
-      cond-case (λ (x : Result). x .words ≡ w) (eqb code 10) (λ e. refl) (λ e.
-      cond-case (λ (x : Result). x .words ≡ w) (eqb code 11) (λ e. refl) (λ e.
-      cond-case (λ (x : Result). x .words ≡ w) (eqb code 12) (λ e. refl) (λ e.
-      cond-case (λ (x : Result). x .words ≡ w) (eqb code 13) (λ e. refl) (λ e.
-      cond-case (λ (x : Result). x .words ≡ w) (eqb code 14) (λ e. refl) (λ e. refl)))))))
+  pub called-change : (t : ℕ) {w′ bu′ : List ℕ} → leb code 7 ≡ true → t ≡ clockOf a b → Made (changeAt code .call lent t room) w bu (numbersIn r) w′ bu′
+      → Did (callBy code lent a b c room w) bu r w′ bu′
+  unfolding callBy
+  called-change t h e m = called (step (changeAt code .call lent t room) w) (rw (h, e)) (made-did m)
 
-  pub writes : (x : Result) {bu bu′ : List ℕ} {r : Rep.Reply} (n : Numbers) → x ≡ readBy code row a b c room w → r ≡ replyFrom n → n ≡ numbers (x .reply)
-      → bu′ ≡ put 0 (flat (x .reply .rows)) bu → Did (readBy code row a b c room w) bu r w bu′
-  writes x {bu} {bu′} {r} n e f g v =
-      record {
-        answer = f ∙ ap replyFrom g ∙ ap (λ (z : Result). replyOf (z .reply)) e;
-        words = sym read-words;
-        buffer = v ∙ ap (λ (z : Result). put 0 (flat (z .reply .rows)) bu) e;
-      }
+  module _ (h : leb code 7 ≡ false) where
+    pub called-list : {bu′ : List ℕ} → eqb code 8 ≡ true → Made (Call.dump4 room) w bu (numbersIn r) w bu′ → Did (callBy code lent a b c room w) bu r w bu′
+    unfolding callBy
+    called-list i m = called (step (Call.dump4 room) w) (rw (h, i)) (made-did m)
 
-  -- and writes no row
-  pub answers : (x : Result) {bu : List ℕ} {r : Rep.Reply} (n : Numbers) → x ≡ readBy code row a b c room w → r ≡ replyFrom n → n ≡ numbers (x .reply) → x .reply .rows ≡ []
-      → Did (readBy code row a b c room w) bu r w bu
-  answers x {bu} n e f g q = writes x n e f g (put-no-rows bu ∙ ap (λ (l : List Row). put 0 (flat l) bu) (sym q))
+    module _ (i : eqb code 8 ≡ false) where
+      pub called-find : {bu′ : List ℕ} → leb code 10 ≡ true → Made (findAt code room a b c) w bu (numbersIn r) w bu′
+          → Did (callBy code lent a b c room w) bu r w bu′
+      unfolding callBy
+      called-find j m = called (step (findAt code room a b c) w) (rw (h, i, j)) (made-did m)
 
-  pub read-rest : (code ≡ 8 → ⊥) → (code ≡ 9 → ⊥) → (code ≡ 10 → ⊥) → (code ≡ 11 → ⊥) → (code ≡ 12 → ⊥) → (code ≡ 13 → ⊥) → (code ≡ 14 → ⊥)
-      → _≡_ {A = Result} (record { reply = leftCall row (clockOf a b); words = w }) (readBy code row a b c room w)
-  unfolding readBy
-  read-rest h i j k l m n = simp (ne-eqb _ _ h, ne-eqb _ _ i, ne-eqb _ _ j, ne-eqb _ _ k, ne-eqb _ _ l, ne-eqb _ _ m, ne-eqb _ _ n)
+      module _ (j : leb code 10 ≡ false) where
+        pub called-ask : leb code 14 ≡ true → Made (askAt code lent a b c) w [] (numbersIn r) w [] → Did (callBy code lent a b c room w) bu r w bu
+        unfolding callBy
+        called-ask k m =
+            let d = made-did m in
+            let none = quiet (askAt code lent a b c) w (ask-is code lent a b c .buffer) in
+            called (step (askAt code lent a b c) w) (rw (h, i, j, k))
+            (record { answer = d .answer; words = d .words; buffer = put-no-rows bu ∙ ap (λ (l : List Row). put 0 (flat l) bu) (sym none) })
 
-pub called-change : (code : ℕ) (lent : Row) (a b c room : ℕ) (w : List ℕ) (t : ℕ) {w′ ev ev′ : List ℕ} (d : Done) {r : Rep.Reply} → leb code 7 ≡ true → t ≡ clockOf a b
-    → Answers (changeBy code lent t room w) w′ ev ev′ d → r ≡ replyFrom (doneBy d) → Did (callBy code lent a b c room w) ev r w′ ev′
-unfolding callBy
-called-change code lent a b c room w t {w′} {ev} {ev′} d {r} h e x f =
-    let y = ap (λ (k : ℕ). changeBy code lent k room w) e ∙ sym (cond-true (leb code 7) (changeBy code lent (clockOf a b) room w) (readBy code lent a b c room w) h) in
-    subst (λ (z : Result). Did z ev r w′ ev′) y
-    (record { answer = f ∙ ap replyFrom (x .says); words = x .words; buffer = x .events })
-
-pub called-read : (code : ℕ) (lent : Row) (a b c room : ℕ) (w bu bu′ : List ℕ) (r : Rep.Reply) → leb code 7 ≡ false
-    → Did (readBy code lent a b c room w) bu r w bu′ → Did (callBy code lent a b c room w) bu r w bu′
-unfolding callBy
-called-read code lent a b c room w bu bu′ r h x =
-    subst (λ (z : Result). Did z bu r w bu′) (sym (cond-false (leb code 7) (changeBy code lent (clockOf a b) room w) (readBy code lent a b c room w) h)) x
+        pub called-left : (x : Reply) (t : ℕ) → leb code 14 ≡ false → x ≡ leftCall lent t → t ≡ clockOf a b → r ≡ replyOf x
+            → Did (callBy code lent a b c room w) bu r w bu
+        unfolding callBy
+        called-left x t k e f s =
+            let l = leftCall lent (clockOf a b) in
+            called (record { reply = l; words = w }) (rw (h, i, j, k))
+            (record {
+              answer = s ∙ ap replyOf (e ∙ ap (leftCall lent) f);
+              words = refl;
+              buffer = put-no-rows bu ∙ ap (λ (z : List Row). put 0 (flat z) bu) (sym (left-quiet lent (clockOf a b)));
+            })

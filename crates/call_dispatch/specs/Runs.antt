@@ -1,4 +1,4 @@
--- Every call of a run can be made by `call_dispatch::call`, and the contract of that function is then Made (definition, Runs/Public).
+-- Every call of a run can be made by `call_dispatch::call`, and the contract of that function is then Made (definition, Public).
 -- Assumes nothing.
 use Prim.Native.Nat.{ℕ, _/_, _%_}
 use native.Mathlib.Omega.{arith}
@@ -6,15 +6,12 @@ use mathlib.Core.Path.{_≡_, refl, ap, ap₂, _∙_}
 use mathlib.Core.List.{List, []}
 use lib.ListN.{length}
 use Rattle.lists.specs.Lists.{Row, flat, put}
-use Rattle.definition.specs.Call.{Call, Numbers, numbers}
-use Rattle.definition.specs.Step.{Result, semantics, step, upCall, downCall, addV4Call, delV4Call, expireCall, addRoute4Call, delRoute4Call, dump4Call, lookup4Call, lookup4FlowCall, local4Call, source4Call, sourceCall, select4Call}
+use Rattle.definition.specs.Call.{Call, numbers}
+use Rattle.definition.specs.Step.{Result, semantics, step}
 use Rattle.definition.specs.Noninterference.Public.{Lent, Made}
 use Rattle.call_reply.specs.declared.Reply.{Reply}
-use Rattle.call_dispatch.specs.Numbered.{clockOf, changeBy, readBy, callBy, Did}
-
--- a reply's numbers
-abbrev pub numbersIn : Reply → Numbers
-numbersIn r = record { number = r .number; present = r .present; value = r .value; second = r .second }
+use Rattle.call_reply.specs.Answer.{numbersIn}
+use Rattle.call_dispatch.specs.Numbered.{clockOf, callBy, Did}
 
 -- the number of a call, and what it is handed besides the state and the buffer
 pub record Handed : Type 0 where
@@ -53,7 +50,7 @@ clock-back : (t : ℕ) → clockOf (low t) (high t) ≡ t
 clock-back t = omega arith
 
 pub by-step : (c : Call) (w b : List ℕ) → Lent (semantics c .lent) b → by (handed c) (length b) w ≡ step c w
-unfolding callBy changeBy readBy upCall downCall addV4Call delV4Call expireCall addRoute4Call delRoute4Call dump4Call lookup4Call lookup4FlowCall local4Call source4Call sourceCall select4Call
+unfolding callBy
 by-step (Call.up events now) w b h = ap₂ (λ (e t : ℕ). step (Call.up e t) w) h (clock-back now)
 by-step (Call.down events) w b h = ap (λ (e : ℕ). step (Call.down e) w) h
 by-step (Call.addV4 q events now) w b h = ap₂ (λ (e t : ℕ). step (Call.addV4 q e t) w) h (clock-back now)
@@ -70,7 +67,8 @@ by-step (Call.source ip) w b h = refl
 by-step (Call.select4 dstPresent dst scope) w b h = refl
 
 -- what `call` ensures is what Made says
-pub did-made : (c : Call) (w b : List ℕ) (r : Reply) (w′ b′ : List ℕ) → Lent (semantics c .lent) b → Did (by (handed c) (length b) w) b r w′ b′ → Made c w b (numbersIn r) w′ b′
+pub did-made : (c : Call) (w b : List ℕ) (r : Reply) (w′ b′ : List ℕ) → Lent (semantics c .lent) b
+    → Did (by (handed c) (length b) w) b r w′ b′ → Made c w b (numbersIn r) w′ b′
 did-made c w b r w′ b′ h d =
     let e = by-step c w b h in
     record {

@@ -2,26 +2,25 @@
 use call_change::Done;
 use call_reply::Reply;
 ghost use mathlib.Core.Path.{_≡_};
+ghost use mathlib.Core.List.{[]};
 ghost use lib.ListN.{length};
+ghost use Rattle.definition.specs.Call.{Call};
+ghost use Rattle.definition.specs.Step.{step};
+ghost use Rattle.definition.specs.Noninterference.Public.{Made};
 ghost use Rattle.call_change.specs.Answer.{Answers};
-ghost use Rattle.call_dispatch.specs.Numbered.{clockOf, changeBy, readBy, callBy, Did};
-
-fn long(x: u32) -> u64
-    ensures { λ r. ⌜ r ≡ x ⌝ }
-{
-    x as u64
-}
+ghost use Rattle.call_reply.specs.Answer.{numbersIn};
+ghost use Rattle.call_dispatch.specs.Numbered.{clockOf, changeAt, findAt, askAt, callBy, Did};
 
 // A clock of its low and its high word.
 fn clock_of(low: u32, high: u32) -> u64
     ensures { λ r. ⌜ r ≡ clockOf low high ⌝ }
 {
-    long(low) + long(high) * 4294967296
+    words::long(low) + words::long(high) * 4294967296
 }
 
-// The calls 1 to 7, which change the state.
-fn change(code: u32, state: &mut [u32], lent: &[u32], clock: u64, events: &mut [u32]) -> Done
-    ensures { λ r. ⌜ Answers (changeBy code (now (lent .entry)) clock (length (now (events .entry))) (now (state .entry))) (now (state .exit)) (now (events .entry)) (now (events .exit)) r ⌝ }
+fn changed(code: u32, state: &mut [u32], lent: &[u32], clock: u64, events: &mut [u32]) -> Done
+    ensures { λ r. ⌜ Answers (step (changeAt code .call (now (lent .entry)) clock (length (now (events .entry)))) (now (state .entry)))
+        (now (state .exit)) (now (events .entry)) (now (events .exit)) r ⌝ }
 {
     match code {
         1 => call_change::up(state, events, clock),
@@ -34,19 +33,43 @@ fn change(code: u32, state: &mut [u32], lent: &[u32], clock: u64, events: &mut [
     }
 }
 
-// The calls 8 to 15, which read it.
-fn read(code: u32, state: &[u32], lent: &[u32], a: u32, b: u32, c: u32, buffer: &mut [u32]) -> Reply
-    ensures { λ r. ⌜ Did (readBy code (now (lent .entry)) a b c (length (now (buffer .entry))) (now (state .entry))) (now (buffer .entry)) r (now (state .entry)) (now (buffer .exit)) ⌝ }
+// The calls 1 to 7, which change the state.
+pub fn change(code: u32, state: &mut [u32], lent: &[u32], clock: u64, events: &mut [u32]) -> Reply
+    ensures { λ r. ⌜ Made (changeAt code .call (now (lent .entry)) clock (length (now (events .entry))))
+        (now (state .entry)) (now (events .entry)) (numbersIn r) (now (state .exit)) (now (events .exit)) ⌝ }
+{
+    call_reply::done(changed(code, state, lent, clock, events))
+}
+
+// The call 8, which lists the routes.
+pub fn list(state: &[u32], listing: &mut [u32]) -> Reply
+    ensures { λ r. ⌜ Made (Call.dump4 (length (now (listing .entry))))
+        (now (state .entry)) (now (listing .entry)) (numbersIn r) (now (state .entry)) (now (listing .exit)) ⌝ }
+{
+    call_reply::listed(call_read::dump4(state, listing))
+}
+
+// The calls 9 and 10, which find a row.
+pub fn find(code: u32, state: &[u32], a: u32, b: u32, c: u32, row: &mut [u32]) -> Reply
+    ensures { λ r. ⌜ Made (findAt code (length (now (row .entry))) a b c)
+        (now (state .entry)) (now (row .entry)) (numbersIn r) (now (state .entry)) (now (row .exit)) ⌝ }
 {
     match code {
-        8 => call_reply::listed(call_read::dump4(state, buffer)),
-        9 => call_reply::found(call_read::lookup4(state, buffer, a)),
-        10 => call_reply::found(call_read::lookup4_flow(state, buffer, a, b, c)),
+        9 => call_reply::found(call_read::lookup4(state, row, a)),
+        _ => call_reply::found(call_read::lookup4_flow(state, row, a, b, c)),
+    }
+}
+
+// The calls 11 to 14, which are lent no buffer.
+pub fn ask(code: u32, state: &[u32], lent: &[u32], a: u32, b: u32, c: u32) -> Reply
+    ensures { λ r. ⌜ Made (askAt code (now (lent .entry)) a b c)
+        (now (state .entry)) [] (numbersIn r) (now (state .entry)) [] ⌝ }
+{
+    match code {
         11 => call_reply::local(call_read::local4(state, a)),
         12 => call_reply::chosen(call_read::source4(state, lent, a)),
         13 => call_reply::sourced(call_read::source(state, a)),
-        14 => call_reply::chosen(call_read::select4(state, a, b, c)),
-        _ => call_reply::remaining(row_address::left(lent, clock_of(a, b))),
+        _ => call_reply::chosen(call_read::select4(state, a, b, c)),
     }
 }
 
@@ -60,10 +83,20 @@ pub fn call(
     c: u32,
     buffer: &mut [u32],
 ) -> Reply
-    ensures { λ r. ⌜ Did (callBy code (now (lent .entry)) a b c (length (now (buffer .entry))) (now (state .entry))) (now (buffer .entry)) r (now (state .exit)) (now (buffer .exit)) ⌝ }
+    ensures { λ r. ⌜ Did (callBy code (now (lent .entry)) a b c (length (now (buffer .entry))) (now (state .entry)))
+        (now (buffer .entry)) r (now (state .exit)) (now (buffer .exit)) ⌝ }
 {
     if code <= 7 {
-        return call_reply::done(change(code, state, lent, clock_of(a, b), buffer));
+        return change(code, state, lent, clock_of(a, b), buffer);
     }
-    read(code, state, lent, a, b, c, buffer)
+    if code == 8 {
+        return list(state, buffer);
+    }
+    if code <= 10 {
+        return find(code, state, a, b, c, buffer);
+    }
+    if code <= 14 {
+        return ask(code, state, lent, a, b, c);
+    }
+    call_reply::remaining(row_address::left(lent, clock_of(a, b)))
 }

@@ -8,3 +8,7 @@ replyFrom n = record { number = n .number; present = n .present; value = n .valu
 
 abbrev pub replyOf : Call.Reply → Reply
 replyOf r = replyFrom (numbers r)
+
+-- and back: the numbers that a reply holds
+abbrev pub numbersIn : Reply → Numbers
+numbersIn r = record { number = r .number; present = r .present; value = r .value; second = r .second }

@@ -10,6 +10,8 @@ use lib.ListN.{length, take, length-take}
 use borrow.Author.Tests.{eq-eqb, ne-eqb}
 use Rattle.lists.specs.Bools.{and-left, and-right, and-rest, test-case, cond-true, cond-false, true-false}
 use Rattle.endian.specs.Endian.{wordsOf}
+use Rattle.layout.specs.Route as Route
+use Rattle.layout.specs.Request.{addV4Size, delV4Size, addRoute4Size, delRoute4Size}
 use Rattle.definition.specs.Words.{stateSize, formed}
 use Rattle.definition.specs.Call.{Call, Reply, refusal}
 use Rattle.definition.specs.Step.{Result, refuses, Checks, Action, changes, replies, lists, alters, checked, changing, reading, act, semantics, step, eventsFit, requestIs, eventRoom, listingRoom}
@@ -52,7 +54,7 @@ pub record Is (c : Call) (s : List ℕ) : Type 0 where
   pub yes : suffices c s ≡ true → asWords c ≡ inner c
   pub no : suffices c s ≡ false → semantics (asWords c) .checks .buffers ≡ false
 
-module _ (s : List ℕ) (long : length s ≡ (4 * stateSize)) where
+module _ (s : List ℕ) (long : length s ≡ 4 * stateSize) where
   state : stateFits s ≡ true
   state = eq-eqb (length s) (4 * stateSize) long
 
@@ -88,14 +90,14 @@ module _ (s : List ℕ) (long : length s ≡ (4 * stateSize)) where
   pub is : (c : Call) → Is c s
   is (Call.up events now) = record { kind = refl; yes = alone (λ e. Call.up e now) eventRoom events; no = alone-no eventRoom events refl }
   is (Call.down events) = record { kind = refl; yes = alone Call.down eventRoom events; no = alone-no eventRoom events refl }
-  is (Call.addV4 q events now) = record { kind = refl; yes = asked (λ r e. Call.addV4 r e now) 18 q events; no = asked-no 18 q events (omega arith) }
-  is (Call.delV4 q events) = record { kind = refl; yes = asked Call.delV4 11 q events; no = asked-no 11 q events (omega arith) }
+  is (Call.addV4 q events now) = record { kind = refl; yes = asked (λ r e. Call.addV4 r e now) addV4Size q events; no = asked-no addV4Size q events (omega arith) }
+  is (Call.delV4 q events) = record { kind = refl; yes = asked Call.delV4 delV4Size q events; no = asked-no delV4Size q events (omega arith) }
   is (Call.expire events now) = record { kind = refl; yes = alone (λ e. Call.expire e now) eventRoom events; no = alone-no eventRoom events refl }
-  is (Call.addRoute4 q events) = record { kind = refl; yes = asked Call.addRoute4 34 q events; no = asked-no 34 q events (omega arith) }
-  is (Call.delRoute4 q events) = record { kind = refl; yes = asked Call.delRoute4 49 q events; no = asked-no 49 q events (omega arith) }
+  is (Call.addRoute4 q events) = record { kind = refl; yes = asked Call.addRoute4 addRoute4Size q events; no = asked-no addRoute4Size q events (omega arith) }
+  is (Call.delRoute4 q events) = record { kind = refl; yes = asked Call.delRoute4 delRoute4Size q events; no = asked-no delRoute4Size q events (omega arith) }
   is (Call.dump4 room) = record { kind = refl; yes = alone Call.dump4 listingRoom room; no = alone-no listingRoom room refl }
-  is (Call.lookup4 room ip) = record { kind = refl; yes = alone (λ e. Call.lookup4 e ip) 32 room; no = alone-no 32 room refl }
-  is (Call.lookup4Flow room ip tos oif) = record { kind = refl; yes = alone (λ e. Call.lookup4Flow e ip tos oif) 32 room; no = alone-no 32 room refl }
+  is (Call.lookup4 room ip) = record { kind = refl; yes = alone (λ e. Call.lookup4 e ip) Route.size room; no = alone-no Route.size room refl }
+  is (Call.lookup4Flow room ip tos oif) = record { kind = refl; yes = alone (λ e. Call.lookup4Flow e ip tos oif) Route.size room; no = alone-no Route.size room refl }
   is (Call.local4 ip) = record { kind = refl; yes = λ h. refl; no = λ h. plainly h }
   is (Call.source4 row ip) = record { kind = refl; yes = λ h. refl; no = λ h. plainly h }
   is (Call.source ip) = record { kind = refl; yes = λ h. refl; no = λ h. plainly h }

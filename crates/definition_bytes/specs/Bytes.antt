@@ -1,5 +1,5 @@
 -- A run of the code on bytes, as its caller sees it, and the claim of two runs about it. The contract of each public call on bytes
--- (crate ffi) says what Made says: where there are as many bytes as there must be, it is the call on their words, given back as bytes.
+-- (crate interface4) is what Made says: where there are as many bytes as there must be, it is the call on their words, given back as bytes.
 use Prim.Native.Nat.{ℕ, _*_}
 use mathlib.Core.Path.{_≡_}
 use mathlib.Core.Bool.{Bool, true, cond, not, _&&_}
@@ -9,6 +9,8 @@ use lib.ListN.{length, take}
 use Rattle.lists.specs.Lists.{flat, put, keep, zeros}
 use Rattle.endian.specs.Endian.{wordsOf, bytesOf}
 use Rattle.endian.specs.Laws.{Below}
+use Rattle.layout.specs.Route as Route
+use Rattle.layout.specs.Request.{addV4Size, delV4Size, addRoute4Size, delRoute4Size}
 use Rattle.definition.specs.Words.{stateOf, stateSize}
 use Rattle.definition.specs.Call.{Call, Reply, Numbers, numbers, refusal}
 use Rattle.definition.specs.Step.{Result, alters, semantics, step, eventRoom, listingRoom}
@@ -40,14 +42,14 @@ with s n room = stateFits s && leb n room
 abbrev pub suffices : Call → List ℕ → Bool
 suffices (Call.up events now) s = with s (4 * eventRoom) events
 suffices (Call.down events) s = with s (4 * eventRoom) events
-suffices (Call.addV4 q events now) s = eqb (length q) 72 && with s (4 * eventRoom) events
-suffices (Call.delV4 q events) s = eqb (length q) 44 && with s (4 * eventRoom) events
+suffices (Call.addV4 q events now) s = eqb (length q) (4 * addV4Size) && with s (4 * eventRoom) events
+suffices (Call.delV4 q events) s = eqb (length q) (4 * delV4Size) && with s (4 * eventRoom) events
 suffices (Call.expire events now) s = with s (4 * eventRoom) events
-suffices (Call.addRoute4 q events) s = eqb (length q) 136 && with s (4 * eventRoom) events
-suffices (Call.delRoute4 q events) s = eqb (length q) 196 && with s (4 * eventRoom) events
+suffices (Call.addRoute4 q events) s = eqb (length q) (4 * addRoute4Size) && with s (4 * eventRoom) events
+suffices (Call.delRoute4 q events) s = eqb (length q) (4 * delRoute4Size) && with s (4 * eventRoom) events
 suffices (Call.dump4 room) s = with s (4 * listingRoom) room
-suffices (Call.lookup4 room ip) s = with s 128 room
-suffices (Call.lookup4Flow room ip tos oif) s = with s 128 room
+suffices (Call.lookup4 room ip) s = with s (4 * Route.size) room
+suffices (Call.lookup4Flow room ip tos oif) s = with s (4 * Route.size) room
 suffices (Call.local4 ip) s = stateFits s
 suffices (Call.source4 row ip) s = stateFits s
 suffices (Call.source ip) s = stateFits s
@@ -63,10 +65,10 @@ inner (Call.expire events now) = Call.expire eventRoom now
 inner (Call.addRoute4 q events) = Call.addRoute4 (wordsOf q) eventRoom
 inner (Call.delRoute4 q events) = Call.delRoute4 (wordsOf q) eventRoom
 inner (Call.dump4 room) = Call.dump4 listingRoom
-inner (Call.lookup4 room ip) = Call.lookup4 32 ip
-inner (Call.lookup4Flow room ip tos oif) = Call.lookup4Flow 32 ip tos oif
+inner (Call.lookup4 room ip) = Call.lookup4 Route.size ip
+inner (Call.lookup4Flow room ip tos oif) = Call.lookup4Flow Route.size ip tos oif
 inner (Call.local4 ip) = Call.local4 ip
-inner (Call.source4 row ip) = Call.source4 (rowWords 128 row) ip
+inner (Call.source4 row ip) = Call.source4 (rowWords (4 * Route.size) row) ip
 inner (Call.source ip) = Call.source ip
 inner (Call.select4 dstPresent dst scope) = Call.select4 dstPresent dst scope
 
@@ -100,16 +102,16 @@ roomIn k n = cond (leb (4 * k) n) k 0
 abbrev pub asWords : Call → Call
 asWords (Call.up events now) = Call.up (roomIn eventRoom events) now
 asWords (Call.down events) = Call.down (roomIn eventRoom events)
-asWords (Call.addV4 q events now) = Call.addV4 (requestIn 18 q) (roomIn eventRoom events) now
-asWords (Call.delV4 q events) = Call.delV4 (requestIn 11 q) (roomIn eventRoom events)
+asWords (Call.addV4 q events now) = Call.addV4 (requestIn addV4Size q) (roomIn eventRoom events) now
+asWords (Call.delV4 q events) = Call.delV4 (requestIn delV4Size q) (roomIn eventRoom events)
 asWords (Call.expire events now) = Call.expire (roomIn eventRoom events) now
-asWords (Call.addRoute4 q events) = Call.addRoute4 (requestIn 34 q) (roomIn eventRoom events)
-asWords (Call.delRoute4 q events) = Call.delRoute4 (requestIn 49 q) (roomIn eventRoom events)
+asWords (Call.addRoute4 q events) = Call.addRoute4 (requestIn addRoute4Size q) (roomIn eventRoom events)
+asWords (Call.delRoute4 q events) = Call.delRoute4 (requestIn delRoute4Size q) (roomIn eventRoom events)
 asWords (Call.dump4 room) = Call.dump4 (roomIn listingRoom room)
-asWords (Call.lookup4 room ip) = Call.lookup4 (roomIn 32 room) ip
-asWords (Call.lookup4Flow room ip tos oif) = Call.lookup4Flow (roomIn 32 room) ip tos oif
+asWords (Call.lookup4 room ip) = Call.lookup4 (roomIn Route.size room) ip
+asWords (Call.lookup4Flow room ip tos oif) = Call.lookup4Flow (roomIn Route.size room) ip tos oif
 asWords (Call.local4 ip) = Call.local4 ip
-asWords (Call.source4 row ip) = Call.source4 (rowWords 128 row) ip
+asWords (Call.source4 row ip) = Call.source4 (rowWords (4 * Route.size) row) ip
 asWords (Call.source ip) = Call.source ip
 asWords (Call.select4 dstPresent dst scope) = Call.select4 dstPresent dst scope
 

@@ -47,12 +47,12 @@ none-below i = omega arith
 
 -- the bytes, as long as they must be, hold well-formed words
 record Represents (s : List ℕ) : Type 0 where
-  long : length s ≡ (4 * stateSize)
+  long : length s ≡ 4 * stateSize
   held : Held (wordsOf s)
 
 record Goes (c : Call) (s : List ℕ) (x : Seen) (s′ : List ℕ) : Type 0 where
   shows : Shows (asWords c) (wordsOf s) (inWords x) (wordsOf s′)
-  long : length s′ ≡ (4 * stateSize)
+  long : length s′ ≡ 4 * stateSize
 
 module _ (c : Call) (s b : List ℕ) (n : Numbers) (s′ b′ : List ℕ) (m : Made c s b n s′ b′) (h : Represents s) where
   w : List ℕ

@@ -1,8 +1,5 @@
 pub mod Answer
-pub mod Rows
-pub mod Bytes
-pub mod Narrow
-pub mod Changed
-pub mod Stays
+pub mod Made
 pub mod Quiet
-pub mod Runs
+pub mod Changing
+pub mod Reading

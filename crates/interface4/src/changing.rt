@@ -1,117 +1,95 @@
 // The calls on bytes that change the state.
-use crate::on_words;
+use crate::EVENT_BYTES;
+use crate::STATE_BYTES;
+use crate::rows;
 use call_reply::Reply;
+use layout::ADD_ROUTE4_WORDS;
+use layout::ADD_V4_WORDS;
+use layout::DEL_ROUTE4_WORDS;
+use layout::DEL_V4_WORDS;
+use layout::EVENT_BUFFER;
+use layout::EVENT_WORDS;
+use layout::STATE_WORDS;
 ghost use mathlib.Core.Path.{_≡_};
 ghost use mathlib.Core.Bool.{true};
-ghost use Prim.Native.Nat.{_≤_, _*_};
-ghost use lib.ListN.{length, take};
-ghost use Rattle.lists.specs.Lists.{flat, put};
-ghost use Rattle.definition.specs.Step.{upCall, downCall, addV4Call, delV4Call, expireCall, addRoute4Call, delRoute4Call};
-ghost use Rattle.endian.specs.Endian.{wordsOf, bytesOf};
+ghost use Prim.Native.Nat.{_*_};
+ghost use lib.ListN.{length};
+ghost use Rattle.endian.specs.Endian.{bytesOf};
 ghost use Rattle.endian.specs.Laws.{Below};
-ghost use Rattle.definition_bytes.specs.Bytes.{Narrow};
-ghost use Rattle.call_reply.specs.Answer.{replyOf};
-ghost use Rattle.interface4.specs.Answer.{onBytes, changeFits, requestFits, stateOn};
+ghost use Rattle.definition.specs.Words.{stateSize};
+ghost use Rattle.definition.specs.Call.{Call};
+ghost use Rattle.definition_bytes.specs.Bytes.{Made};
+ghost use Rattle.call_reply.specs.Answer.{numbersIn};
+ghost use Rattle.call_dispatch.specs.Numbered.{changeAt};
+ghost use Rattle.interface4.specs.Changing.{Asks};
 
-// The state's words and n event rows, as bytes. Where the call kept the words and told nothing, the bytes are there already.
-fn give_back(kept: bool, s: &[u32], e: &[u32], n: u32, state: &mut [u8], events: &mut [u8])
-    requires { ⌜ (length (now s) ≡ 9507) × (length (now e) ≡ 13056) × (n ≤ 384) × (length (now state) ≡ 38028) × (52224 ≤ length (now events)) ⌝ }
-    requires { ⌜ (kept ≡ true → (now state ≡ bytesOf (now s)) × (n ≡ 0)) ⌝ }
+// The call with this number and value left every word. A refusal of add_route4 by the reference may have listed the table.
+fn still(code: u32, number: u32, value: u32) -> bool
+    ensures { λ r. ⌜ r ≡ changeAt code .still number value ⌝ }
+{
+    match code {
+        5 => value == 0,
+        6 => 200 <= number,
+        _ => 1 <= number,
+    }
+}
+
+// The state's words, as bytes. Where the call kept them, the bytes are there already.
+fn give_back(kept: bool, s: &[u32], state: &mut [u8])
+    requires { ⌜ (length (now s) ≡ stateSize) × (length (now state) ≡ 4 * stateSize) ⌝ }
+    requires { ⌜ (kept ≡ true → now state ≡ bytesOf (now s)) ⌝ }
     ensures { λ _. ⌜ now (state .exit) ≡ bytesOf (now (s .entry)) ⌝ }
-    ensures { λ _. ⌜ now (events .exit) ≡ put 0 (bytesOf (take (34 * n) (now (e .entry)))) (now (events .entry)) ⌝ }
-    ensures { λ _. ⌜ Below 4294967296 (now (s .entry)) × Below 4294967296 (now (e .entry)) ⌝ }
+    ensures { λ _. ⌜ Below 4294967296 (now (s .entry)) ⌝ }
 {
     if kept {
         return;
     }
     endian::bytes_of(s, state);
-    let end = 34 * (n as usize);
-    endian::bytes_of(&e[0..end], events);
 }
 
-#[no_mangle]
-pub extern "C" fn interface4_down(state: &mut [u8], events: &mut [u8]) -> Reply
-    ensures { λ r. ⌜ r ≡ replyOf (onBytes (changeFits (now (state .entry)) (now (events .entry))) (downCall 13056 (wordsOf (now (state .entry))) .reply)) ⌝ }
-    ensures { λ _. ⌜ now (state .exit) ≡ stateOn (changeFits (now (state .entry)) (now (events .entry))) (now (state .entry)) (downCall 13056 (wordsOf (now (state .entry))) .words) ⌝ }
-    ensures { λ _. ⌜ now (events .exit) ≡ put 0 (bytesOf (flat (onBytes (changeFits (now (state .entry)) (now (events .entry))) (downCall 13056 (wordsOf (now (state .entry))) .reply) .rows))) (now (events .entry)) ⌝ }
-    ensures { λ _. ⌜ (changeFits (now (state .entry)) (now (events .entry)) ≡ true → Narrow (downCall 13056 (wordsOf (now (state .entry))))) ⌝ }
-{
-    if !((state.len() == 38028) & (52224 <= events.len())) {
-        return call_reply::refused(200);
-    }
-    let mut s = [0u32; 9507];
-    endian::words_of(state, &mut s);
-    let mut e = [0u32; 13056];
-    let answer = on_words::interface4w_down(&mut s, &mut e);
-    give_back(1 <= answer.number, &s, &e, answer.value, state, events);
-    answer
-}
-
-#[no_mangle]
-pub extern "C" fn interface4_add_route4(
+// A changing call by its number, with a request of so many words, or none.
+fn change(
+    code: u32,
     state: &mut [u8],
     request: &[u8],
+    size: usize,
+    clock: u64,
     events: &mut [u8],
 ) -> Reply
-    ensures { λ r. ⌜ r ≡ replyOf (onBytes (requestFits 136 (now (request .entry)) (now (state .entry)) (now (events .entry))) (addRoute4Call (wordsOf (now (request .entry))) 13056 (wordsOf (now (state .entry))) .reply)) ⌝ }
-    ensures { λ _. ⌜ now (state .exit) ≡ stateOn (requestFits 136 (now (request .entry)) (now (state .entry)) (now (events .entry))) (now (state .entry)) (addRoute4Call (wordsOf (now (request .entry))) 13056 (wordsOf (now (state .entry))) .words) ⌝ }
-    ensures { λ _. ⌜ now (events .exit) ≡ put 0 (bytesOf (flat (onBytes (requestFits 136 (now (request .entry)) (now (state .entry)) (now (events .entry))) (addRoute4Call (wordsOf (now (request .entry))) 13056 (wordsOf (now (state .entry))) .reply) .rows))) (now (events .entry)) ⌝ }
-    ensures { λ _. ⌜ (requestFits 136 (now (request .entry)) (now (state .entry)) (now (events .entry)) ≡ true → Narrow (addRoute4Call (wordsOf (now (request .entry))) 13056 (wordsOf (now (state .entry))))) ⌝ }
+    requires { ⌜ Asks code size (now request) ⌝ }
+    ensures { λ r. ⌜ Made (changeAt code .call (now (request .entry)) clock (length (now (events .entry))))
+        (now (state .entry)) (now (events .entry)) (numbersIn r) (now (state .exit)) (now (events .exit)) ⌝ }
 {
-    if !((request.len() == 136) & ((state.len() == 38028) & (52224 <= events.len()))) {
+    if !((request.len() == 4 * size)
+        & ((state.len() == STATE_BYTES) & (EVENT_BYTES <= events.len()))) {
         return call_reply::refused(200);
     }
-    let mut q = [0u32; 34];
+    let mut q = [0u32; DEL_ROUTE4_WORDS];
     endian::words_of(request, &mut q);
-    let mut s = [0u32; 9507];
+    let mut s = [0u32; STATE_WORDS];
     endian::words_of(state, &mut s);
-    let mut e = [0u32; 13056];
-    let answer = on_words::interface4w_add_route4(&mut s, &q, &mut e);
-    // A refusal by the reference may have listed the table.
-    give_back(200 <= answer.number, &s, &e, answer.value, state, events);
-    answer
-}
-
-#[no_mangle]
-pub extern "C" fn interface4_del_route4(
-    state: &mut [u8],
-    request: &[u8],
-    events: &mut [u8],
-) -> Reply
-    ensures { λ r. ⌜ r ≡ replyOf (onBytes (requestFits 196 (now (request .entry)) (now (state .entry)) (now (events .entry))) (delRoute4Call (wordsOf (now (request .entry))) 13056 (wordsOf (now (state .entry))) .reply)) ⌝ }
-    ensures { λ _. ⌜ now (state .exit) ≡ stateOn (requestFits 196 (now (request .entry)) (now (state .entry)) (now (events .entry))) (now (state .entry)) (delRoute4Call (wordsOf (now (request .entry))) 13056 (wordsOf (now (state .entry))) .words) ⌝ }
-    ensures { λ _. ⌜ now (events .exit) ≡ put 0 (bytesOf (flat (onBytes (requestFits 196 (now (request .entry)) (now (state .entry)) (now (events .entry))) (delRoute4Call (wordsOf (now (request .entry))) 13056 (wordsOf (now (state .entry))) .reply) .rows))) (now (events .entry)) ⌝ }
-    ensures { λ _. ⌜ (requestFits 196 (now (request .entry)) (now (state .entry)) (now (events .entry)) ≡ true → Narrow (delRoute4Call (wordsOf (now (request .entry))) 13056 (wordsOf (now (state .entry))))) ⌝ }
-{
-    if !((request.len() == 196) & ((state.len() == 38028) & (52224 <= events.len()))) {
-        return call_reply::refused(200);
-    }
-    let mut q = [0u32; 49];
-    endian::words_of(request, &mut q);
-    let mut s = [0u32; 9507];
-    endian::words_of(state, &mut s);
-    let mut e = [0u32; 13056];
-    let answer = on_words::interface4w_del_route4(&mut s, &q, &mut e);
-    give_back(1 <= answer.number, &s, &e, answer.value, state, events);
+    let mut e = [0u32; EVENT_BUFFER];
+    let answer = call_dispatch::change(code, &mut s, &q[0..size], clock, &mut e);
+    let kept = still(code, answer.number, answer.value);
+    give_back(kept, &s, state);
+    rows::give_rows(&e, EVENT_WORDS, answer.value, events);
     answer
 }
 
 #[no_mangle]
 pub extern "C" fn interface4_up(state: &mut [u8], events: &mut [u8], clock: u64) -> Reply
-    ensures { λ r. ⌜ r ≡ replyOf (onBytes (changeFits (now (state .entry)) (now (events .entry))) (upCall 13056 clock (wordsOf (now (state .entry))) .reply)) ⌝ }
-    ensures { λ _. ⌜ now (state .exit) ≡ stateOn (changeFits (now (state .entry)) (now (events .entry))) (now (state .entry)) (upCall 13056 clock (wordsOf (now (state .entry))) .words) ⌝ }
-    ensures { λ _. ⌜ now (events .exit) ≡ put 0 (bytesOf (flat (onBytes (changeFits (now (state .entry)) (now (events .entry))) (upCall 13056 clock (wordsOf (now (state .entry))) .reply) .rows))) (now (events .entry)) ⌝ }
-    ensures { λ _. ⌜ (changeFits (now (state .entry)) (now (events .entry)) ≡ true → Narrow (upCall 13056 clock (wordsOf (now (state .entry))))) ⌝ }
+    ensures { λ r. ⌜ Made (Call.up (length (now (events .entry))) clock)
+        (now (state .entry)) (now (events .entry)) (numbersIn r) (now (state .exit)) (now (events .exit)) ⌝ }
 {
-    if !((state.len() == 38028) & (52224 <= events.len())) {
-        return call_reply::refused(200);
-    }
-    let mut s = [0u32; 9507];
-    endian::words_of(state, &mut s);
-    let mut e = [0u32; 13056];
-    let answer = on_words::interface4w_up(&mut s, &mut e, clock);
-    give_back(1 <= answer.number, &s, &e, answer.value, state, events);
-    answer
+    change(1, state, b"", 0, clock, events)
+}
+
+#[no_mangle]
+pub extern "C" fn interface4_down(state: &mut [u8], events: &mut [u8]) -> Reply
+    ensures { λ r. ⌜ Made (Call.down (length (now (events .entry))))
+        (now (state .entry)) (now (events .entry)) (numbersIn r) (now (state .exit)) (now (events .exit)) ⌝ }
+{
+    change(2, state, b"", 0, 0, events)
 }
 
 #[no_mangle]
@@ -121,59 +99,48 @@ pub extern "C" fn interface4_add_v4(
     events: &mut [u8],
     clock: u64,
 ) -> Reply
-    ensures { λ r. ⌜ r ≡ replyOf (onBytes (requestFits 72 (now (request .entry)) (now (state .entry)) (now (events .entry))) (addV4Call (wordsOf (now (request .entry))) 13056 clock (wordsOf (now (state .entry))) .reply)) ⌝ }
-    ensures { λ _. ⌜ now (state .exit) ≡ stateOn (requestFits 72 (now (request .entry)) (now (state .entry)) (now (events .entry))) (now (state .entry)) (addV4Call (wordsOf (now (request .entry))) 13056 clock (wordsOf (now (state .entry))) .words) ⌝ }
-    ensures { λ _. ⌜ now (events .exit) ≡ put 0 (bytesOf (flat (onBytes (requestFits 72 (now (request .entry)) (now (state .entry)) (now (events .entry))) (addV4Call (wordsOf (now (request .entry))) 13056 clock (wordsOf (now (state .entry))) .reply) .rows))) (now (events .entry)) ⌝ }
-    ensures { λ _. ⌜ (requestFits 72 (now (request .entry)) (now (state .entry)) (now (events .entry)) ≡ true → Narrow (addV4Call (wordsOf (now (request .entry))) 13056 clock (wordsOf (now (state .entry))))) ⌝ }
+    ensures { λ r. ⌜ Made (Call.addV4 (now (request .entry)) (length (now (events .entry))) clock)
+        (now (state .entry)) (now (events .entry)) (numbersIn r) (now (state .exit)) (now (events .exit)) ⌝ }
 {
-    if !((request.len() == 72) & ((state.len() == 38028) & (52224 <= events.len()))) {
-        return call_reply::refused(200);
-    }
-    let mut q = [0u32; 18];
-    endian::words_of(request, &mut q);
-    let mut s = [0u32; 9507];
-    endian::words_of(state, &mut s);
-    let mut e = [0u32; 13056];
-    let answer = on_words::interface4w_add_v4(&mut s, &q, &mut e, clock);
-    give_back(1 <= answer.number, &s, &e, answer.value, state, events);
-    answer
+    change(3, state, request, ADD_V4_WORDS, clock, events)
 }
 
 #[no_mangle]
 pub extern "C" fn interface4_del_v4(state: &mut [u8], request: &[u8], events: &mut [u8]) -> Reply
-    ensures { λ r. ⌜ r ≡ replyOf (onBytes (requestFits 44 (now (request .entry)) (now (state .entry)) (now (events .entry))) (delV4Call (wordsOf (now (request .entry))) 13056 (wordsOf (now (state .entry))) .reply)) ⌝ }
-    ensures { λ _. ⌜ now (state .exit) ≡ stateOn (requestFits 44 (now (request .entry)) (now (state .entry)) (now (events .entry))) (now (state .entry)) (delV4Call (wordsOf (now (request .entry))) 13056 (wordsOf (now (state .entry))) .words) ⌝ }
-    ensures { λ _. ⌜ now (events .exit) ≡ put 0 (bytesOf (flat (onBytes (requestFits 44 (now (request .entry)) (now (state .entry)) (now (events .entry))) (delV4Call (wordsOf (now (request .entry))) 13056 (wordsOf (now (state .entry))) .reply) .rows))) (now (events .entry)) ⌝ }
-    ensures { λ _. ⌜ (requestFits 44 (now (request .entry)) (now (state .entry)) (now (events .entry)) ≡ true → Narrow (delV4Call (wordsOf (now (request .entry))) 13056 (wordsOf (now (state .entry))))) ⌝ }
+    ensures { λ r. ⌜ Made (Call.delV4 (now (request .entry)) (length (now (events .entry))))
+        (now (state .entry)) (now (events .entry)) (numbersIn r) (now (state .exit)) (now (events .exit)) ⌝ }
 {
-    if !((request.len() == 44) & ((state.len() == 38028) & (52224 <= events.len()))) {
-        return call_reply::refused(200);
-    }
-    let mut q = [0u32; 11];
-    endian::words_of(request, &mut q);
-    let mut s = [0u32; 9507];
-    endian::words_of(state, &mut s);
-    let mut e = [0u32; 13056];
-    let answer = on_words::interface4w_del_v4(&mut s, &q, &mut e);
-    give_back(1 <= answer.number, &s, &e, answer.value, state, events);
-    answer
+    change(4, state, request, DEL_V4_WORDS, 0, events)
 }
 
 #[no_mangle]
 pub extern "C" fn interface4_expire(state: &mut [u8], events: &mut [u8], clock: u64) -> Reply
-    ensures { λ r. ⌜ r ≡ replyOf (onBytes (changeFits (now (state .entry)) (now (events .entry))) (expireCall 13056 clock (wordsOf (now (state .entry))) .reply)) ⌝ }
-    ensures { λ _. ⌜ now (state .exit) ≡ stateOn (changeFits (now (state .entry)) (now (events .entry))) (now (state .entry)) (expireCall 13056 clock (wordsOf (now (state .entry))) .words) ⌝ }
-    ensures { λ _. ⌜ now (events .exit) ≡ put 0 (bytesOf (flat (onBytes (changeFits (now (state .entry)) (now (events .entry))) (expireCall 13056 clock (wordsOf (now (state .entry))) .reply) .rows))) (now (events .entry)) ⌝ }
-    ensures { λ _. ⌜ (changeFits (now (state .entry)) (now (events .entry)) ≡ true → Narrow (expireCall 13056 clock (wordsOf (now (state .entry))))) ⌝ }
+    ensures { λ r. ⌜ Made (Call.expire (length (now (events .entry))) clock)
+        (now (state .entry)) (now (events .entry)) (numbersIn r) (now (state .exit)) (now (events .exit)) ⌝ }
 {
-    if !((state.len() == 38028) & (52224 <= events.len())) {
-        return call_reply::refused(200);
-    }
-    let mut s = [0u32; 9507];
-    endian::words_of(state, &mut s);
-    let mut e = [0u32; 13056];
-    let answer = on_words::interface4w_expire(&mut s, &mut e, clock);
-    // A refusal tells nothing either.
-    give_back(answer.value == 0, &s, &e, answer.value, state, events);
-    answer
+    change(5, state, b"", 0, clock, events)
+}
+
+#[no_mangle]
+pub extern "C" fn interface4_add_route4(
+    state: &mut [u8],
+    request: &[u8],
+    events: &mut [u8],
+) -> Reply
+    ensures { λ r. ⌜ Made (Call.addRoute4 (now (request .entry)) (length (now (events .entry))))
+        (now (state .entry)) (now (events .entry)) (numbersIn r) (now (state .exit)) (now (events .exit)) ⌝ }
+{
+    change(6, state, request, ADD_ROUTE4_WORDS, 0, events)
+}
+
+#[no_mangle]
+pub extern "C" fn interface4_del_route4(
+    state: &mut [u8],
+    request: &[u8],
+    events: &mut [u8],
+) -> Reply
+    ensures { λ r. ⌜ Made (Call.delRoute4 (now (request .entry)) (length (now (events .entry))))
+        (now (state .entry)) (now (events .entry)) (numbersIn r) (now (state .exit)) (now (events .exit)) ⌝ }
+{
+    change(7, state, request, DEL_ROUTE4_WORDS, 0, events)
 }

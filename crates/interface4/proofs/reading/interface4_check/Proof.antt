@@ -1,21 +1,30 @@
 -- `interface4::reading::interface4_check` meets its contract.
 -- Assumes nothing.
-use mathlib.Core.Path.{refl, _∙_}
+use Prim.Native.Nat.{ℕ, _*_}
+use mathlib.Core.Path.{refl, sym, ap, _∙_}
+use mathlib.Core.List.{List}
+use lib.ListN.{length}
+use borrow.Author.Tests.{eq-eqb, ne-eqb}
+use Rattle.lists.specs.Bools.{cond-true, cond-false}
+use Rattle.endian.specs.Endian.{wordsOf}
 use Rattle.endian.specs.Laws.{words-whole}
-use Rattle.interface4.specs.Bytes.{bytes-no, bytes-yes}
-use Rattle.interface4.specs.Answer.{checkCall}
+use Rattle.definition.specs.Words.{stateSize}
+use Rattle.definition.specs.Call.{refusal}
+use Rattle.definition_bytes.specs.Bytes.{stateFits}
+use Rattle.call_reply.specs.Answer.{replyOf}
+use Rattle.interface4.specs.Answer.{checkReply}
 use borrow.Author.Needs.{needs}
 use Rattle.interface4.proofs.reading.interface4_check.Statement.{statement}
 use Rattle.interface4.proofs.reading.interface4_check.Tie as tie
-use Rattle.definition.specs.Words.{stateSize}
 
 refused-requires : tie.Need-refused-requires
 refused-requires c κs = search needs
 
 returns : tie.Need-returns
 returns c =
-    let a = c .before .before .before .args in
-    c .refused .ensures ∙ bytes-no (a .state .now) checkCall (c .before .if1 .taken)
+    let s = c .before .before .before .args .state .now in
+    let short = ne-eqb (length s) (4 * stateSize) (c .before .if1 .taken) in
+    c .refused .ensures ∙ ap replyOf (sym (cond-false (stateFits s) (checkReply (wordsOf s)) (refusal 200) short))
 
 slice-aggregate-words-of : tie.Need-slice-aggregate-words-of
 slice-aggregate-words-of c = search needs
@@ -31,11 +40,13 @@ interface4w-check-requires c κs = search needs
 
 returns-2 : tie.Need-returns-2
 returns-2 c =
-    let k = c .before .before .before in
-    let e = k .before .before in
-    let a = e .before .before .args in
-    let s = words-whole stateSize (a .state .now) _ _ (e .if1 .left) refl (k .words-of .ensures) in
-    c .interface4w-check .ensures ∙ bytes-yes (a .state .now) checkCall _ (e .if1 .left) s
+    let at-words = c .before .before .before in
+    let at-test = at-words .before .before in
+    let s = at-test .before .before .args .state .now in
+    let long = at-test .if1 .left in
+    let words = words-whole stateSize s _ _ long refl (at-words .words-of .ensures) in
+    c .interface4w-check .ensures ∙ ap (λ (w : List ℕ). replyOf (checkReply w)) words
+    ∙ ap replyOf (sym (cond-true (stateFits s) (checkReply (wordsOf s)) (refusal 200) (eq-eqb (length s) (4 * stateSize) long)))
 
 pub interface4-check-spec : {M : Type 1} → statement M
 interface4-check-spec =

@@ -1,12 +1,13 @@
 -- `interface4::reading::interface4_left` meets its contract.
 -- Assumes nothing.
+use Prim.Native.Nat.{ℕ, _*_}
 use mathlib.Core.Path.{refl, ap, _∙_}
 use mathlib.Core.List.{List}
-use Prim.Native.Nat.{ℕ}
+use Rattle.layout.specs.Address as Address
 use Rattle.endian.specs.Laws.{words-whole}
-use Rattle.interface4.specs.Bytes.{row-no, row-yes}
-use Rattle.call_reply.specs.Answer.{replyOf}
 use Rattle.definition.specs.Step.{leftCall}
+use Rattle.call_reply.specs.Answer.{replyOf}
+use Rattle.interface4.specs.Reading.{row-no, row-yes}
 use borrow.Author.Needs.{needs}
 use Rattle.interface4.proofs.reading.interface4_left.Statement.{statement}
 use Rattle.interface4.proofs.reading.interface4_left.Tie as tie
@@ -25,9 +26,10 @@ interface4w-left-requires c κs = search needs
 
 returns : tie.Need-returns
 returns c =
-    let t = c .before .before .before in
-    let a = t .before .before .args in
-    c .interface4w-left .ensures ∙ ap (λ (x : List ℕ). replyOf (leftCall x (a .clock))) (row-no 80 (a .row .now) (t .if1 .taken))
+    let at-test = c .before .before .before in
+    let a = at-test .before .before .args in
+    let none = row-no (4 * Address.size) (a .row .now) (at-test .if1 .taken) in
+    c .interface4w-left .ensures ∙ ap (λ (x : List ℕ). replyOf (leftCall x (a .clock))) none
 
 slice-aggregate-words-of : tie.Need-slice-aggregate-words-of
 slice-aggregate-words-of c = search needs
@@ -43,11 +45,12 @@ interface4w-left-requires-2 c κs = search needs
 
 returns-2 : tie.Need-returns-2
 returns-2 c =
-    let k = c .before .before .before in
-    let e = k .before .before in
-    let a = e .before .before .args in
-    let s = words-whole 20 (a .row .now) _ _ (e .if1 .left) refl (k .words-of .ensures) in
-    c .interface4w-left2 .ensures ∙ ap (λ (x : List ℕ). replyOf (leftCall x (a .clock))) (s ∙ row-yes 80 (a .row .now) (e .if1 .left))
+    let at-words = c .before .before .before in
+    let at-test = at-words .before .before in
+    let a = at-test .before .before .args in
+    let same = at-test .if1 .left in
+    let row = words-whole Address.size (a .row .now) _ _ same refl (at-words .words-of .ensures) ∙ row-yes (4 * Address.size) (a .row .now) same in
+    c .interface4w-left2 .ensures ∙ ap (λ (x : List ℕ). replyOf (leftCall x (a .clock))) row
 
 pub interface4-left-spec : {M : Type 1} → statement M
 interface4-left-spec =
