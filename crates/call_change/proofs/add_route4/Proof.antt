@@ -9,7 +9,8 @@ use Rattle.definition.specs.Words.{stateOf}
 use Rattle.definition.specs.Step.{unless, eventsFit, semantics, addRoute4Call}
 use Rattle.definition.specs.Reference.Routes.{addRoute4}
 use Rattle.definition.specs.Preservation.Change.{unless-passed}
-use Rattle.definition.specs.Preservation.Numbers.{addRoute4-number}
+use Rattle.definition.specs.Reference.Insert.{insert4}
+use Rattle.definition.specs.Preservation.Numbers.{insert-number, added-number}
 use Rattle.call_read.specs.Laws.{passed, lent}
 use Rattle.call_change.specs.Laws.{request-checked, sizes, sound, answers-refused, answers-passed}
 use Rattle.call_change.specs.Steps.{requested-answers}
@@ -102,7 +103,7 @@ returns-2 c =
     let n-is = request-checked addRoute4Size q (eventsFit (length ev)) (unless (fitAddRoute4 q) 202) w (at-check .checked .ensures) (at-fit .fit-add-route4 .ensures) in
     let p = passed (call .checks) w n-is (at-step .before .before .before .if1 .left) in
     answers-passed call w p
-    (requested-answers w (addRoute4 q (stateOf w)) (at-step .add-route4 .result) p (addRoute4-number q (stateOf w) (unless-passed (fitAddRoute4 q) (p .fit)))
+    (requested-answers w (addRoute4 q (stateOf w)) (at-step .add-route4 .result) p (added-number insert4 insert-number q (stateOf w) (unless-passed (fitAddRoute4 q) (p .fit)))
     (at-step .add-route4 .ensures (stateOf w) (p .holds) (p .good .fits)) (c .of-done .ensures))
 
 pub add-route4-spec : {M : Type 1} → statement M
