@@ -4,9 +4,9 @@ use mathlib.Core.List.{List}
 use lib.Dec.{eqb}
 use lib.ListN.{length}
 use Rattle.definition.specs.Call.{Reply, refusal}
-use Rattle.definition.specs.Words.{stateSize, wellFormed}
+use Rattle.definition.specs.Words.{stateSize, formed}
 use Rattle.definition.specs.Step.{checks}
 
 -- 200 or 201 as each call gives it, else 0
 abbrev pub checkReply : List ℕ → Reply
-checkReply w = refusal (checks (eqb (length w) stateSize) (wellFormed w) 0)
+checkReply w = refusal (checks (eqb (length w) stateSize) (formed w) 0)
