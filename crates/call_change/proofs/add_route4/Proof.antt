@@ -37,7 +37,10 @@ returns c =
     let w = a .state .now in
     let ev = a .events .now in
     let call = semantics (Call.addRoute4 q (length ev)) in
-    let n-is = request-checked addRoute4Size q (eventsFit (length ev)) (unless (fitAddRoute4 q) 202) w (at-check .checked .ensures) (at-fit .fit-add-route4 .ensures) in
+    let n-is =
+    request-checked addRoute4Size q (eventsFit (length ev)) (unless (fitAddRoute4 q) 202) w
+    (at-check .checked .ensures) (at-fit .fit-add-route4 .ensures)
+    in
     answers-refused call w ev n-is (c .if1 .taken)
 
 slice-relend-prefix-add-route4 : tie.Need-slice-relend-prefix-add-route4
@@ -49,7 +52,10 @@ slice-relend-prefix-add-route4 c =
     let w = a .state .now in
     let ev = a .events .now in
     let call = semantics (Call.addRoute4 q (length ev)) in
-    let n-is = request-checked addRoute4Size q (eventsFit (length ev)) (unless (fitAddRoute4 q) 202) w (at-check .checked .ensures) (at-fit .fit-add-route4 .ensures) in
+    let n-is =
+    request-checked addRoute4Size q (eventsFit (length ev)) (unless (fitAddRoute4 q) 202) w
+    (at-check .checked .ensures) (at-fit .fit-add-route4 .ensures)
+    in
     let p = passed (call .checks) w n-is (c .if1 .left) in
     omega (arith, p .long)
 
@@ -62,7 +68,10 @@ slice-aggregate-add-route4 c =
     let w = a .state .now in
     let ev = a .events .now in
     let call = semantics (Call.addRoute4 q (length ev)) in
-    let n-is = request-checked addRoute4Size q (eventsFit (length ev)) (unless (fitAddRoute4 q) 202) w (at-check .checked .ensures) (at-fit .fit-add-route4 .ensures) in
+    let n-is =
+    request-checked addRoute4Size q (eventsFit (length ev)) (unless (fitAddRoute4 q) 202) w
+    (at-check .checked .ensures) (at-fit .fit-add-route4 .ensures)
+    in
     let p = passed (call .checks) w n-is (c .before .if1 .left) in
     sym (lent p)
 
@@ -75,7 +84,10 @@ add-route4-requires c κs =
     let w = a .state .now in
     let ev = a .events .now in
     let call = semantics (Call.addRoute4 q (length ev)) in
-    let n-is = request-checked addRoute4Size q (eventsFit (length ev)) (unless (fitAddRoute4 q) 202) w (at-check .checked .ensures) (at-fit .fit-add-route4 .ensures) in
+    let n-is =
+    request-checked addRoute4Size q (eventsFit (length ev)) (unless (fitAddRoute4 q) 202) w
+    (at-check .checked .ensures) (at-fit .fit-add-route4 .ensures)
+    in
     let p = passed (call .checks) w n-is (c .before .before .if1 .left) in
     let size = sizes addRoute4Size q ev (p .room) in
     (sound p, ((size .long, unless-passed (fitAddRoute4 q) (p .fit)), omega (arith, size .room)))
@@ -100,7 +112,10 @@ returns-2 c =
     let w = a .state .now in
     let ev = a .events .now in
     let call = semantics (Call.addRoute4 q (length ev)) in
-    let n-is = request-checked addRoute4Size q (eventsFit (length ev)) (unless (fitAddRoute4 q) 202) w (at-check .checked .ensures) (at-fit .fit-add-route4 .ensures) in
+    let n-is =
+    request-checked addRoute4Size q (eventsFit (length ev)) (unless (fitAddRoute4 q) 202) w
+    (at-check .checked .ensures) (at-fit .fit-add-route4 .ensures)
+    in
     let p = passed (call .checks) w n-is (at-step .before .before .before .if1 .left) in
     answers-passed call w p
     (requested-answers w (addRoute4 q (stateOf w)) (at-step .add-route4 .result) p (added-number insert4 insert-number q (stateOf w) (unless-passed (fitAddRoute4 q) (p .fit)))

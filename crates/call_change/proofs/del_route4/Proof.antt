@@ -37,7 +37,10 @@ returns c =
     let w = a .state .now in
     let ev = a .events .now in
     let call = semantics (Call.delRoute4 q (length ev)) in
-    let n-is = request-checked delRoute4Size q (eventsFit (length ev)) (unless (fitDelRoute4 q) 202) w (at-check .checked .ensures) (at-fit .fit-del-route4 .ensures) in
+    let n-is =
+    request-checked delRoute4Size q (eventsFit (length ev)) (unless (fitDelRoute4 q) 202) w
+    (at-check .checked .ensures) (at-fit .fit-del-route4 .ensures)
+    in
     answers-refused call w ev n-is (c .if1 .taken)
 
 slice-relend-prefix-del-route4 : tie.Need-slice-relend-prefix-del-route4
@@ -49,7 +52,10 @@ slice-relend-prefix-del-route4 c =
     let w = a .state .now in
     let ev = a .events .now in
     let call = semantics (Call.delRoute4 q (length ev)) in
-    let n-is = request-checked delRoute4Size q (eventsFit (length ev)) (unless (fitDelRoute4 q) 202) w (at-check .checked .ensures) (at-fit .fit-del-route4 .ensures) in
+    let n-is =
+    request-checked delRoute4Size q (eventsFit (length ev)) (unless (fitDelRoute4 q) 202) w
+    (at-check .checked .ensures) (at-fit .fit-del-route4 .ensures)
+    in
     let p = passed (call .checks) w n-is (c .if1 .left) in
     omega (arith, p .long)
 
@@ -62,7 +68,10 @@ slice-aggregate-del-route4 c =
     let w = a .state .now in
     let ev = a .events .now in
     let call = semantics (Call.delRoute4 q (length ev)) in
-    let n-is = request-checked delRoute4Size q (eventsFit (length ev)) (unless (fitDelRoute4 q) 202) w (at-check .checked .ensures) (at-fit .fit-del-route4 .ensures) in
+    let n-is =
+    request-checked delRoute4Size q (eventsFit (length ev)) (unless (fitDelRoute4 q) 202) w
+    (at-check .checked .ensures) (at-fit .fit-del-route4 .ensures)
+    in
     let p = passed (call .checks) w n-is (c .before .if1 .left) in
     sym (lent p)
 
@@ -75,7 +84,10 @@ del-route4-requires c κs =
     let w = a .state .now in
     let ev = a .events .now in
     let call = semantics (Call.delRoute4 q (length ev)) in
-    let n-is = request-checked delRoute4Size q (eventsFit (length ev)) (unless (fitDelRoute4 q) 202) w (at-check .checked .ensures) (at-fit .fit-del-route4 .ensures) in
+    let n-is =
+    request-checked delRoute4Size q (eventsFit (length ev)) (unless (fitDelRoute4 q) 202) w
+    (at-check .checked .ensures) (at-fit .fit-del-route4 .ensures)
+    in
     let p = passed (call .checks) w n-is (c .before .before .if1 .left) in
     let size = sizes delRoute4Size q ev (p .room) in
     (sound-valid (sound p), ((size .long, unless-passed (fitDelRoute4 q) (p .fit)), omega (arith, size .room)))
@@ -100,7 +112,10 @@ returns-2 c =
     let w = a .state .now in
     let ev = a .events .now in
     let call = semantics (Call.delRoute4 q (length ev)) in
-    let n-is = request-checked delRoute4Size q (eventsFit (length ev)) (unless (fitDelRoute4 q) 202) w (at-check .checked .ensures) (at-fit .fit-del-route4 .ensures) in
+    let n-is =
+    request-checked delRoute4Size q (eventsFit (length ev)) (unless (fitDelRoute4 q) 202) w
+    (at-check .checked .ensures) (at-fit .fit-del-route4 .ensures)
+    in
     let p = passed (call .checks) w n-is (at-step .before .before .before .if1 .left) in
     answers-passed call w p
     (requested-answers w (delRoute4Request q (stateOf w)) (at-step .del-route4 .result) p (delRoute4-number q (stateOf w))

@@ -81,7 +81,8 @@ returns-2 c =
     let call = semantics (Call.up (length ev) (a .clock)) in
     let p = passed (call .checks) w (at-check .checked .ensures) (at-step .before .before .before .if1 .left) in
     answers-passed call w p
-    (told-answers w (up (a .clock) (stateOf w)) (at-step .up .result) (at-step .up .ensures .1 .1 (stateOf w) (p .holds) (p .good .fits)) (at-step .up .ensures .1 .0)
+    (told-answers w (up (a .clock) (stateOf w)) (at-step .up .result)
+    (at-step .up .ensures .1 .1 (stateOf w) (p .holds) (p .good .fits)) (at-step .up .ensures .1 .0)
     (c .of-told .ensures))
 
 pub up-spec : {M : Type 1} → statement M
