@@ -10,7 +10,8 @@ use Rattle.lists.specs.Lists.{Row, any, zeros}
 use Rattle.prefix.specs.Mask.{mask}
 use Rattle.definition.specs.Call.{Call, Reply}
 use Rattle.definition.specs.Reference.Lookup.{fits}
-use Rattle.definition.specs.Step.{step}
+use Rattle.definition.specs.Words.{stateSize, tablesAt}
+use Rattle.definition.specs.Step.{step, eventRoom}
 use Rattle.definition.specs.Computing.{computing}
 
 -- ---- what is asked
@@ -18,21 +19,21 @@ abbrev pub ip : ℕ → ℕ → ℕ → ℕ → ℕ
 ip a b c d = ((a * 256 + b) * 256 + c) * 256 + d
 
 abbrev pub up : Call
-up = Call.up 13056 0
+up = Call.up eventRoom 0
 
 -- an address equal to local, no broadcast, the label lo, not replacing, the device up: local, prefix, valid and preferred
 abbrev pub addV4 : ℕ → ℕ → ℕ → Call
 addV4 local prefix life =
-    Call.addV4 (local ∷ local ∷ prefix ∷ 0 ∷ 0 ∷ 0 ∷ 0 ∷ 0 ∷ 2 ∷ 28524 ∷ 0 ∷ 0 ∷ 0 ∷ 0 ∷ life ∷ life ∷ 0 ∷ 1 ∷ []) 13056 0
+    Call.addV4 (local ∷ local ∷ prefix ∷ 0 ∷ 0 ∷ 0 ∷ 0 ∷ 0 ∷ 2 ∷ 28524 ∷ 0 ∷ 0 ∷ 0 ∷ 0 ∷ life ∷ life ∷ 0 ∷ 1 ∷ []) eventRoom 0
 
 -- by the local address alone
 abbrev pub delV4 : ℕ → Call
-delV4 local = Call.delV4 (1 ∷ local ∷ zeros 9) 13056
+delV4 local = Call.delV4 (1 ∷ local ∷ zeros 9) eventRoom
 
 -- a route of table 254, proto 4 and scope 0, neither source nor gateway nor metrics, NLM_F_CREATE, the device up
 abbrev pub addRoute4 : ℕ → ℕ → ℕ → ℕ → ℕ → Call
 addRoute4 dst len tos kind oif =
-    Call.addRoute4 (254 ∷ dst ∷ len ∷ tos ∷ 0 ∷ kind ∷ 4 ∷ 0 ∷ 0 ∷ 0 ∷ 0 ∷ 0 ∷ oif ∷ 0 ∷ 0x400 ∷ 0 ∷ (zeros 17 ++ (1 ∷ []))) 13056
+    Call.addRoute4 (254 ∷ dst ∷ len ∷ tos ∷ 0 ∷ kind ∷ 4 ∷ 0 ∷ 0 ∷ 0 ∷ 0 ∷ 0 ∷ oif ∷ 0 ∷ 0x400 ∷ 0 ∷ (zeros 17 ++ (1 ∷ []))) eventRoom
 
 -- ---- a row of the table
 pub data Example : Type 0 where
@@ -51,7 +52,7 @@ pub data Side : Type 0 where
 
 -- what a run replies and leaves
 abbrev pub runs : List Call → List ℕ → List Reply → Side
-runs [] w done = answers done (take 3 w) (take 32 (drop 9475 w))
+runs [] w done = answers done (take 3 w) (take 32 (drop tablesAt w))
 runs (c ∷ cs) w done =
     let r = step c w in
     runs cs (r .words) (done ++ (r .reply ∷ []))
@@ -64,7 +65,7 @@ under (suc n) = n ∷ under n
 -- what the definitions give
 abbrev pub given : Example → Side
 given (masks p v) = equals (mask p)
-given (run cs rs ns ts) = runs cs (zeros 9507) []
+given (run cs rs ns ts) = runs cs (zeros stateSize) []
 given (never r a) = passes (any (λ t. fits (record { ip = a; tos = t; scope = 0; oif = 0 }) r) (under 256))
 
 -- what document 01 says
@@ -147,9 +148,9 @@ examples =
     ∷ [])
     (0 ∷ 0 ∷ 2 ∷ []) (254 ∷ 255 ∷ zeros 30)
     -- Valid 10, changed 0: kept at 9,979,999,999, gone at 9,980,000,000.
-    ∷ run (addV4 (ip 10 1 0 5) 24 10 ∷ Call.expire 13056 9979999999 ∷ []) (fiveSaid 0 10 ∷ reply 0 0 0 0 [] ∷ []) (1 ∷ 3 ∷ 2 ∷ [])
+    ∷ run (addV4 (ip 10 1 0 5) 24 10 ∷ Call.expire eventRoom 9979999999 ∷ []) (fiveSaid 0 10 ∷ reply 0 0 0 0 [] ∷ []) (1 ∷ 3 ∷ 2 ∷ [])
     (254 ∷ 255 ∷ zeros 30)
-    ∷ run (addV4 (ip 10 1 0 5) 24 10 ∷ Call.expire 13056 9980000000 ∷ [])
+    ∷ run (addV4 (ip 10 1 0 5) 24 10 ∷ Call.expire eventRoom 9980000000 ∷ [])
     (fiveSaid 0 10
     ∷ reply 0 0 4 0
     ((2 ∷ 0 ∷ ip 10 1 0 5 ∷ ip 10 1 0 5 ∷ 24 ∷ 0 ∷ 0 ∷ 0 ∷ 0 ∷ 0 ∷ 2 ∷ 28524 ∷ 0 ∷ 0 ∷ 0 ∷ 0 ∷ 10 ∷ 10 ∷ 0 ∷ 0 ∷ 0 ∷ 0 ∷ zeros 12)
