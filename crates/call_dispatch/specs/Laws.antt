@@ -1,6 +1,6 @@
 -- Every call under its number: of what kind it is, what it tells, and what making it does.
 -- Assumes nothing.
-use Prim.Native.Nat.{ℕ}
+use Prim.Native.Nat.{ℕ, _<_}
 use native.Mathlib.Omega.{arith}
 use mathlib.Core.Path.{_≡_, refl, sym, ap, subst, _∙_}
 use mathlib.Core.Bool.{true, false}
@@ -13,12 +13,12 @@ use Rattle.lists.specs.Bools.{cond-case}
 use Rattle.lists.specs.Put.{put-no-rows}
 use Rattle.layout.specs.Address.{fitAddress}
 use Rattle.definition.specs.Call.{Call, Reply, Numbers, numbers}
-use Rattle.definition.specs.Step.{Result, Buffer, unlent, forEvents, forListing, forRow, alters, semantics, step, delRoute4Call, leftCall}
+use Rattle.definition.specs.Step.{Result, Buffer, unlent, forEvents, forListing, forRow, alters, semantics, step, leftCall}
 use Rattle.definition.specs.Preservation.Step.{perform-reads}
 use Rattle.definition.specs.Noninterference.Public.{Lent, Made, many}
 use Rattle.definition.specs.Noninterference.ReadBack.{shaped}
 use Rattle.call_change.specs.Answer.{Answers, doneBy}
-use Rattle.call_change.specs.Told.{Told, emitted}
+use Rattle.call_change.specs.Told.{emitted, small}
 use Rattle.call_change.specs.declared.Done.{Done}
 use Rattle.call_reply.specs.declared.Reply as Rep
 use Rattle.call_reply.specs.Answer.{replyFrom, replyOf, numbersIn}
@@ -53,31 +53,23 @@ change-is code q clock room =
     (record { changes = refl; buffer = refl })
     code
 
-module _ (code : ℕ) (q : Row) (clock : ℕ) (w ev : List ℕ) where
-  abbrev c : Call
-  c = changeAt code .call q clock (length ev)
+pub change-rest : (code : ℕ) (q : Row) (clock room : ℕ) → (code ≡ 1 → ⊥) → (code ≡ 2 → ⊥) → (code ≡ 3 → ⊥) → (code ≡ 4 → ⊥) → (code ≡ 5 → ⊥) → (code ≡ 6 → ⊥)
+    → Call.delRoute4 q room ≡ changeAt code .call q clock room
+change-rest code q clock room h i j k l m =
+    let last : delRoute4At ≡ changeAt code = simp (ne-eqb _ _ h, ne-eqb _ _ i, ne-eqb _ _ j, ne-eqb _ _ k, ne-eqb _ _ l, ne-eqb _ _ m) in
+    ap (λ (x : Change). x .call q clock room) last
 
-  pub change-emitted : Told (step c w .reply)
-  change-emitted = emitted c w (change-is code q clock (length ev) .changes)
+-- by what its own contract says
+module _ (c : Call) (w : List ℕ) (d : Done) {w′ ev ev′ : List ℕ} (x : Answers (step c w) w′ ev ev′ d) (t : alters (semantics c .action) ≡ true) where
+  pub done-small : doneBy d .value < 4294967296
+  done-small = small d (step c w .reply) (x .answer) (emitted c w t)
 
-  pub answered : (x : Result) {w′ ev′ : List ℕ} {d : Done} → x ≡ step c w → Answers x w′ ev ev′ d → Answers (step c w) w′ ev ev′ d
-  answered x {w′} {ev′} {d} e a = subst (λ (z : Result). Answers z w′ ev ev′ d) e a
+  pub change-made : {r : Rep.Reply} → Lent (semantics c .lent) ev → r ≡ replyFrom (doneBy d) → Made c w ev (numbersIn r) w′ ev′
+  change-made l a = record { lent = l; reply = ap numbersIn (a ∙ ap replyFrom (x .says)); words = x .words; buffer = x .events }
 
-  pub change-rest : (code ≡ 1 → ⊥) → (code ≡ 2 → ⊥) → (code ≡ 3 → ⊥) → (code ≡ 4 → ⊥) → (code ≡ 5 → ⊥) → (code ≡ 6 → ⊥)
-      → delRoute4Call q (length ev) w ≡ step c w
-  unfolding delRoute4Call
-  change-rest h i j k l m =
-      let last : delRoute4At ≡ changeAt code = simp (ne-eqb _ _ h, ne-eqb _ _ i, ne-eqb _ _ j, ne-eqb _ _ k, ne-eqb _ _ l, ne-eqb _ _ m) in
-      ap (λ (x : Change). step (x .call q clock (length ev)) w) last
-
-  pub change-made : {w′ ev′ : List ℕ} (d : Done) (r : Rep.Reply) → Answers (step c w) w′ ev ev′ d → r ≡ replyFrom (doneBy d) → Made c w ev (numbersIn r) w′ ev′
-  change-made d r x e =
-      record {
-        lent = subst (λ (k : Buffer). Lent k ev) (sym (change-is code q clock (length ev) .buffer)) refl;
-        reply = ap numbersIn (e ∙ ap replyFrom (x .says));
-        words = x .words;
-        buffer = x .events;
-      }
+-- the same call by another name
+pub same-made : {c d : Call} {w b w′ b′ : List ℕ} {n : Numbers} → c ≡ d → Made c w b n w′ b′ → Made d w b n w′ b′
+same-made {c} {d} {w} {b} {w′} {b′} {n} e m = subst (λ (x : Call). Made x w b n w′ b′) e m
 
 -- ---- the calls that read
 pub record Reads (c : Call) (k : Buffer) : Type 0 where

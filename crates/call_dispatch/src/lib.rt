@@ -1,13 +1,10 @@
 // Every call by the number that the list of answers gives it (host/README.md), with its answer as numbers.
-use call_change::Done;
 use call_reply::Reply;
 ghost use mathlib.Core.Path.{_≡_};
 ghost use mathlib.Core.List.{[]};
 ghost use lib.ListN.{length};
 ghost use Rattle.definition.specs.Call.{Call};
-ghost use Rattle.definition.specs.Step.{step};
 ghost use Rattle.definition.specs.Noninterference.Public.{Made};
-ghost use Rattle.call_change.specs.Answer.{Answers};
 ghost use Rattle.call_reply.specs.Answer.{numbersIn};
 ghost use Rattle.call_dispatch.specs.Numbered.{clockOf, changeAt, findAt, askAt, callBy, Did};
 
@@ -18,30 +15,72 @@ fn clock_of(low: u32, high: u32) -> u64
     words::long(low) + words::long(high) * 4294967296
 }
 
-fn changed(code: u32, state: &mut [u32], lent: &[u32], clock: u64, events: &mut [u32]) -> Done
-    ensures { λ r. ⌜ Answers (step (changeAt code .call (now (lent .entry)) clock (length (now (events .entry)))) (now (state .entry)))
-        (now (state .exit)) (now (events .entry)) (now (events .exit)) r ⌝ }
+// ---- 1 to 7, which change the state
+pub fn up(state: &mut [u32], events: &mut [u32], clock: u64) -> Reply
+    ensures { λ r. ⌜ Made (Call.up (length (now (events .entry))) clock)
+        (now (state .entry)) (now (events .entry)) (numbersIn r) (now (state .exit)) (now (events .exit)) ⌝ }
 {
-    match code {
-        1 => call_change::up(state, events, clock),
-        2 => call_change::down(state, events),
-        3 => call_change::add_v4(state, lent, events, clock),
-        4 => call_change::del_v4(state, lent, events),
-        5 => call_change::expire(state, events, clock),
-        6 => call_change::add_route4(state, lent, events),
-        _ => call_change::del_route4(state, lent, events),
-    }
+    call_reply::done(call_change::up(state, events, clock))
 }
 
-// The calls 1 to 7, which change the state.
+pub fn down(state: &mut [u32], events: &mut [u32]) -> Reply
+    ensures { λ r. ⌜ Made (Call.down (length (now (events .entry))))
+        (now (state .entry)) (now (events .entry)) (numbersIn r) (now (state .exit)) (now (events .exit)) ⌝ }
+{
+    call_reply::done(call_change::down(state, events))
+}
+
+pub fn add_v4(state: &mut [u32], q: &[u32], events: &mut [u32], clock: u64) -> Reply
+    ensures { λ r. ⌜ Made (Call.addV4 (now (q .entry)) (length (now (events .entry))) clock)
+        (now (state .entry)) (now (events .entry)) (numbersIn r) (now (state .exit)) (now (events .exit)) ⌝ }
+{
+    call_reply::done(call_change::add_v4(state, q, events, clock))
+}
+
+pub fn del_v4(state: &mut [u32], q: &[u32], events: &mut [u32]) -> Reply
+    ensures { λ r. ⌜ Made (Call.delV4 (now (q .entry)) (length (now (events .entry))))
+        (now (state .entry)) (now (events .entry)) (numbersIn r) (now (state .exit)) (now (events .exit)) ⌝ }
+{
+    call_reply::done(call_change::del_v4(state, q, events))
+}
+
+pub fn expire(state: &mut [u32], events: &mut [u32], clock: u64) -> Reply
+    ensures { λ r. ⌜ Made (Call.expire (length (now (events .entry))) clock)
+        (now (state .entry)) (now (events .entry)) (numbersIn r) (now (state .exit)) (now (events .exit)) ⌝ }
+{
+    call_reply::done(call_change::expire(state, events, clock))
+}
+
+pub fn add_route4(state: &mut [u32], q: &[u32], events: &mut [u32]) -> Reply
+    ensures { λ r. ⌜ Made (Call.addRoute4 (now (q .entry)) (length (now (events .entry))))
+        (now (state .entry)) (now (events .entry)) (numbersIn r) (now (state .exit)) (now (events .exit)) ⌝ }
+{
+    call_reply::done(call_change::add_route4(state, q, events))
+}
+
+pub fn del_route4(state: &mut [u32], q: &[u32], events: &mut [u32]) -> Reply
+    ensures { λ r. ⌜ Made (Call.delRoute4 (now (q .entry)) (length (now (events .entry))))
+        (now (state .entry)) (now (events .entry)) (numbersIn r) (now (state .exit)) (now (events .exit)) ⌝ }
+{
+    call_reply::done(call_change::del_route4(state, q, events))
+}
+
 pub fn change(code: u32, state: &mut [u32], lent: &[u32], clock: u64, events: &mut [u32]) -> Reply
     ensures { λ r. ⌜ Made (changeAt code .call (now (lent .entry)) clock (length (now (events .entry))))
         (now (state .entry)) (now (events .entry)) (numbersIn r) (now (state .exit)) (now (events .exit)) ⌝ }
 {
-    call_reply::done(changed(code, state, lent, clock, events))
+    match code {
+        1 => up(state, events, clock),
+        2 => down(state, events),
+        3 => add_v4(state, lent, events, clock),
+        4 => del_v4(state, lent, events),
+        5 => expire(state, events, clock),
+        6 => add_route4(state, lent, events),
+        _ => del_route4(state, lent, events),
+    }
 }
 
-// The call 8, which lists the routes.
+// ---- 8, which lists the routes
 pub fn list(state: &[u32], listing: &mut [u32]) -> Reply
     ensures { λ r. ⌜ Made (Call.dump4 (length (now (listing .entry))))
         (now (state .entry)) (now (listing .entry)) (numbersIn r) (now (state .entry)) (now (listing .exit)) ⌝ }
@@ -49,7 +88,7 @@ pub fn list(state: &[u32], listing: &mut [u32]) -> Reply
     call_reply::listed(call_read::dump4(state, listing))
 }
 
-// The calls 9 and 10, which find a row.
+// ---- 9 and 10, which find a row
 pub fn find(code: u32, state: &[u32], a: u32, b: u32, c: u32, row: &mut [u32]) -> Reply
     ensures { λ r. ⌜ Made (findAt code (length (now (row .entry))) a b c)
         (now (state .entry)) (now (row .entry)) (numbersIn r) (now (state .entry)) (now (row .exit)) ⌝ }
@@ -60,7 +99,7 @@ pub fn find(code: u32, state: &[u32], a: u32, b: u32, c: u32, row: &mut [u32]) -
     }
 }
 
-// The calls 11 to 14, which are lent no buffer.
+// ---- 11 to 14, which are lent no buffer
 pub fn ask(code: u32, state: &[u32], lent: &[u32], a: u32, b: u32, c: u32) -> Reply
     ensures { λ r. ⌜ Made (askAt code (now (lent .entry)) a b c)
         (now (state .entry)) [] (numbersIn r) (now (state .entry)) [] ⌝ }

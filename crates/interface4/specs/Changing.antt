@@ -8,7 +8,6 @@ use mathlib.Core.List.{List}
 use mathlib.Core.Logic.{_≢_}
 use lib.Dec.{eqb, leb}
 use lib.ListN.{length, take, drop}
-use lib.Seq.{take-at}
 use borrow.Author.Tests.{eqb-true, leb-true}
 use Rattle.lists.specs.Lists.{Row, put}
 use Rattle.lists.specs.Put.{put-whole}
@@ -16,7 +15,7 @@ use Rattle.lists.specs.Bools.{and-left, and-right, cond-case, cond-true}
 use Rattle.layout.specs.Event as Event
 use Rattle.layout.specs.Request.{delRoute4Size}
 use Rattle.endian.specs.Endian.{wordsOf, bytesOf}
-use Rattle.endian.specs.Laws.{Below, length-wordsOf, length-bytesOf, bytes-words, words-whole}
+use Rattle.endian.specs.Laws.{Below, length-bytesOf, bytes-words, words-whole}
 use Rattle.definition.specs.Words.{stateSize}
 use Rattle.definition.specs.Call.{Call, Numbers, numbers, refusal}
 use Rattle.definition.specs.Step.{Result, Buffer, forEvents, alters, semantics, step, eventRoom}
@@ -27,7 +26,7 @@ use Rattle.definition.specs.Noninterference.ReadBack.{Shaped, shaped}
 use Rattle.definition_bytes.specs.Bytes.{stateFits, with, suffices, inner, Made}
 use Rattle.call_dispatch.specs.Numbered.{Change, changeAt}
 use Rattle.call_dispatch.specs.Laws.{change-case, change-is}
-use Rattle.interface4.specs.Made.{Wrote, wrote, made-no, made-yes}
+use Rattle.interface4.specs.Made.{Wrote, wrote, part-words, made-no, made-yes}
 use Rattle.interface4.specs.Quiet.{expire-stays}
 
 -- ---- what a changing call is on bytes, whatever its number
@@ -98,13 +97,6 @@ fits size q s ev h =
 pub state-back : (w b b′ : List ℕ) → length w ≡ stateSize → length b ≡ 4 * stateSize → b′ ≡ put 0 (bytesOf w) b → b′ ≡ bytesOf w
 state-back w b b′ h k e = e ∙ put-whole (bytesOf w) b (omega (arith, length-bytesOf w))
 
--- the request's words stand at the start of those that it was read into
-request-words : (size : ℕ) (q l m : List ℕ) → length q ≡ 4 * size → m ≡ put 0 (wordsOf q) l → take (size - 0) (drop 0 m) ≡ wordsOf q
-unfolding put
-request-words size q l m h e =
-    let k : size - 0 ≡ size = omega arith in
-    rw (k, e) (take-at (wordsOf q) _ size (omega (arith, length-wordsOf q)))
-
 -- ---- the call
 module _ (code size : ℕ) (q s ev : List ℕ) (t : ℕ) (asks : Asks code size q) where
   abbrev call : Call
@@ -136,7 +128,7 @@ module _ (code size : ℕ) (q s ev : List ℕ) (t : ℕ) (asks : Asks code size 
     made : Words.Made (inner call) (wordsOf s) e n w′ e′
     unfolding there
     made =
-        let asked : take (size - 0) (drop 0 r) ≡ wordsOf q = request-words size q l r (there .request) request in
+        let asked : take (size - 0) (drop 0 r) ≡ wordsOf q = part-words size q l r (there .request) request in
         let same = ap₂ (λ (x : Row) (k : ℕ). changeAt code .call x t k) asked room ∙ sym (change-on code q t (length ev) .inside) in
         subst (λ (x : List ℕ). Words.Made (inner call) x e n w′ e′) words (subst (λ (d : Call). Words.Made d w e n w′ e′) same m)
 

@@ -12,7 +12,7 @@ use Rattle.lists.specs.Lists.{Row, flat, put}
 use Rattle.lists.specs.Rows.{length-flat}
 use Rattle.lists.specs.Bools.{cond-true, cond-false, cond-same, true-false}
 use Rattle.endian.specs.Endian.{wordsOf, bytesOf}
-use Rattle.endian.specs.Laws.{Below, bytes-none}
+use Rattle.endian.specs.Laws.{Below, length-wordsOf, bytes-none}
 use Rattle.definition.specs.Call.{Call, Reply, Numbers, numbers, refusal}
 use Rattle.definition.specs.Step.{Buffer, alters, semantics, step}
 use Rattle.definition.specs.Noninterference.Public as Words
@@ -46,6 +46,13 @@ rows-front vs e′ e k long f = ap (take k) f ∙ take-at vs (drop (0 + length v
 no-rows : (b : List ℕ) → b ≡ put 0 (bytesOf (flat [])) b
 unfolding flat
 no-rows b = bytes-none b
+
+-- words read stand at the start of those that they were read into
+pub part-words : (size : ℕ) (q l m : List ℕ) → length q ≡ 4 * size → m ≡ put 0 (wordsOf q) l → take (size - 0) (drop 0 m) ≡ wordsOf q
+unfolding put
+part-words size q l m h e =
+    let k : size - 0 ≡ size = omega arith in
+    rw (k, e) (take-at (wordsOf q) _ size (omega (arith, length-wordsOf q)))
 
 -- the part that is lent
 pub part-back : (e out out′ : List ℕ) (n : ℕ) → out′ ≡ put 0 (bytesOf (take (n - 0) (drop 0 e))) out → out′ ≡ put 0 (bytesOf (take n e)) out

@@ -1,12 +1,13 @@
 -- The calls on bytes that read, by their numbers.
 -- Assumes nothing.
-use Prim.Native.Nat.{ℕ, _*_, _≤_}
+use Prim.Native.Nat.{ℕ, _*_, _/_, _-_, _≤_}
 use native.Mathlib.Omega.{arith}
 use mathlib.Core.Path.{_≡_, refl, sym, ap, subst, _∙_}
 use mathlib.Core.Bool.{Bool, true, false, cond}
 use mathlib.Core.List.{List, []}
 use lib.Dec.{eqb, leb}
-use lib.ListN.{length, take}
+use lib.ListN.{length, take, drop}
+use lib.Seq.{take-all}
 use borrow.Author.Tests.{eqb-true, leb-true, eq-eqb, ne-eqb}
 use mir.Val.{boolByte}
 use Rattle.lists.specs.Lists.{Row, flat, put}
@@ -23,7 +24,7 @@ use Rattle.definition.specs.Noninterference.ReadBack.{Shaped, shaped, roomOf}
 use Rattle.definition_bytes.specs.Bytes.{stateFits, rowWords, with, suffices, inner, Made}
 use Rattle.call_dispatch.specs.Numbered.{findAt, askAt}
 use Rattle.call_dispatch.specs.Laws.{Reads, find-is, ask-is}
-use Rattle.interface4.specs.Made.{Wrote, wrote, made-no, made-yes}
+use Rattle.interface4.specs.Made.{Wrote, wrote, part-words, made-no, made-yes}
 
 -- ---- as many bytes as there must be
 pub record Fits (n : ℕ) (s out : List ℕ) : Type 0 where
@@ -42,6 +43,24 @@ row-no n b h = sym (cond-false (eqb (length b) n) (wordsOf b) [] (ne-eqb (length
 
 pub row-yes : (n : ℕ) (b : List ℕ) → length b ≡ n → wordsOf b ≡ rowWords n b
 row-yes n b h = sym (cond-true (eqb (length b) n) (wordsOf b) [] (eq-eqb (length b) n h))
+
+-- the bytes of a row that are read
+abbrev pub rowSize : ℕ → ℕ
+rowSize n = cond (eqb n (4 * Route.size)) (4 * Route.size) 0
+
+pub row-part : (row l m : List ℕ) (k : ℕ) → k ≡ rowSize (length row) → m ≡ put 0 (wordsOf (take (k - 0) (drop 0 row))) l
+    → take (k / 4 - 0) (drop 0 m) ≡ rowWords (4 * Route.size) row
+row-part row l m k e f =
+    let whole = eqb (length row) (4 * Route.size) in
+    test-case whole
+    (λ h.
+    let all : k ≡ 4 * Route.size = e ∙ cond-true whole (4 * Route.size) 0 h in
+    let long : length row ≡ 4 * Route.size = eqb-true (length row) (4 * Route.size) h in
+    let same : take (k - 0) (drop 0 row) ≡ row = rw all (take-all (4 * Route.size) row (omega arith)) in
+    rw all (part-words Route.size row l m long (f ∙ ap (λ (x : List ℕ). put 0 (wordsOf x) l) same) ∙ row-yes (4 * Route.size) row long))
+    (λ h.
+    let none : k ≡ 0 = e ∙ cond-false whole (4 * Route.size) 0 h in
+    rw none (sym (cond-false whole (wordsOf row) [] h)))
 
 -- ---- a call that reads, by the call on words that it is, what that call writes and how many bytes it wants
 record OnBytes (c d : Call) (k : Buffer) (s : List ℕ) (fit : Bool) : Type 0 where

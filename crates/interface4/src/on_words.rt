@@ -1,4 +1,4 @@
-// The calls on words, without a copy: each is its call by number.
+// The calls on words, without a copy.
 use call_reply::Reply;
 ghost use mathlib.Core.Path.{_≡_};
 ghost use mathlib.Core.List.{[]};
@@ -14,8 +14,7 @@ pub extern "C" fn interface4w_up(state: &mut [u32], events: &mut [u32], clock: u
     ensures { λ r. ⌜ Made (Call.up (length (now (events .entry))) clock)
         (now (state .entry)) (now (events .entry)) (numbersIn r) (now (state .exit)) (now (events .exit)) ⌝ }
 {
-    let none = [0u32; 0];
-    call_dispatch::change(1, state, &none, clock, events)
+    call_dispatch::up(state, events, clock)
 }
 
 #[no_mangle]
@@ -23,8 +22,7 @@ pub extern "C" fn interface4w_down(state: &mut [u32], events: &mut [u32]) -> Rep
     ensures { λ r. ⌜ Made (Call.down (length (now (events .entry))))
         (now (state .entry)) (now (events .entry)) (numbersIn r) (now (state .exit)) (now (events .exit)) ⌝ }
 {
-    let none = [0u32; 0];
-    call_dispatch::change(2, state, &none, 0, events)
+    call_dispatch::down(state, events)
 }
 
 #[no_mangle]
@@ -37,7 +35,7 @@ pub extern "C" fn interface4w_add_v4(
     ensures { λ r. ⌜ Made (Call.addV4 (now (request .entry)) (length (now (events .entry))) clock)
         (now (state .entry)) (now (events .entry)) (numbersIn r) (now (state .exit)) (now (events .exit)) ⌝ }
 {
-    call_dispatch::change(3, state, request, clock, events)
+    call_dispatch::add_v4(state, request, events, clock)
 }
 
 #[no_mangle]
@@ -49,7 +47,7 @@ pub extern "C" fn interface4w_del_v4(
     ensures { λ r. ⌜ Made (Call.delV4 (now (request .entry)) (length (now (events .entry))))
         (now (state .entry)) (now (events .entry)) (numbersIn r) (now (state .exit)) (now (events .exit)) ⌝ }
 {
-    call_dispatch::change(4, state, request, 0, events)
+    call_dispatch::del_v4(state, request, events)
 }
 
 #[no_mangle]
@@ -57,8 +55,7 @@ pub extern "C" fn interface4w_expire(state: &mut [u32], events: &mut [u32], cloc
     ensures { λ r. ⌜ Made (Call.expire (length (now (events .entry))) clock)
         (now (state .entry)) (now (events .entry)) (numbersIn r) (now (state .exit)) (now (events .exit)) ⌝ }
 {
-    let none = [0u32; 0];
-    call_dispatch::change(5, state, &none, clock, events)
+    call_dispatch::expire(state, events, clock)
 }
 
 #[no_mangle]
@@ -70,7 +67,7 @@ pub extern "C" fn interface4w_add_route4(
     ensures { λ r. ⌜ Made (Call.addRoute4 (now (request .entry)) (length (now (events .entry))))
         (now (state .entry)) (now (events .entry)) (numbersIn r) (now (state .exit)) (now (events .exit)) ⌝ }
 {
-    call_dispatch::change(6, state, request, 0, events)
+    call_dispatch::add_route4(state, request, events)
 }
 
 #[no_mangle]
@@ -82,7 +79,7 @@ pub extern "C" fn interface4w_del_route4(
     ensures { λ r. ⌜ Made (Call.delRoute4 (now (request .entry)) (length (now (events .entry))))
         (now (state .entry)) (now (events .entry)) (numbersIn r) (now (state .exit)) (now (events .exit)) ⌝ }
 {
-    call_dispatch::change(7, state, request, 0, events)
+    call_dispatch::del_route4(state, request, events)
 }
 
 #[no_mangle]

@@ -12,16 +12,18 @@ use layout::ROUTE_WORDS;
 use layout::STATE_WORDS;
 ghost use mathlib.Core.Path.{_≡_};
 ghost use mathlib.Core.List.{[]};
-ghost use Prim.Native.Nat.{_*_};
+ghost use Prim.Native.Nat.{_*_, _≤_};
 ghost use lib.ListN.{length};
 ghost use Rattle.endian.specs.Endian.{wordsOf};
 ghost use Rattle.layout.specs.Address as Address;
+ghost use Rattle.layout.specs.Route as Route;
 ghost use Rattle.definition.specs.Call.{Call};
 ghost use Rattle.definition.specs.Step.{leftCall};
 ghost use Rattle.definition_bytes.specs.Bytes.{Made, onBytes, stateFits, rowWords};
 ghost use Rattle.call_reply.specs.Answer.{replyOf, numbersIn};
 ghost use Rattle.call_dispatch.specs.Numbered.{findAt, askAt};
 ghost use Rattle.interface4.specs.Answer.{checkReply};
+ghost use Rattle.interface4.specs.Reading.{rowSize};
 
 #[no_mangle]
 pub extern "C" fn interface4_dump4(state: &[u8], listing: &mut [u8]) -> Reply
@@ -55,7 +57,16 @@ fn find(code: u32, state: &[u8], a: u32, b: u32, c: u32, row: &mut [u8]) -> Repl
     answer
 }
 
-// A call that is lent no buffer, by its number. A row of another length is none: the call on words says so.
+// The bytes of a row handed over: none where it has another length.
+fn row_size(n: usize) -> usize
+    ensures { λ r. ⌜ r ≡ rowSize n ⌝ }
+    ensures { λ r. ⌜ (r ≤ n) × (r ≤ 4 * Route.size) ⌝ }
+{
+    if n == ROUTE_BYTES { ROUTE_BYTES } else { 0 }
+}
+
+// A call that is lent no buffer, by its number. The call on words says so where the row is none. It is read by one loop, of one
+// length or none, so that this is small enough for the back end to put it into each call below, where the state is copied at once.
 fn ask(code: u32, state: &[u8], row: &[u8], a: u32, b: u32, c: u32) -> Reply
     ensures { λ r. ⌜ Made (askAt code (now (row .entry)) a b c)
         (now (state .entry)) [] (numbersIn r) (now (state .entry)) [] ⌝ }
@@ -66,11 +77,9 @@ fn ask(code: u32, state: &[u8], row: &[u8], a: u32, b: u32, c: u32) -> Reply
     let mut s = [0u32; STATE_WORDS];
     endian::words_of(state, &mut s);
     let mut r = [0u32; ROUTE_WORDS];
-    if row.len() != ROUTE_BYTES {
-        return call_dispatch::ask(code, &s, &r[0..0], a, b, c);
-    }
-    endian::words_of(row, &mut r);
-    call_dispatch::ask(code, &s, &r, a, b, c)
+    let k = row_size(row.len());
+    endian::words_of(&row[0..k], &mut r);
+    call_dispatch::ask(code, &s, &r[0..k / 4], a, b, c)
 }
 
 #[no_mangle]
