@@ -1,7 +1,6 @@
 -- A changing call's answer and what it leaves, by its checks and by what the step below it left of the words that it was lent.
 -- Assumes nothing.
 use Prim.Native.Nat.{ℕ, _≤_}
-use native.Mathlib.Omega.{arith}
 use mathlib.Core.Path.{_≡_, refl, sym, ap, subst, _∙_}
 use mathlib.Core.Bool.{Bool, true, false, _&&_, and-false}
 use mathlib.Core.List.{List, [], _++_}
@@ -19,7 +18,7 @@ use Rattle.definition.specs.Preservation.Step.{acted}
 use Rattle.state.specs.Represents.{Sound}
 use Rattle.call_read.specs.Laws.{Passed, call-refused, call-passed}
 use Rattle.call_change.specs.declared.Done.{Done}
-use Rattle.call_change.specs.declared.Done.the-variants.{Refused, Rows}
+use Rattle.call_change.specs.declared.Done.the-variants.{Refused}
 use Rattle.call_change.specs.Answer.{Answers, doneBy, doneOf}
 
 -- ---- the checks

@@ -2,18 +2,18 @@
 -- Assumes nothing.
 use Prim.Native.Nat.{ℕ, _≤_}
 use native.Mathlib.Omega.{arith}
-use mathlib.Core.Path.{_≡_, refl, sym, ap, subst, _∙_}
+use mathlib.Core.Path.{_≡_, refl, sym, ap, _∙_}
 use mathlib.Core.Bool.{Bool, true, false, cond}
 use mathlib.Core.List.{List, [], _++_}
 use lib.ListN.{length, drop}
 use borrow.Author.Tests.{ne-eqb, leb-true}
 use Rattle.lists.specs.Lists.{flat, put}
 use Rattle.lists.specs.Count.{count-most}
-use Rattle.lists.specs.Bools.{and-iff, test-case}
+use Rattle.lists.specs.Bools.{and-iff}
 use Rattle.lists.specs.Put.{put-no-rows}
 use Rattle.definition.specs.State.{State, Out, sizes}
 use Rattle.definition.specs.Words.{within, baseSize, encode, base, stateOf}
-use Rattle.definition.specs.Step.{Checks, roomy, outcome, eventRoom}
+use Rattle.definition.specs.Step.{Checks, outcome, eventRoom}
 use Rattle.definition.specs.Reference.Addresses.{Outcome, goes, refused, down}
 use Rattle.definition.specs.Reference.Removal.{delV4}
 use Rattle.definition.specs.Preservation.Shrinking.{potential, live}

@@ -3,7 +3,7 @@
 use Prim.Native.Nat.{ℕ, _≤_, _<_}
 use native.Mathlib.Omega.{arith}
 use mathlib.Core.Path.{_≡_, refl, ap, _∙_}
-use mathlib.Core.Bool.{Bool, true, false≢true}
+use mathlib.Core.Bool.{true, false≢true}
 use mathlib.Core.List.{List}
 use lib.Dec.{eqb}
 use lib.ListN.{length}
@@ -11,7 +11,7 @@ use borrow.Author.Tests.{eqb-true}
 use Rattle.lists.specs.Lists.{Row}
 use Rattle.lists.specs.Bools.{cond-case, test-case}
 use Rattle.lists.specs.Rows.{sized}
-use Rattle.definition.specs.State.{State, sizes}
+use Rattle.definition.specs.State.{sizes}
 use Rattle.definition.specs.Words.{stateOf, within}
 use Rattle.definition.specs.Call as Call
 use Rattle.definition.specs.Call.{Reply, refusal, written}

@@ -1,6 +1,6 @@
 -- `app_show::show_listing` meets its contract: the rows read back from the listing are those that were listed.
 -- Assumes nothing.
-use Prim.Native.Nat.{ℕ, _-_, _*_}
+use Prim.Native.Nat.{ℕ, _*_}
 use mathlib.Core.Path.{sym, ap, _∙_}
 use mathlib.Core.List.{List}
 use native.Mathlib.Omega.{arith}

@@ -1,7 +1,6 @@
 -- `call_change::of_told` meets its contract.
 -- Assumes nothing.
 use mathlib.Core.Path.{sym, ap}
-use Rattle.definition.specs.Call as Call
 use Rattle.call_change.specs.Answer.{ofTold}
 use borrow.Author.Needs.{needs}
 use Rattle.call_change.proofs.of_told.Statement.{statement}

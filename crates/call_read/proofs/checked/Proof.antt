@@ -9,7 +9,6 @@ use Rattle.lists.specs.Bools.{and-left}
 use Rattle.definition.specs.Words.{stateSize}
 use Rattle.definition.specs.Preservation.Step.{base-long}
 use Rattle.call_read.specs.Laws.{unfit-lengths, unfit-state, fit-so-far}
-use borrow.Author.Needs.{needs}
 use Rattle.call_read.proofs.checked.Statement.{statement}
 use Rattle.call_read.proofs.checked.Tie as tie
 

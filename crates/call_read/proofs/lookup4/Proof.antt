@@ -3,7 +3,6 @@
 use mathlib.Core.Path.{sym}
 use lib.ListN.{length}
 use borrow.Author.Tests.{leb-true}
-use Rattle.definition.specs.Call as Call
 use Rattle.definition.specs.Words.{stateOf}
 use Rattle.definition.specs.Reference.Lookup.{Flow, lookup4}
 use Rattle.call_read.specs.Laws.{lent, valid, passed, looking, look-no, look-yes}

@@ -4,7 +4,6 @@ use mathlib.Core.Path.{refl, sym}
 use lib.Dec.{ltb}
 use lib.ListN.{length}
 use borrow.Author.Tests.{leb-true}
-use Rattle.definition.specs.Call as Call
 use Rattle.definition.specs.Words.{stateOf}
 use Rattle.definition.specs.Reference.Lookup.{Flow, lookup4Flow}
 use Rattle.call_read.specs.Laws.{checked-as, lent, valid, passed, looking, look-no, look-yes}

@@ -1,6 +1,5 @@
 -- `request_fit::fit_del_route4` meets its contract.
 -- Assumes nothing.
-use Prim.Native.Nat.{ℕ}
 use mathlib.Core.Path.{ap, _∙_}
 use mathlib.Core.Bool.{Bool}
 use denote.Ref.{now}
