@@ -7,7 +7,7 @@ use lib.Dec.{eqb, leb}
 use Rattle.lists.specs.Lists.{Row, flat, put}
 use Rattle.layout.specs.Request.{addV4Size, delV4Size, addRoute4Size, delRoute4Size}
 use Rattle.definition.specs.Call.{Call}
-use Rattle.definition.specs.Step.{Result, step, leftCall}
+use Rattle.definition.specs.Step.{unfit, Result, step, leftCall}
 use Rattle.call_reply.specs.declared.Reply.{Reply}
 use Rattle.call_reply.specs.Answer.{replyOf}
 
@@ -43,7 +43,7 @@ expireAt = record { call = λ q clock room. Call.expire room clock; size = 0; st
 
 -- a refusal by the reference may have listed the table
 abbrev pub addRoute4At : Change
-addRoute4At = record { call = λ q clock room. Call.addRoute4 q room; size = addRoute4Size; still = λ number value. leb 200 number }
+addRoute4At = record { call = λ q clock room. Call.addRoute4 q room; size = addRoute4Size; still = λ number value. unfit number }
 
 abbrev pub delRoute4At : Change
 delRoute4At = record { call = λ q clock room. Call.delRoute4 q room; size = delRoute4Size; still = refused }

@@ -29,7 +29,7 @@ fn still(code: u32, number: u32, value: u32) -> bool
 {
     match code {
         5 => value == 0,
-        6 => 200 <= number,
+        6 => call_reply::unfit(number),
         _ => 1 <= number,
     }
 }
