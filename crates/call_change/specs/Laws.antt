@@ -38,15 +38,15 @@ request-checked size q room m w {r = r} c e = c ∙ test-case (requestIs size q)
     other f = rw (f, and-false (eqb (length w) stateSize))
 
 -- what passed ones say of the request and of the buffer
-pub record Sized (size : ℕ) (q ev : List ℕ) : Type 0 where
+pub record Sized (size : ℕ) (q : List ℕ) (lent : ℕ) : Type 0 where
   pub long : length q ≡ size
-  pub room : eventRoom ≤ length ev
+  pub room : eventRoom ≤ lent
 
-pub sizes : (size : ℕ) (q ev : List ℕ) → requestIs size q && eventsFit (length ev) ≡ true → Sized size q ev
-sizes size q ev h =
+pub sizes : (size : ℕ) (q : List ℕ) (lent : ℕ) → requestIs size q && eventsFit lent ≡ true → Sized size q lent
+sizes size q lent h =
     record {
-      long = eqb-true (length q) size (and-left (requestIs size q) (eventsFit (length ev)) h);
-      room = leb-true eventRoom (length ev) (and-right (requestIs size q) (eventsFit (length ev)) h);
+      long = eqb-true (length q) size (and-left (requestIs size q) (eventsFit lent) h);
+      room = leb-true eventRoom lent (and-right (requestIs size q) (eventsFit lent) h);
     }
 
 pub sound : {k : Checks} {w : List ℕ} → Passed k w → Sound (base w)

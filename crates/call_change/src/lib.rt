@@ -8,8 +8,10 @@ use layout::DEL_V4_WORDS;
 use layout::EVENT_BUFFER;
 use life::Nanoseconds;
 ghost use mathlib.Core.Path.{_≡_};
+ghost use Prim.Native.Nat.{_≤_};
 ghost use lib.ListN.{length};
-ghost use Rattle.definition.specs.Step.{upCall, downCall, addV4Call, delV4Call, expireCall, addRoute4Call, delRoute4Call};
+ghost use Rattle.layout.specs.Event as Event;
+ghost use Rattle.definition.specs.Step.{eventRoom, upCall, downCall, addV4Call, delV4Call, expireCall, addRoute4Call, delRoute4Call};
 ghost use Rattle.call_change.specs.Answer.{Answers, ofTold, ofDone};
 
 // What a changing call answers: a refusal's number, or how many event rows it wrote.
@@ -53,7 +55,14 @@ pub fn up(state: &mut [u32], events: &mut [u32], clock: u64) -> Done
 pub fn down(state: &mut [u32], events: &mut [u32]) -> Done
     ensures { λ r. ⌜ Answers (downCall (length (now (events .entry))) (now (state .entry))) (now (state .exit)) (now (events .entry)) (now (events .exit)) r ⌝ }
 {
-    let n = call_read::checked(state, EVENT_BUFFER <= events.len(), true, 0);
+    down_lent(state, events.len(), events)
+}
+
+// The same for a caller that was lent room for so many words of events, and lends on any.
+pub fn down_lent(state: &mut [u32], room: usize, events: &mut [u32]) -> Done
+    ensures { λ r. ⌜ Answers (downCall room (now (state .entry))) (now (state .exit)) (now (events .entry)) (now (events .exit)) r ⌝ }
+{
+    let n = call_read::checked(state, EVENT_BUFFER <= room, true, 0);
     if n != 0 {
         return Done::Refused(n);
     }
@@ -120,10 +129,18 @@ pub fn del_v4(state: &mut [u32], q: &[u32], events: &mut [u32]) -> Done
 pub fn add_route4(state: &mut [u32], q: &[u32], events: &mut [u32]) -> Done
     ensures { λ r. ⌜ Answers (addRoute4Call (now (q .entry)) (length (now (events .entry))) (now (state .entry))) (now (state .exit)) (now (events .entry)) (now (events .exit)) r ⌝ }
 {
+    add_route4_lent(state, q, events.len(), events)
+}
+
+// The same for a caller that was lent room for so many words of events, and lends on that of a row.
+pub fn add_route4_lent(state: &mut [u32], q: &[u32], room: usize, events: &mut [u32]) -> Done
+    requires { ⌜ (eventRoom ≤ room → Event.size ≤ length (now events)) ⌝ }
+    ensures { λ r. ⌜ Answers (addRoute4Call (now (q .entry)) room (now (state .entry))) (now (state .exit)) (now (events .entry)) (now (events .exit)) r ⌝ }
+{
     let fit = request_fit::fit_add_route4(q);
     let n = call_read::checked(
         state,
-        (q.len() == ADD_ROUTE4_WORDS) & (EVENT_BUFFER <= events.len()),
+        (q.len() == ADD_ROUTE4_WORDS) & (EVENT_BUFFER <= room),
         true,
         fit,
     );
@@ -137,10 +154,18 @@ pub fn add_route4(state: &mut [u32], q: &[u32], events: &mut [u32]) -> Done
 pub fn del_route4(state: &mut [u32], q: &[u32], events: &mut [u32]) -> Done
     ensures { λ r. ⌜ Answers (delRoute4Call (now (q .entry)) (length (now (events .entry))) (now (state .entry))) (now (state .exit)) (now (events .entry)) (now (events .exit)) r ⌝ }
 {
+    del_route4_lent(state, q, events.len(), events)
+}
+
+// The same for a caller that was lent room for so many words of events, and lends on that of a row.
+pub fn del_route4_lent(state: &mut [u32], q: &[u32], room: usize, events: &mut [u32]) -> Done
+    requires { ⌜ (eventRoom ≤ room → Event.size ≤ length (now events)) ⌝ }
+    ensures { λ r. ⌜ Answers (delRoute4Call (now (q .entry)) room (now (state .entry))) (now (state .exit)) (now (events .entry)) (now (events .exit)) r ⌝ }
+{
     let fit = request_fit::fit_del_route4(q);
     let n = call_read::checked(
         state,
-        (q.len() == DEL_ROUTE4_WORDS) & (EVENT_BUFFER <= events.len()),
+        (q.len() == DEL_ROUTE4_WORDS) & (EVENT_BUFFER <= room),
         true,
         fit,
     );

@@ -13,7 +13,7 @@ use Rattle.lists.specs.Bools.{cond-case}
 use Rattle.lists.specs.Put.{put-no-rows}
 use Rattle.layout.specs.Address.{fitAddress}
 use Rattle.definition.specs.Call.{Call, Reply, Numbers, numbers}
-use Rattle.definition.specs.Step.{Result, Buffer, unlent, forEvents, forListing, forRow, alters, semantics, step, leftCall}
+use Rattle.definition.specs.Step.{Result, Buffer, unlent, forEvents, forListing, forRow, alters, semantics, step, delRoute4Call, leftCall}
 use Rattle.definition.specs.Preservation.Step.{perform-reads}
 use Rattle.definition.specs.Noninterference.Public.{Lent, Made, many}
 use Rattle.definition.specs.Noninterference.ReadBack.{shaped}
@@ -22,7 +22,7 @@ use Rattle.call_change.specs.Told.{emitted, small}
 use Rattle.call_change.specs.declared.Done.{Done}
 use Rattle.call_reply.specs.declared.Reply as Rep
 use Rattle.call_reply.specs.Answer.{replyFrom, replyOf, numbersIn}
-use Rattle.call_dispatch.specs.Numbered.{Change, upAt, downAt, addV4At, delV4At, expireAt, addRoute4At, delRoute4At, changeAt}
+use Rattle.call_dispatch.specs.Numbered.{Change, upAt, downAt, addV4At, delV4At, expireAt, addRoute4At, delRoute4At, changeAt, oneAt}
 use Rattle.call_dispatch.specs.Numbered.{clockOf, findAt, askAt, callBy, Did}
 
 -- ---- the calls that change
@@ -70,6 +70,24 @@ module _ (c : Call) (w : List ℕ) (d : Done) {w′ ev ev′ : List ℕ} (x : An
 -- the same call by another name
 pub same-made : {c d : Call} {w b w′ b′ : List ℕ} {n : Numbers} → c ≡ d → Made c w b n w′ b′ → Made d w b n w′ b′
 same-made {c} {d} {w} {b} {w′} {b′} {n} e m = subst (λ (x : Call). Made x w b n w′ b′) e m
+
+-- ---- those that write one row at most
+pub one-rest : (code : ℕ) (q : Row) (room : ℕ) (w : List ℕ) → (code ≡ 2 → ⊥) → (code ≡ 6 → ⊥) → delRoute4Call q room w ≡ step (oneAt code .call q 0 room) w
+unfolding delRoute4Call
+one-rest code q room w h i =
+    let last : delRoute4At ≡ oneAt code = simp (ne-eqb _ _ h, ne-eqb _ _ i) in
+    ap (λ (x : Change). step (x .call q 0 room) w) last
+
+pub same-answers : {x y : Result} {w′ ev ev′ : List ℕ} {d : Done} → x ≡ y → Answers x w′ ev ev′ d → Answers y w′ ev ev′ d
+same-answers {x} {y} {w′} {ev} {ev′} {d} e a = subst (λ (z : Result). Answers z w′ ev ev′ d) e a
+
+pub one-changes : (code : ℕ) (q : Row) (room : ℕ) → alters (semantics (oneAt code .call q 0 room) .action) ≡ true
+one-changes code q room =
+    let P : Change → Type 0 = λ x. alters (semantics (x .call q 0 room) .action) ≡ true in
+    cond-case P (eqb code 2) (λ e. refl) (λ e. cond-case P (eqb code 6) (λ e. refl) (λ e. refl))
+
+pub answers-did : {x : Result} {w′ ev ev′ : List ℕ} (d : Done) {r : Rep.Reply} → Answers x w′ ev ev′ d → r ≡ replyFrom (doneBy d) → Did x ev r w′ ev′
+answers-did d x a = record { answer = a ∙ ap replyFrom (x .says); words = x .words; buffer = x .events }
 
 -- ---- the calls that read
 pub record Reads (c : Call) (k : Buffer) : Type 0 where

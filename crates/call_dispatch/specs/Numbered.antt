@@ -57,6 +57,10 @@ changeAt code =
     (cond (eqb code 5) expireAt
     (cond (eqb code 6) addRoute4At delRoute4At)))))
 
+-- those of them that write one row at most
+abbrev pub oneAt : ℕ → Change
+oneAt code = cond (eqb code 2) downAt (cond (eqb code 6) addRoute4At delRoute4At)
+
 -- ---- 9 and 10 find a row, 11 to 14 ask: with three numbers, and the length of the row's buffer or the row handed over
 abbrev pub findAt : ℕ → ℕ → ℕ → ℕ → ℕ → Call
 findAt code room a b c = cond (eqb code 9) (Call.lookup4 room a) (Call.lookup4Flow room a b c)

@@ -1,12 +1,17 @@
 // Every call by the number that the list of answers gives it (host/README.md), with its answer as numbers.
+use call_change::Done;
 use call_reply::Reply;
 ghost use mathlib.Core.Path.{_≡_};
 ghost use mathlib.Core.List.{[]};
+ghost use Prim.Native.Nat.{_≤_};
 ghost use lib.ListN.{length};
+ghost use Rattle.layout.specs.Event as Event;
 ghost use Rattle.definition.specs.Call.{Call};
+ghost use Rattle.definition.specs.Step.{eventRoom, step};
 ghost use Rattle.definition.specs.Noninterference.Public.{Made};
+ghost use Rattle.call_change.specs.Answer.{Answers};
 ghost use Rattle.call_reply.specs.Answer.{numbersIn};
-ghost use Rattle.call_dispatch.specs.Numbered.{clockOf, changeAt, findAt, askAt, callBy, Did};
+ghost use Rattle.call_dispatch.specs.Numbered.{clockOf, changeAt, oneAt, findAt, askAt, callBy, Did};
 
 // A clock of its low and its high word.
 fn clock_of(low: u32, high: u32) -> u64
@@ -78,6 +83,27 @@ pub fn change(code: u32, state: &mut [u32], lent: &[u32], clock: u64, events: &m
         6 => add_route4(state, lent, events),
         _ => del_route4(state, lent, events),
     }
+}
+
+fn one(code: u32, state: &mut [u32], q: &[u32], room: usize, events: &mut [u32]) -> Done
+    requires { ⌜ (eventRoom ≤ room → Event.size ≤ length (now events)) ⌝ }
+    ensures { λ r. ⌜ Answers (step (oneAt code .call (now (q .entry)) 0 room) (now (state .entry)))
+        (now (state .exit)) (now (events .entry)) (now (events .exit)) r ⌝ }
+{
+    match code {
+        2 => call_change::down_lent(state, room, events),
+        6 => call_change::add_route4_lent(state, q, room, events),
+        _ => call_change::del_route4_lent(state, q, room, events),
+    }
+}
+
+// Those of them that write one row at most, for a caller that was lent room for so many words and lends on that of a row.
+pub fn change_one(code: u32, state: &mut [u32], q: &[u32], room: usize, events: &mut [u32]) -> Reply
+    requires { ⌜ (eventRoom ≤ room → Event.size ≤ length (now events)) ⌝ }
+    ensures { λ r. ⌜ Did (step (oneAt code .call (now (q .entry)) 0 room) (now (state .entry)))
+        (now (events .entry)) r (now (state .exit)) (now (events .exit)) ⌝ }
+{
+    call_reply::done(one(code, state, q, room, events))
 }
 
 // ---- 8, which lists the routes

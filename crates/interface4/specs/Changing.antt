@@ -2,7 +2,7 @@
 -- Assumes nothing.
 use Prim.Native.Nat.{ℕ, _*_, _-_, _≤_}
 use native.Mathlib.Omega.{arith}
-use mathlib.Core.Path.{_≡_, refl, sym, ap, ap₂, subst, _∙_}
+use mathlib.Core.Path.{_≡_, refl, sym, ap, subst, _∙_}
 use mathlib.Core.Bool.{Bool, true, false, cond, _&&_}
 use mathlib.Core.List.{List}
 use mathlib.Core.Logic.{_≢_}
@@ -20,13 +20,14 @@ use Rattle.definition.specs.Words.{stateSize}
 use Rattle.definition.specs.Call.{Call, Numbers, numbers, refusal}
 use Rattle.definition.specs.Step.{Result, Buffer, forEvents, alters, semantics, step, eventRoom}
 use Rattle.definition.specs.Laws.Refusals.{unfit-stays, others-leave}
-use Rattle.definition.specs.Noninterference.Public as Words
 use Rattle.definition.specs.Noninterference.Public.{Lent}
 use Rattle.definition.specs.Noninterference.ReadBack.{Shaped, shaped}
 use Rattle.definition_bytes.specs.Bytes.{stateFits, with, suffices, inner, Made}
-use Rattle.call_dispatch.specs.Numbered.{Change, changeAt}
+use Rattle.call_reply.specs.declared.Reply.{Reply}
+use Rattle.call_reply.specs.Answer.{numbersIn}
+use Rattle.call_dispatch.specs.Numbered.{Change, changeAt, oneAt, Did}
 use Rattle.call_dispatch.specs.Laws.{change-case, change-is}
-use Rattle.interface4.specs.Made.{Wrote, wrote, part-words, made-no, made-yes}
+use Rattle.interface4.specs.Made.{Wrote, wrote, part-words, Gave, gave-room, made-no, made-yes}
 use Rattle.interface4.specs.Quiet.{expire-stays}
 
 -- ---- what a changing call is on bytes, whatever its number
@@ -116,8 +117,8 @@ module _ (code size : ℕ) (q s ev : List ℕ) (t : ℕ) (asks : Asks code size 
 
   -- made on the words r of the request and w of the state, each read into words that were there, and on the event buffer e
   module _ (fit : changeFits size q s ev ≡ true) (l v : List ℕ) {r w e w′ e′ : List ℕ} {n : Numbers}
-      (request : r ≡ put 0 (wordsOf q) l) (state : w ≡ put 0 (wordsOf s) v) (long : length v ≡ stateSize) (room : length e ≡ eventRoom)
-      (m : Words.Made (changeAt code .call (take (size - 0) (drop 0 r)) t (length e)) w e n w′ e′) where
+      (request : r ≡ put 0 (wordsOf q) l) (state : w ≡ put 0 (wordsOf s) v) (long : length v ≡ stateSize)
+      (m : Gave (changeAt code .call (take (size - 0) (drop 0 r)) t eventRoom) w e n w′ e′) where
     there : Fits size q s ev
     there = fits size q s ev fit
 
@@ -125,12 +126,12 @@ module _ (code size : ℕ) (q s ev : List ℕ) (t : ℕ) (asks : Asks code size 
     unfolding there
     words = words-whole stateSize s v w (there .state) long state
 
-    made : Words.Made (inner call) (wordsOf s) e n w′ e′
+    made : Gave (inner call) (wordsOf s) e n w′ e′
     unfolding there
     made =
         let asked : take (size - 0) (drop 0 r) ≡ wordsOf q = part-words size q l r (there .request) request in
-        let same = ap₂ (λ (x : Row) (k : ℕ). changeAt code .call x t k) asked room ∙ sym (change-on code q t (length ev) .inside) in
-        subst (λ (x : List ℕ). Words.Made (inner call) x e n w′ e′) words (subst (λ (d : Call). Words.Made d w e n w′ e′) same m)
+        let same = ap (λ (x : Row). changeAt code .call x t eventRoom) asked ∙ sym (change-on code q t (length ev) .inside) in
+        subst (λ (x : List ℕ). Gave (inner call) x e n w′ e′) words (subst (λ (d : Call). Gave d w e n w′ e′) same m)
 
     told : Wrote (forEvents eventRoom) n (step (inner call) (wordsOf s) .reply .rows)
     unfolding made
@@ -141,9 +142,9 @@ module _ (code size : ℕ) (q s ev : List ℕ) (t : ℕ) (asks : Asks code size 
         wrote (forEvents eventRoom) reply n (subst (λ (k : Buffer). Shaped k reply) events (shaped (inner call) (wordsOf s))) (made .reply)
 
     -- its rows have room in both buffers
-    pub told-room : Event.size * n .value ≤ eventRoom
-    unfolding told
-    told-room = told .room
+    pub told-room : (Event.size * n .value ≤ length e′) × (Event.size * n .value ≤ eventRoom)
+    unfolding made told
+    told-room = (omega (arith, told .long, gave-room (inner call) (wordsOf s) e made), told .room)
 
     -- where its numbers say so, the bytes are those of the words that it left
     pub still : Below 256 s → changeAt code .still (n .number) (n .value) ≡ true → s ≡ bytesOf w′
@@ -151,7 +152,7 @@ module _ (code size : ℕ) (q s ev : List ℕ) (t : ℕ) (asks : Asks code size 
     still f h =
         let x = take (size - 0) (drop 0 r) in
         let numbered = ap (λ (y : Numbers). changeAt code .still (y .number) (y .value)) (m .reply) in
-        let stays = change-on code x t (length e) .stays w (sym numbered ∙ h) in
+        let stays = change-on code x t eventRoom .stays w (sym numbered ∙ h) in
         sym (bytes-words stateSize s (there .state) f) ∙ ap bytesOf (sym (m .words ∙ stays ∙ words))
 
     pub changed-yes : {s′ ev′ : List ℕ} → s′ ≡ bytesOf w′ → ev′ ≡ put 0 (bytesOf (take (Event.size * n .value) e′)) ev
@@ -160,3 +161,10 @@ module _ (code size : ℕ) (q s ev : List ℕ) (t : ℕ) (asks : Asks code size 
     changed-yes p v f g =
         let written = cond-true (alters (semantics call .action)) (bytesOf w′) s (change-is code q t (length ev) .changes) in
         made-yes call s ev lent (Event.size * n .value) (suffice ∙ fit) made (told .long) (p ∙ sym written) v f g
+
+-- ---- one that writes one row at most, lent on the room of a row
+pub one-gave : (code : ℕ) (q : Row) (w e : List ℕ) {w′ e′ : List ℕ} (r : Reply) → oneAt code ≡ changeAt code
+    → Did (step (oneAt code .call q 0 eventRoom) w) e r w′ e′ → Gave (changeAt code .call q 0 eventRoom) w e (numbersIn r) w′ e′
+one-gave code q w e {w′} {e′} r same d =
+    subst (λ (x : Change). Gave (x .call q 0 eventRoom) w e (numbersIn r) w′ e′) same
+    (record { reply = ap numbersIn (d .answer); words = d .words; buffer = d .buffer })

@@ -6,7 +6,7 @@ use native.Mathlib.Omega.{arith}
 use mathlib.Core.Path.{_≡_, sym, ap, subst, _∙_}
 use mathlib.Core.Bool.{true, false, cond}
 use mathlib.Core.List.{List, [], _∷_, _++_}
-use lib.ListN.{length, take, drop}
+use lib.ListN.{length, take, drop, length-append}
 use lib.Seq.{take-at}
 use Rattle.lists.specs.Lists.{Row, flat, put}
 use Rattle.lists.specs.Rows.{length-flat}
@@ -58,6 +58,22 @@ part-words size q l m h e =
 pub part-back : (e out out′ : List ℕ) (n : ℕ) → out′ ≡ put 0 (bytesOf (take (n - 0) (drop 0 e))) out → out′ ≡ put 0 (bytesOf (take n e)) out
 part-back e out out′ n h = let z : n - 0 ≡ n = omega arith in rw z at h
 
+-- ---- what a call on words gave, whatever the length of the buffer that it was lent
+pub record Gave (c : Call) (w e : List ℕ) (n : Numbers) (w′ e′ : List ℕ) : Type 0 where
+  pub reply : n ≡ numbers (step c w .reply)
+  pub words : w′ ≡ step c w .words
+  pub buffer : e′ ≡ put 0 (flat (step c w .reply .rows)) e
+
+pub made-gave : {c : Call} {w e : List ℕ} {n : Numbers} {w′ e′ : List ℕ} → Words.Made c w e n w′ e′ → Gave c w e n w′ e′
+made-gave m = record { reply = m .reply; words = m .words; buffer = m .buffer }
+
+-- its rows stand in it
+pub gave-room : (c : Call) (w e : List ℕ) {n : Numbers} {w′ e′ : List ℕ} → Gave c w e n w′ e′ → length (flat (step c w .reply .rows)) ≤ length e′
+unfolding put
+gave-room c w e g =
+    let vs = flat (step c w .reply .rows) in
+    omega (arith, ap length (g .buffer), length-append vs (drop (0 + length vs) e))
+
 -- ---- the call
 module _ (c : Call) (s b : List ℕ) (l : Lent (semantics c .lent) b) where
   pub made-no : {n : Numbers} → suffices c s ≡ false → n ≡ numbers (refusal 200) → Made c s b n s b
@@ -75,7 +91,7 @@ module _ (c : Call) (s b : List ℕ) (l : Lent (semantics c .lent) b) where
       }
 
   -- made on a buffer of the words e, of which then as many as it wrote are given back
-  pub made-yes : {n : Numbers} {e w′ e′ s′ b′ : List ℕ} (k : ℕ) → suffices c s ≡ true → Words.Made (inner c) (wordsOf s) e n w′ e′
+  pub made-yes : {n : Numbers} {e w′ e′ s′ b′ : List ℕ} (k : ℕ) → suffices c s ≡ true → Gave (inner c) (wordsOf s) e n w′ e′
       → k ≡ length (flat (step (inner c) (wordsOf s) .reply .rows)) → s′ ≡ cond (alters (semantics c .action)) (bytesOf w′) s
       → b′ ≡ put 0 (bytesOf (take k e′)) b → Below 4294967296 w′ → Below 4294967296 e′ → Made c s b n s′ b′
   made-yes {n} {e} {w′} {e′} k h m long p q f g =

@@ -24,7 +24,7 @@ use Rattle.definition.specs.Noninterference.ReadBack.{Shaped, shaped, roomOf}
 use Rattle.definition_bytes.specs.Bytes.{stateFits, rowWords, with, suffices, inner, Made}
 use Rattle.call_dispatch.specs.Numbered.{findAt, askAt}
 use Rattle.call_dispatch.specs.Laws.{Reads, find-is, ask-is}
-use Rattle.interface4.specs.Made.{Wrote, wrote, part-words, made-no, made-yes}
+use Rattle.interface4.specs.Made.{Wrote, wrote, part-words, made-gave, made-no, made-yes}
 
 -- ---- as many bytes as there must be
 pub record Fits (n : ℕ) (s out : List ℕ) : Type 0 where
@@ -87,7 +87,7 @@ module _ {c d : Call} {k : Buffer} {s : List ℕ} {fit : Bool} (x : OnBytes c d 
       → b′ ≡ put 0 (bytesOf (take (width k * many k n) e′)) b → Below 4294967296 e′ → Made c s b n s b′
   unfolding made written
   read-yes b l h f v g =
-      made-yes c s b l (width k * many k n) (x .suffice ∙ h) made (written .long)
+      made-yes c s b l (width k * many k n) (x .suffice ∙ h) (made-gave made) (written .long)
       (sym (cond-false (alters (semantics c .action)) (bytesOf w) s (x .reads))) v (subst (Below 4294967296) (sym ew) (words-below s f)) g
 
 -- ---- a listing

@@ -20,7 +20,7 @@ ghost use Rattle.definition.specs.Words.{stateSize};
 ghost use Rattle.definition.specs.Call.{Call};
 ghost use Rattle.definition_bytes.specs.Bytes.{Made};
 ghost use Rattle.call_reply.specs.Answer.{numbersIn};
-ghost use Rattle.call_dispatch.specs.Numbered.{changeAt};
+ghost use Rattle.call_dispatch.specs.Numbered.{changeAt, oneAt};
 ghost use Rattle.interface4.specs.Changing.{Asks};
 
 // The call with this number and value left every word. A refusal of add_route4 by the reference may have listed the table.
@@ -76,6 +76,29 @@ fn change(
     answer
 }
 
+// One that writes one row at most: it is lent no more than that, since clearing the room of all rows would be most of its time.
+fn change_one(code: u32, state: &mut [u8], request: &[u8], size: usize, events: &mut [u8]) -> Reply
+    requires { ⌜ Asks code size (now request) ⌝ }
+    requires { ⌜ oneAt code ≡ changeAt code ⌝ }
+    ensures { λ r. ⌜ Made (changeAt code .call (now (request .entry)) 0 (length (now (events .entry))))
+        (now (state .entry)) (now (events .entry)) (numbersIn r) (now (state .exit)) (now (events .exit)) ⌝ }
+{
+    if !((request.len() == 4 * size)
+        & ((state.len() == STATE_BYTES) & (EVENT_BYTES <= events.len()))) {
+        return call_reply::refused(200);
+    }
+    let mut q = [0u32; DEL_ROUTE4_WORDS];
+    endian::words_of(request, &mut q);
+    let mut s = [0u32; STATE_WORDS];
+    endian::words_of(state, &mut s);
+    let mut row = [0u32; EVENT_WORDS];
+    let answer = call_dispatch::change_one(code, &mut s, &q[0..size], EVENT_BUFFER, &mut row);
+    let kept = still(code, answer.number, answer.value);
+    give_back(kept, &s, state);
+    rows::give_rows(&row, EVENT_WORDS, answer.value, events);
+    answer
+}
+
 #[no_mangle]
 pub extern "C" fn interface4_up(state: &mut [u8], events: &mut [u8], clock: u64) -> Reply
     ensures { λ r. ⌜ Made (Call.up (length (now (events .entry))) clock)
@@ -89,7 +112,7 @@ pub extern "C" fn interface4_down(state: &mut [u8], events: &mut [u8]) -> Reply
     ensures { λ r. ⌜ Made (Call.down (length (now (events .entry))))
         (now (state .entry)) (now (events .entry)) (numbersIn r) (now (state .exit)) (now (events .exit)) ⌝ }
 {
-    change(2, state, b"", 0, 0, events)
+    change_one(2, state, b"", 0, events)
 }
 
 #[no_mangle]
@@ -130,7 +153,7 @@ pub extern "C" fn interface4_add_route4(
     ensures { λ r. ⌜ Made (Call.addRoute4 (now (request .entry)) (length (now (events .entry))))
         (now (state .entry)) (now (events .entry)) (numbersIn r) (now (state .exit)) (now (events .exit)) ⌝ }
 {
-    change(6, state, request, ADD_ROUTE4_WORDS, 0, events)
+    change_one(6, state, request, ADD_ROUTE4_WORDS, events)
 }
 
 #[no_mangle]
@@ -142,5 +165,5 @@ pub extern "C" fn interface4_del_route4(
     ensures { λ r. ⌜ Made (Call.delRoute4 (now (request .entry)) (length (now (events .entry))))
         (now (state .entry)) (now (events .entry)) (numbersIn r) (now (state .exit)) (now (events .exit)) ⌝ }
 {
-    change(7, state, request, DEL_ROUTE4_WORDS, 0, events)
+    change_one(7, state, request, DEL_ROUTE4_WORDS, events)
 }

@@ -77,7 +77,7 @@ add-v4-requires c κs =
     let call = semantics (Call.addV4 q (length ev) (a .clock)) in
     let n-is = request-checked addV4Size q (eventsFit (length ev)) (unless (fitAddV4 q) 202) w (at-check .checked .ensures) (at-fit .fit-add-v4 .ensures) in
     let p = passed (call .checks) w n-is (c .before .before .if1 .left) in
-    let size = sizes addV4Size q ev (p .room) in
+    let size = sizes addV4Size q (length ev) (p .room) in
     (sound p, ((size .long, unless-passed (fitAddV4 q) (p .fit)), omega (arith, size .room)))
 
 of-done-requires : tie.Need-of-done-requires

@@ -74,7 +74,7 @@ del-v4-requires c κs =
     let call = semantics (Call.delV4 q (length ev)) in
     let n-is = request-checked delV4Size q (eventsFit (length ev)) (unless (fitDelV4 q) 202) w (at-check .checked .ensures) (at-fit .fit-del-v4 .ensures) in
     let p = passed (call .checks) w n-is (c .before .before .if1 .left) in
-    let size = sizes delV4Size q ev (p .room) in
+    let size = sizes delV4Size q (length ev) (p .room) in
     (record { state = stateOf w; fits = fitting p (size .room) }, size .long)
 
 of-done-requires : tie.Need-of-done-requires
@@ -100,7 +100,7 @@ returns-2 c =
     let n-is = request-checked delV4Size q (eventsFit (length ev)) (unless (fitDelV4 q) 202) w (at-check .checked .ensures) (at-fit .fit-del-v4 .ensures) in
     let p = passed (call .checks) w n-is (at-step .before .before .before .if1 .left) in
     answers-passed call w p
-    (deletes-answers q w _ ev _ (at-step .del-v4 .result) p (at-step .del-v4 .ensures (stateOf w) (fitting p (sizes delV4Size q ev (p .room) .room))) (c .of-done .ensures))
+    (deletes-answers q w _ ev _ (at-step .del-v4 .result) p (at-step .del-v4 .ensures (stateOf w) (fitting p (sizes delV4Size q (length ev) (p .room) .room))) (c .of-done .ensures))
 
 pub del-v4-spec : {M : Type 1} → statement M
 del-v4-spec =

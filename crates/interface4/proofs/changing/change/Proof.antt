@@ -5,6 +5,7 @@ use mathlib.Core.Bool.{true}
 use native.Mathlib.Omega.{arith}
 use borrow.Author.Tests.{not-true, not-false}
 use Rattle.call_reply.specs.Answer.{numbersIn}
+use Rattle.interface4.specs.Made.{made-gave}
 use Rattle.interface4.specs.Changing.{changeFits, Fits, fits, changed-no, told-room, still, changed-yes}
 use borrow.Author.Needs.{needs}
 use Rattle.interface4.proofs.changing.change.Statement.{statement}
@@ -80,7 +81,7 @@ give-back-requires c κs =
     let a = start at-test .args in
     let at-still = c .before .before in
     let kept = still (a .code) (a .size) (a .request .now) (a .state .now) (a .events .now) (a .clock) (start at-test .pre) (fit at-test) _ _
-    (at-request .words-of .ensures) (at-state .words-of2 .ensures) refl refl (at-change .change .ensures)
+    (at-request .words-of .ensures) (at-state .words-of2 .ensures) refl (made-gave (at-change .change .ensures))
     (λ i. at-test .before .before .before .slice-known .given i .fits) in
     ((search needs, there at-test .state), λ h. kept (sym (at-still .still .ensures) ∙ h))
 
@@ -95,8 +96,8 @@ give-rows-requires c κs =
     let at-test = at-request .before .before in
     let a = start at-test .args in
     let room = told-room (a .code) (a .size) (a .request .now) (a .state .now) (a .events .now) (a .clock) (start at-test .pre) (fit at-test) _ _
-    (at-request .words-of .ensures) (at-state .words-of2 .ensures) refl refl (at-change .change .ensures) in
-    (omega (arith, room), omega (arith, room, there at-test .events))
+    (at-request .words-of .ensures) (at-state .words-of2 .ensures) refl (made-gave (at-change .change .ensures)) in
+    (room .0, omega (arith, room .1, there at-test .events))
 
 same-length : tie.Need-same-length
 same-length c = search needs
@@ -114,7 +115,7 @@ returns-2 c =
     let at-back = c .before .before .before .before .before .before .before in
     let at-rows = c .before .before in
     changed-yes (a .code) (a .size) (a .request .now) (a .state .now) (a .events .now) (a .clock) (start at-test .pre) (fit at-test) _ _
-    (at-request .words-of .ensures) (at-state .words-of2 .ensures) refl refl (at-change .change .ensures)
+    (at-request .words-of .ensures) (at-state .words-of2 .ensures) refl (made-gave (at-change .change .ensures))
     (at-back .give-back .ensures .0) (at-rows .give-rows .ensures .0) (at-back .give-back .ensures .1) (at-rows .give-rows .ensures .1)
 
 pub change-spec : {M : Type 1} → statement M

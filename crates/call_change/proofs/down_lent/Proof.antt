@@ -1,8 +1,7 @@
--- `call_change::down` meets its contract.
+-- `call_change::down_lent` meets its contract.
 -- Assumes nothing.
 use native.Mathlib.Omega.{arith}
 use mathlib.Core.Path.{sym}
-use lib.ListN.{length}
 use Rattle.definition.specs.Call as Call
 use Rattle.definition.specs.Words.{stateOf}
 use Rattle.definition.specs.Step.{semantics, downCall}
@@ -11,8 +10,8 @@ use Rattle.call_read.specs.Laws.{passed, lent, valid}
 use Rattle.call_change.specs.Laws.{answers-refused, answers-passed}
 use Rattle.call_change.specs.Steps.{down-answers}
 use borrow.Author.Needs.{needs}
-use Rattle.call_change.proofs.down.Statement.{statement}
-use Rattle.call_change.proofs.down.Tie as tie
+use Rattle.call_change.proofs.down_lent.Statement.{statement}
+use Rattle.call_change.proofs.down_lent.Tie as tie
 
 checked-requires : tie.Need-checked-requires
 checked-requires c κs = search needs
@@ -27,7 +26,7 @@ returns c =
     let a = at-check .before .before .before .before .args in
     let w = a .state .now in
     let ev = a .events .now in
-    let call = semantics (Call.down (length ev)) in
+    let call = semantics (Call.down (a .room)) in
     answers-refused call w ev (at-check .checked .ensures) (c .if1 .taken)
 
 slice-relend-prefix-down : tie.Need-slice-relend-prefix-down
@@ -36,7 +35,7 @@ slice-relend-prefix-down c =
     let a = at-check .before .before .before .before .args in
     let w = a .state .now in
     let ev = a .events .now in
-    let call = semantics (Call.down (length ev)) in
+    let call = semantics (Call.down (a .room)) in
     let p = passed (call .checks) w (at-check .checked .ensures) (c .if1 .left) in
     omega (arith, p .long)
 
@@ -46,7 +45,7 @@ slice-aggregate-down c =
     let a = at-check .before .before .before .before .args in
     let w = a .state .now in
     let ev = a .events .now in
-    let call = semantics (Call.down (length ev)) in
+    let call = semantics (Call.down (a .room)) in
     let p = passed (call .checks) w (at-check .checked .ensures) (c .before .if1 .left) in
     sym (lent p)
 
@@ -56,7 +55,7 @@ down-requires c κs =
     let a = at-check .before .before .before .before .args in
     let w = a .state .now in
     let ev = a .events .now in
-    let call = semantics (Call.down (length ev)) in
+    let call = semantics (Call.down (a .room)) in
     let p = passed (call .checks) w (at-check .checked .ensures) (c .before .if1 .left) in
     valid p
 
@@ -71,13 +70,13 @@ returns-2 c =
     let a = at-check .before .before .before .before .args in
     let w = a .state .now in
     let ev = a .events .now in
-    let call = semantics (Call.down (length ev)) in
+    let call = semantics (Call.down (a .room)) in
     let p = passed (call .checks) w (at-check .checked .ensures) (at-step .before .before .if1 .left) in
     answers-passed call w p
     (down-answers w ev p (at-step .down .ensures (stateOf w) (p .holds)))
 
-pub down-spec : {M : Type 1} → statement M
-down-spec =
+pub down-lent-spec : {M : Type 1} → statement M
+down-lent-spec =
     tie.close
     (tie.spec
     checked-requires
