@@ -120,7 +120,7 @@ fn lifetimes_end() {
 }
 
 #[test]
-fn a_request_carries_no_life() {
+fn p7_a_request_carries_no_life() {
     let mut lo = Addresses::new();
     let mut new = v4("10.1.0.5", 24);
     new.life.valid = 10;
