@@ -1,0 +1,6 @@
+pub mod Codes
+pub mod Attributes
+pub mod Reader
+pub mod Laws
+pub mod Order
+pub mod Cases
