@@ -1,13 +1,9 @@
 use borrow.Author.Needs.{needs}
-use Prim.Native.Nat.{ℕ, _+_, _*_, _/_, _%_}
 use native.Mathlib.Omega.{arith}
 use denote.Ref.{now}
 use Rattle.netlink_attributes.specs.StepLaws.{nothing, begins}
 use Rattle.netlink_attributes.proofs.attribute.Statement.{statement}
 use Rattle.netlink_attributes.proofs.attribute.Tie as tie
-use Rattle.netlink_attributes.proofs.attribute.Reads as reads
-use Rattle.netlink_attributes.proofs.attribute.Lts as lts
-use Rattle.netlink_attributes.proofs.two.Reads as two-reads
 
 -- src/lib.rt:39:9
 returns : tie.Need-returns
@@ -27,11 +23,15 @@ two-requires c κs = search needs
 
 -- src/lib.rt:43:9
 returns-2 : tie.Need-returns-2
-returns-2 c = nothing (now (c .before .before .before .before .before .before .args .l)) (λ p q. omega arith)
+returns-2 c =
+    let at-start = c .before .before .before .before .before .before in
+    nothing (now (at-start .args .l)) (λ p q. omega arith)
 
 -- src/lib.rt:46:9
 returns-3 : tie.Need-returns-3
-returns-3 c = nothing (now (c .before .before .before .before .before .before .before .args .l)) (λ p q. omega arith)
+returns-3 c =
+    let at-start = c .before .before .before .before .before .before .before in
+    nothing (now (at-start .args .l)) (λ p q. omega arith)
 
 -- src/lib.rt:48:20
 shared-slice-read-two-3 : tie.Need-shared-slice-read-two-3
@@ -55,11 +55,15 @@ mul-next c = search needs
 
 -- src/lib.rt:52:9
 returns-4 : tie.Need-returns-4
-returns-4 c = begins (now (c .before .before .before .before .before .before .before .before .before .before .before .args .l)) _ _ _ (omega arith) (omega arith) (omega arith) (omega arith) (omega arith)
+returns-4 c =
+    let at-start = c .before .before .before .before .before .before .before .before .before .before .before in
+    begins (now (at-start .args .l)) _ _ _ (omega arith) (omega arith) (omega arith) (omega arith) (omega arith)
 
 -- src/lib.rt:34:1
 returns-5 : tie.Need-returns-5
-returns-5 c = begins (now (c .before .before .before .before .before .before .before .before .before .before .before .args .l)) _ _ _ (omega arith) (omega arith) (omega arith) (omega arith) (omega arith)
+returns-5 c =
+    let at-start = c .before .before .before .before .before .before .before .before .before .before .before in
+    begins (now (at-start .args .l)) _ _ _ (omega arith) (omega arith) (omega arith) (omega arith) (omega arith)
 
 pub attribute-spec : {M : Type 1} → statement M
 attribute-spec =

@@ -2,9 +2,6 @@ use borrow.Author.Needs.{needs}
 use borrow.Author.Tests.{eq-eqb, ne-eqb}
 use Rattle.netlink_attributes.proofs.nested.Statement.{statement}
 use Rattle.netlink_attributes.proofs.nested.Tie as tie
-use Rattle.netlink_attributes.proofs.nested.Reads as reads
-use Rattle.netlink_attributes.proofs.nested.Lts as lts
-use Rattle.netlink_attributes.proofs.right.Reads as right-reads
 
 -- src/lib.rt:84:9
 right-requires : tie.Need-right-requires
