@@ -1,7 +1,7 @@
 -- Laws of what the functions of the attributes answer.
 -- Assumes nothing.
 use Prim.Native.Nat.{ℕ, _+_, _-_, _%_, _≤_, min}
-use mathlib.Core.Path.{_≡_, refl, sym, ap, _∙_}
+use mathlib.Core.Path.{_≡_, sym, ap, _∙_}
 use mathlib.Core.Bool.{Bool, true, false, _&&_, and-true}
 use mathlib.Core.List.{List, []}
 use mathlib.Core.Option.{some}
@@ -16,6 +16,7 @@ use Rattle.netlink_attributes.specs.declared.First as F
 use Rattle.netlink_attributes.specs.declared.First.the-variants as Is
 use Rattle.netlink.specs.Attributes.{Attribute, Parsed, u16, padded, whole, first, more, parsed, attributes, right}
 use Rattle.netlink.specs.Laws.{four, within, is-whole, parsed-more, parsed-end}
+use Rattle.netlink.specs.Order.{and-swap}
 use Rattle.netlink.specs.Reader.{nestedRight}
 use Rattle.netlink_attributes.specs.Steps.{firstOf, rightNested}
 
@@ -102,16 +103,11 @@ pub right-end : (l : List ℕ) (at : ℕ) → parsed (drop at l) ≡ record { at
 right-end l at e = ap (λ (p : Parsed). ltb (length (p .spare)) 4) e ∙ ap (λ (n : ℕ). ltb n 4) (length-drop at l)
 
 -- ---- the metrics too
-swap : (a b c : Bool) → a && (b && c) ≡ b && (a && c)
-swap true b c = refl
-swap false true c = refl
-swap false false c = refl
-
 pub nested-on : (l : List ℕ) (at code size next : ℕ) → At l at code size next
     → rightNested (drop at l) ≡ nestedRight (record { code = code; payload = take size (drop (at + 4) l) }) && rightNested (drop (at + next) l)
 nested-on l at code size next b =
     ap (λ (p : Parsed). ltb (length (p .spare)) 4 && all nestedRight (p .attributes)) (b .on)
-    ∙ swap (right (drop (at + next) l)) (nestedRight (first (drop at l))) (all nestedRight (attributes (drop (at + next) l)))
+    ∙ and-swap (right (drop (at + next) l)) (nestedRight (first (drop at l))) (all nestedRight (attributes (drop (at + next) l)))
     ∙ ap (λ (a : Attribute). nestedRight a && rightNested (drop (at + next) l)) (b .is)
 
 pub nested-end : (l : List ℕ) (at : ℕ) → parsed (drop at l) ≡ record { attributes = []; spare = drop at l } → rightNested (drop at l) ≡ ltb (length l - at) 4
