@@ -14,7 +14,7 @@ use borrow.Author.Tests.{leb-true, leb-false, ltb-true, ltb-false, eqb-true, eq-
 use Rattle.lists.specs.Lists.{all}
 use Rattle.lists.specs.Bools.{and-left, and-right, and-both, and-rest, or-false, or-case, or-left, or-right, fails, test-case, true-false, false-not}
 use Rattle.lists.specs.All.{all-head, all-back}
-use Rattle.netlink.specs.Codes.{rtmNewAddr, inet, ifaLocal, rtaMetrics}
+use Rattle.netlink.specs.Codes.{rtmNewAddr, rtmDelAddr, rtmNewRoute, rtmDelRoute, inet, ifaLocal, rtaMetrics}
 use Rattle.netlink.specs.Attributes.{Attribute, u16, whole, parsedFrom, parsed, attributes, right, last}
 use Rattle.netlink.specs.Reader.{Answer, refused, asked, messageLength, messageType, family, isAddress, isRoute, attributesAt}
 use Rattle.netlink.specs.Reader.{headed, body, nestedRight, lengths, sizedIn, given, sizes, request, shapeRefusal, refusal, read}
@@ -153,11 +153,12 @@ ungiven (some p) h = absurd (true-false true refl h)
 
 one-kind : (t : ℕ) → isAddress t ≡ true → isRoute t ≡ true → ⊥
 one-kind t a r =
-    or-case (eqb t 20) (eqb t 21) a
-    (λ e. or-case (eqb t 24) (eqb t 25) r
-    (λ f. omega (arith, eqb-true t 20 e, eqb-true t 24 f)) (λ f. omega (arith, eqb-true t 20 e, eqb-true t 25 f)))
-    (λ e. or-case (eqb t 24) (eqb t 25) r
-    (λ f. omega (arith, eqb-true t 21 e, eqb-true t 24 f)) (λ f. omega (arith, eqb-true t 21 e, eqb-true t 25 f)))
+    let address : (n : ℕ) → n ≤ 21 → eqb t n ≡ true → ⊥ =
+    (λ n h e. or-case (eqb t rtmNewRoute) (eqb t rtmDelRoute) r
+    (λ f. omega (arith, h, eqb-true t n e, eqb-true t rtmNewRoute f))
+    (λ f. omega (arith, h, eqb-true t n e, eqb-true t rtmDelRoute f)))
+    in
+    or-case (eqb t rtmNewAddr) (eqb t rtmDelAddr) a (address rtmNewAddr (omega arith)) (address rtmDelAddr (omega arith))
 
 -- ---- the message, as tests: a length is bad, type and family are right, sizes are right
 module _ (m : List ℕ) where
@@ -342,9 +343,16 @@ shaped m h =
     let inner = lengths-are m (not-false (lengths m) (and-rest k (not (lengths m)) four (good .1))) in
     record { long = header .long; covers = inner .covers; ends = header .ends; one-of-four = four }
 
-pub unrefused : (m : List ℕ) → refusal m ≡ 0 → shapeRefusal m ≡ 0
+pub unrefused : (m : List ℕ) → refusal m ≡ 0 → Shaped m
 unfolding refusal
-unrefused m h = test-case (eqb (shapeRefusal m) 0) (λ w. eqb-true (shapeRefusal m) 0 w) (λ w. rw w at h)
+unrefused m h = shaped m (test-case (eqb (shapeRefusal m) 0) (λ w. eqb-true (shapeRefusal m) 0 w) (λ w. rw w at h))
+
+pub four-types : (t : ℕ) {C : Type 0} → known t ≡ true
+    → (t ≡ rtmNewAddr → C) → (t ≡ rtmDelAddr → C) → (t ≡ rtmNewRoute → C) → (t ≡ rtmDelRoute → C) → C
+four-types t k f g h i =
+    or-case (isAddress t) (isRoute t) k
+    (λ e. or-case (eqb t rtmNewAddr) (eqb t rtmDelAddr) e (λ w. f (eqb-true t rtmNewAddr w)) (λ w. g (eqb-true t rtmDelAddr w)))
+    (λ e. or-case (eqb t rtmNewRoute) (eqb t rtmDelRoute) e (λ w. h (eqb-true t rtmNewRoute w)) (λ w. i (eqb-true t rtmDelRoute w)))
 
 -- ---- what is asked of a reader
 module _ (up : ℕ) (m : List ℕ) where

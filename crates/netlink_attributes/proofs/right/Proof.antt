@@ -15,43 +15,33 @@ Inv-loop l cursor₀ cursor = (cursor .at ≤ length l) × (right l ≡ right (d
 abbrev μ-loop : tie.MeasureT-loop
 μ-loop l cursor₀ cursor = length l - cursor .at
 
--- src/lib.rt:82:9
 start-requires : tie.Need-start-requires Inv-loop μ-loop
 start-requires c κs = search needs
 
--- src/lib.rt:83:5
 loop-holds : tie.Need-loop-holds Inv-loop μ-loop
 loop-holds c = rw (c .start .ensures) (omega arith, refl)
 
--- src/lib.rt:89:23
 sub-attribute : tie.Need-sub-attribute Inv-loop μ-loop
 sub-attribute c = search needs
 
--- src/lib.rt:89:23
 part-attribute-start : tie.Need-part-attribute-start Inv-loop μ-loop
 part-attribute-start c = search needs
 
--- src/lib.rt:89:23
 part-attribute-end : tie.Need-part-attribute-end Inv-loop μ-loop
 part-attribute-end c = search needs
 
--- src/lib.rt:89:13
 attribute-requires : tie.Need-attribute-requires Inv-loop μ-loop
 attribute-requires c κs = search needs
 
--- src/lib.rt:88:13
 enum-known-next : tie.Need-enum-known-next Inv-loop μ-loop
 enum-known-next c = search needs
 
--- src/lib.rt:91:20
 enum-told : tie.Need-enum-told Inv-loop μ-loop
 enum-told c = search needs
 
--- src/lib.rt:91:20
 sub-result : tie.Need-sub-result Inv-loop μ-loop
 sub-result c = search needs
 
--- src/lib.rt:91:13
 returns : tie.Need-returns Inv-loop μ-loop
 returns c =
     let at-loop = c .before .before .before .before .loop in
@@ -79,15 +69,12 @@ stands c =
     let l = now (at-start c .args .l) in
     found l (at-loop c .loop .cursor .at) _ _ _ (call .result) (at-loop c .loop .inv .0) (call .ensures) (at-answer c .next .given .1)
 
--- src/lib.rt:93:9
 past-requires : tie.Need-past-requires Inv-loop μ-loop
 past-requires c κs = omega (arith, stands c .inside)
 
--- src/lib.rt:83:5
 loop-less : tie.Need-loop-less Inv-loop μ-loop
 loop-less c = omega (arith, stands (c .before) .inside, stands (c .before) .ahead)
 
--- src/lib.rt:83:5
 loop-again : tie.Need-loop-again Inv-loop μ-loop
 loop-again c = rw (c .past .ensures) (stands (c .before) .inside, at-loop (c .before) .loop .inv .1 ∙ right-on _ _ _ _ _ (stands (c .before)))
 

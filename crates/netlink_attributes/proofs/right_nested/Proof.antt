@@ -16,43 +16,33 @@ Inv-loop l cursor₀ cursor = (cursor .at ≤ length l) × (rightNested l ≡ ri
 abbrev μ-loop : tie.MeasureT-loop
 μ-loop l cursor₀ cursor = length l - cursor .at
 
--- src/lib.rt:112:9
 start-requires : tie.Need-start-requires Inv-loop μ-loop
 start-requires c κs = search needs
 
--- src/lib.rt:113:5
 loop-holds : tie.Need-loop-holds Inv-loop μ-loop
 loop-holds c = rw (c .start .ensures) (omega arith, refl)
 
--- src/lib.rt:115:63
 sub-attribute : tie.Need-sub-attribute Inv-loop μ-loop
 sub-attribute c = search needs
 
--- src/lib.rt:115:63
 part-attribute-start : tie.Need-part-attribute-start Inv-loop μ-loop
 part-attribute-start c = search needs
 
--- src/lib.rt:115:63
 part-attribute-end : tie.Need-part-attribute-end Inv-loop μ-loop
 part-attribute-end c = search needs
 
--- src/lib.rt:115:53
 attribute-requires : tie.Need-attribute-requires Inv-loop μ-loop
 attribute-requires c κs = search needs
 
--- src/lib.rt:115:32
 enum-known-code : tie.Need-enum-known-code Inv-loop μ-loop
 enum-known-code c = search needs
 
--- src/lib.rt:116:20
 enum-told : tie.Need-enum-told Inv-loop μ-loop
 enum-told c = search needs
 
--- src/lib.rt:116:20
 sub-result : tie.Need-sub-result Inv-loop μ-loop
 sub-result c = search needs
 
--- src/lib.rt:116:13
 returns : tie.Need-returns Inv-loop μ-loop
 returns c =
     let at-loop = c .before .before .before .before in
@@ -79,48 +69,38 @@ stands c =
     let l = now (at-start c .args .l) in
     found l (at-loop c .loop .cursor .at) _ _ _ (call .result) (at-loop c .loop .inv .0) (call .ensures) (at-answer c .code .given .1)
 
--- src/lib.rt:118:20
 add-from : tie.Need-add-from Inv-loop μ-loop
 add-from c = omega (arith, stands c .payload-inside)
 
--- src/lib.rt:119:18
 add-to : tie.Need-add-to Inv-loop μ-loop
 add-to c = omega (arith, stands c .payload-inside)
 
--- src/lib.rt:120:26
 sub-nested : tie.Need-sub-nested Inv-loop μ-loop
 sub-nested c = omega (arith, stands c .payload-inside)
 
--- src/lib.rt:120:26
 part-nested-start : tie.Need-part-nested-start Inv-loop μ-loop
 part-nested-start c = search needs
 
--- src/lib.rt:120:26
 part-nested-end : tie.Need-part-nested-end Inv-loop μ-loop
 part-nested-end c = omega (arith, stands c .payload-inside)
 
--- src/lib.rt:120:13
 nested-requires : tie.Need-nested-requires Inv-loop μ-loop
 nested-requires c κs = search needs
 
--- src/lib.rt:121:13
 returns-2 : tie.Need-returns-2 Inv-loop μ-loop
 returns-2 c =
     let at-known = c .before .before .before in
     let call = c .before .nested in
     sym (at-loop at-known .loop .inv .1 ∙ nested-more _ _ _ _ _ _ (stands at-known) (call .ensures) ∙ rw (not-true (call .result) (c .if1 .taken)))
 
--- src/lib.rt:123:9
 past-requires : tie.Need-past-requires Inv-loop μ-loop
 past-requires c κs = omega (arith, stands (c .before .before .before) .inside)
 
--- src/lib.rt:113:5
 loop-less : tie.Need-loop-less Inv-loop μ-loop
 loop-less c =
     let at-known = c .before .before .before .before in
     omega (arith, stands at-known .inside, stands at-known .ahead)
 
--- src/lib.rt:113:5
 loop-again : tie.Need-loop-again Inv-loop μ-loop
 loop-again c =
     let at-known = c .before .before .before .before in

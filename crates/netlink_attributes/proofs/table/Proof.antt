@@ -14,39 +14,30 @@ Inv-loop l starts₀ sizes₀ cursor₀ starts sizes cursor = Passed l starts si
 abbrev μ-loop : tie.MeasureT-loop
 μ-loop l starts₀ sizes₀ cursor₀ starts sizes cursor = length l - cursor .at
 
--- src/lib.rt:157:9
 start-requires : tie.Need-start-requires Inv-loop μ-loop
 start-requires c κs = search needs
 
--- src/lib.rt:158:5
 loop-holds : tie.Need-loop-holds Inv-loop μ-loop
 loop-holds c = rw (c .start .ensures) (begun (now (c .before .before .args .l)))
 
--- src/lib.rt:160:63
 sub-attribute : tie.Need-sub-attribute Inv-loop μ-loop
 sub-attribute c = search needs
 
--- src/lib.rt:160:63
 part-attribute-start : tie.Need-part-attribute-start Inv-loop μ-loop
 part-attribute-start c = search needs
 
--- src/lib.rt:160:63
 part-attribute-end : tie.Need-part-attribute-end Inv-loop μ-loop
 part-attribute-end c = search needs
 
--- src/lib.rt:160:53
 attribute-requires : tie.Need-attribute-requires Inv-loop μ-loop
 attribute-requires c κs = search needs
 
--- src/lib.rt:160:32
 enum-known-code : tie.Need-enum-known-code Inv-loop μ-loop
 enum-known-code c = search needs
 
--- src/lib.rt:161:29
 enum-told : tie.Need-enum-told Inv-loop μ-loop
 enum-told c = search needs
 
--- src/lib.rt:161:13
 returns : tie.Need-returns Inv-loop μ-loop
 returns c =
     let at-loop = c .before .before .before .before in
@@ -73,41 +64,32 @@ stands c =
     let l = now (at-start c .args .l) in
     found l (at-loop c .loop .cursor .at) _ _ _ (call .result) (at-loop c .loop .inv .reached) (call .ensures) (at-answer c .code .given .1)
 
--- src/lib.rt:163:13
 slot-requires : tie.Need-slot-requires Inv-loop μ-loop
 slot-requires c κs = search needs
 
--- src/lib.rt:164:13
 slice-aggregate-put : tie.Need-slice-aggregate-put Inv-loop μ-loop
 slice-aggregate-put c = search needs
 
--- src/lib.rt:164:29
 add-put : tie.Need-add-put Inv-loop μ-loop
 add-put c = omega (arith, stands (c .before .before) .payload-inside)
 
--- src/lib.rt:164:9
 put-requires : tie.Need-put-requires Inv-loop μ-loop
 put-requires c κs = search needs
 
--- src/lib.rt:165:13
 slice-aggregate-put-2 : tie.Need-slice-aggregate-put-2 Inv-loop μ-loop
 slice-aggregate-put-2 c = search needs
 
--- src/lib.rt:165:9
 put-requires-2 : tie.Need-put-requires-2 Inv-loop μ-loop
 put-requires-2 c κs = search needs
 
--- src/lib.rt:166:9
 past-requires : tie.Need-past-requires Inv-loop μ-loop
 past-requires c κs = omega (arith, stands (c .before .before .before .before .before .before .before) .inside)
 
--- src/lib.rt:158:5
 loop-less : tie.Need-loop-less Inv-loop μ-loop
 loop-less c =
     let at-known = c .before .before .before .before .before .before .before .before in
     omega (arith, stands at-known .inside, stands at-known .ahead)
 
--- src/lib.rt:158:5
 loop-again : tie.Need-loop-again Inv-loop μ-loop
 loop-again c =
     let at-known = c .before .before .before .before .before .before .before .before in
