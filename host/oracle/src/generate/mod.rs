@@ -2,7 +2,9 @@
 pub mod calls;
 pub mod cases;
 pub mod damage;
+pub mod drafts;
 pub mod limits;
+pub mod messages;
 pub mod pools;
 pub mod requests;
 pub mod states;
