@@ -6,7 +6,7 @@
 //! in the order of the network.
 use crate::call::{ADD_ROUTE4_WORDS, ADD_V4_WORDS, Call, DEL_ROUTE4_WORDS, DEL_V4_WORDS, Reply};
 use crate::model::UNFIT_BUFFER;
-use crate::port::write_back;
+use crate::port::{Bytes, words as words_of, write_back};
 use crate::words;
 
 /// "204 under 16 bytes, or a length that passes the end or is below its
@@ -340,6 +340,25 @@ pub const REQUEST_BYTES: usize = 4 * DEL_ROUTE4_WORDS;
 pub trait Reader {
     fn name(&self) -> String;
     fn read(&mut self, message: &[u8], request: &mut [u8], up: u32) -> Reply;
+}
+
+/// The same on words, `interface4w_read`.
+pub trait WordReader {
+    fn name(&self) -> String;
+    fn read(&mut self, message: &[u8], request: &mut [u32], up: u32) -> Reply;
+}
+
+/// A reader on words met through bytes.
+impl<W: WordReader> Reader for Bytes<W> {
+    fn name(&self) -> String {
+        self.0.name()
+    }
+    fn read(&mut self, message: &[u8], request: &mut [u8], up: u32) -> Reply {
+        let mut words = words_of(request);
+        let reply = self.0.read(message, &mut words, up);
+        write_back(&words, request);
+        reply
+    }
 }
 
 /// What `interface4_read` does, by this reading of a message.

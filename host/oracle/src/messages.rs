@@ -7,17 +7,23 @@ use crate::generate::drafts::Draft;
 use crate::generate::messages::{DAMAGES, MessageCase, Messages, fields};
 use crate::message::{self, Message, Model, Reader, TYPES, cut, ifa, read, rta, text};
 use crate::message::{DEL_ADDRESS, DEL_ROUTE, NEW_ADDRESS, NEW_ROUTE, REQUEST_BYTES};
+use crate::model::model;
+use crate::script::Script;
 use std::collections::BTreeMap;
 
 /// `lo`, as a label's length and its words.
 const LO: [u32; 5] = [2, 0x6f6c, 0, 0, 0];
 const OWN: [u8; 4] = [10, 1, 0, 5];
+const NET: [u8; 4] = [11, 2, 0, 0];
+/// A request, to be created, that wants an answer.
+const CREATE: u16 = 0x405;
 const FOREVER: u32 = u32::MAX;
 
 /// Runs the checks by hand, `count` generated messages, and the faults.
 pub fn run(count: usize, seed: u64) -> bool {
     let parts = [
         checks::run("messages by hand", by_hand),
+        checks::run("messages and Linux", linux),
         reach(count, seed),
         selftest(count, seed),
     ];
@@ -140,7 +146,7 @@ fn routes(checks: &mut Checks) {
     checks.same("a route's deletion", read(&del, 1), Ok((25, words)));
 
     let metrics = |kind, metrics: &[(u16, &[u8])]| {
-        let read = read(&route(kind).with_metrics(metrics).bytes(), 0);
+        let read = read(&base(kind).with_metrics(metrics).bytes(), 0);
         read.map(|(_, words)| words[13..19].to_vec())
     };
     let four: &[u8] = &[1, 0, 0, 0];
@@ -155,7 +161,7 @@ fn routes(checks: &mut Checks) {
     let found = metrics(NEW_ROUTE, &[(0, b"any"), (17, &[9; 3]), (18, b"")]);
     checks.same("a wrong size beside it", found, Err(206));
 
-    let twice = route(NEW_ROUTE).with_metrics(&[(99, b"")]);
+    let twice = base(NEW_ROUTE).with_metrics(&[(99, b"")]);
     let twice = twice.with_metrics(&[(1, four)]).bytes();
     let last = read(&twice, 0).map(|(_, words)| words[15..17].to_vec());
     checks.same("the last list, its error too", last, Ok(vec![0, 1]));
@@ -174,8 +180,8 @@ fn lengths(checks: &mut Checks) {
     checks.same("a length of 15", says(own(0), 15), Err(204));
     checks.same("a length of 23", says(own(0), 23), Err(204));
     checks.same("a length of 24: no local", says(own(0), 24), Err(206));
-    checks.same("a route's of 27", says(route(NEW_ROUTE), 27), Err(204));
-    checks.same("a route's of 28", says(route(NEW_ROUTE), 28), Ok(()));
+    checks.same("a route's of 27", says(base(NEW_ROUTE), 27), Err(204));
+    checks.same("a route's of 28", says(base(NEW_ROUTE), 28), Ok(()));
     let other = Draft::new(16, 0, &[]);
     checks.same("another type, 16 bytes", number(&other.bytes()), Err(205));
     checks.same("another type, 15 said", says(other, 15), Err(204));
@@ -191,7 +197,7 @@ fn lengths(checks: &mut Checks) {
     checks.same("another family", number(&ipv6.bytes()), Err(205));
     ipv6.list.spare = vec![0; 4];
     checks.same("lengths before it", number(&ipv6.bytes()), Err(204));
-    let mut nested = route(DEL_ROUTE).with(rta::METRICS, &[7, 0, 1, 0, 0, 0]);
+    let mut nested = base(DEL_ROUTE).with(rta::METRICS, &[7, 0, 1, 0, 0, 0]);
     checks.same("a nested length", number(&nested.bytes()), Err(204));
     nested.kind = DEL_ADDRESS;
     nested.fixed.truncate(8);
@@ -240,13 +246,134 @@ fn labels(checks: &mut Checks) {
     checks.same("sixteen", label(b"0123456789abcdef"), Err(206));
 }
 
-/// A new address 10.1.0.5/24.
-fn own(flags: u16) -> Draft {
-    Draft::new(NEW_ADDRESS, flags, &[2, 24, 0, 0, 1, 0, 0, 0]).with(ifa::LOCAL, &OWN)
+/// The number by which a message is met where the device is up.
+fn performed(draft: &Draft) -> u32 {
+    let mut script = Script::default();
+    script.up(0);
+    let bytes = draft.bytes();
+    match read(&bytes, 1) {
+        Err(number) => number,
+        Ok((kind, request)) => {
+            let call = message::call(kind, request, 0);
+            let mut buffer = vec![0; call.buffer().least()];
+            model(&call, &mut script.state, &mut buffer).number
+        }
+    }
 }
 
-fn route(kind: u16) -> Draft {
-    Draft::new(kind, 0, &[2, 24, 0, 0, 254, 3, 253, 1, 0, 0, 0, 0])
+/// The entries of docs/DIFFERENCES.md on messages: this side.
+fn linux(checks: &mut Checks) {
+    devices(checks);
+    skipped(checks);
+    longer(checks);
+    lists(checks);
+    numbers(checks);
+}
+
+fn devices(checks: &mut Checks) {
+    for index in [0, 2] {
+        let mut other = own(CREATE);
+        other.fixed[4] = index;
+        checks.same("M1 another device", performed(&other), 0);
+    }
+    let no_request = own(CREATE & !1);
+    checks.same("M2 no request", performed(&no_request), 0);
+}
+
+fn skipped(checks: &mut Checks) {
+    let via = new_net().with(18, &[2, 0, 11, 1, 0, 1]);
+    checks.same("M3 a gateway as RTA_VIA", performed(&via), 0);
+    let mut hop = base(NEW_ROUTE).with(rta::DST, &NET);
+    hop.flags = CREATE;
+    let hop = hop.with(9, &[8, 0, 0, 0, 1, 0, 0, 0]);
+    checks.same("M3 RTA_MULTIPATH", performed(&hop), 19);
+    let broadcast = own(CREATE).with(ifa::BROADCAST, &[0; 4]);
+    let present = read(&broadcast.bytes(), 1).map(|(_, words)| words[3..5].to_vec());
+    checks.same("M4 broadcast 0.0.0.0", present, Ok(vec![1, 0]));
+    let mut gateway = new_net().with(rta::GATEWAY, &[0; 4]);
+    gateway.fixed[6] = 0;
+    checks.same("M4 gateway 0.0.0.0", performed(&gateway), 101);
+    let prefsrc = new_net().with(rta::PREFSRC, &[0; 4]);
+    checks.same("M4 prefsrc 0.0.0.0", performed(&prefsrc), 22);
+}
+
+fn longer(checks: &mut Checks) {
+    let local = base(NEW_ADDRESS).with(ifa::LOCAL, b"\x0a\x01\x00\x05x");
+    checks.same("M5 a local of five bytes", performed(&local), 206);
+    let dst = new_net().with(rta::DST, &[NET, NET].concat());
+    checks.same("M5 a destination of eight", performed(&dst), 206);
+    let named = |name: &[u8]| new_net().with_metrics(&[(16, name)]);
+    checks.same("M6 a metric's name", performed(&named(b"cubic")), 206);
+    let number = read(&named(b"reno").bytes(), 1).map(|(_, words)| words[31]);
+    checks.same("M6 a name of four bytes", number, Ok(0x6f6e_6572));
+    let labelled = |label: &[u8]| performed(&own(CREATE).with(ifa::LABEL, label));
+    let long = labelled(b"lo\0and twenty bytes more");
+    checks.same("M7 bytes behind a label's zero", long, 0);
+    checks.same("M7 an empty label", labelled(b""), 0);
+}
+
+fn lists(checks: &mut Checks) {
+    let mut zeros = own(CREATE);
+    zeros.list.spare = vec![0; 8];
+    checks.same("M8 zeros at the end", performed(&zeros), 204);
+    let mut past = own(CREATE).with(ifa::BROADCAST, &OWN);
+    past.list.attributes[1].length = Some(40);
+    checks.same("M8 a length past the end", performed(&past), 204);
+    let nested = new_net().with(rta::METRICS, &[8, 0, 2, 0, 0, 4, 0, 0, 0, 0, 0, 0]);
+    checks.same("M8 nested zeros", performed(&nested), 204);
+    let twice = new_net().with_metrics(&[(2, b"abc")]);
+    let twice = twice.with_metrics(&[(2, &[0; 4])]);
+    checks.same("M9 an earlier list", performed(&twice), 206);
+    let del = Draft {
+        kind: DEL_ADDRESS,
+        ..own(0).with(ifa::BROADCAST, b"ab")
+    };
+    checks.same("M10 what a deletion skips", performed(&del), 99);
+}
+
+fn numbers(checks: &mut Checks) {
+    let local = |value| performed(&base(NEW_ADDRESS).with(ifa::LOCAL, value));
+    checks.same("M11 a local of three bytes", local(&[0; 3]), 206);
+    checks.same("M11 no local", performed(&base(NEW_ADDRESS)), 206);
+    let metric = new_net().with_metrics(&[(2, b"abc")]);
+    checks.same("M11 a metric of three bytes", performed(&metric), 206);
+    for length in [20, 200] {
+        let short = Draft {
+            length: Some(length),
+            ..own(CREATE)
+        };
+        checks.same("M11 the header's length", performed(&short), 204);
+    }
+    let other = Draft {
+        kind: 99,
+        ..own(CREATE)
+    };
+    checks.same("M11 another type", performed(&other), 205);
+    let mut family = own(CREATE);
+    family.fixed[0] = 0;
+    checks.same("M11 another family", performed(&family), 205);
+}
+
+/// A new address 10.1.0.5/24.
+fn own(flags: u16) -> Draft {
+    let base = base(NEW_ADDRESS);
+    Draft { flags, ..base }.with(ifa::LOCAL, &OWN)
+}
+
+/// A route 11.2.0.0/24 to be created.
+fn new_net() -> Draft {
+    let route = base(NEW_ROUTE).with(rta::DST, &NET);
+    let flags = CREATE;
+    Draft { flags, ..route }.with(rta::OIF, &[1, 0, 0, 0])
+}
+
+/// A message of a type without attributes.
+fn base(kind: u16) -> Draft {
+    if kind <= DEL_ADDRESS {
+        Draft::new(kind, 0, &[2, 24, 0, 0, 1, 0, 0, 0])
+    } else {
+        Draft::new(kind, 0, &[2, 24, 0, 0, 254, 3, 253, 1, 0, 0, 0, 0])
+    }
 }
 
 /// Every code with every size, as the only attribute beside a local
@@ -257,7 +384,7 @@ pub fn every_size() -> Vec<(Vec<u8>, u32)> {
         let base = if kind <= DEL_ADDRESS {
             own(0)
         } else {
-            route(kind)
+            base(kind)
         };
         let base = Draft { kind, ..base };
         for code in (0..40).chain([255, message::CODE]) {
@@ -296,7 +423,7 @@ pub fn every_length() -> Vec<Vec<u8>> {
         let mut draft = if kind <= DEL_ADDRESS {
             own(0).with(ifa::LABEL, b"lo:1\0").with(ifa::ADDRESS, &OWN)
         } else {
-            let draft = route(kind).with(rta::DST, &[10, 2, 0, 0]);
+            let draft = base(kind).with(rta::DST, &[10, 2, 0, 0]);
             draft.with_metrics(&[(2, &[1; 4]), (0, b"five!"), (1, &[2; 4])])
         };
         draft.kind = kind;
@@ -316,6 +443,27 @@ pub fn every_length() -> Vec<Vec<u8>> {
                 other[at] = byte;
                 all.push(other);
             }
+        }
+    }
+    all
+}
+
+/// Cases for readers to be compared on, beside generated ones: every size,
+/// every length, and a request of every length around the least.
+pub fn swept() -> Vec<MessageCase> {
+    let sizes = every_size().into_iter().map(|(message, _)| message);
+    let mut all: Vec<MessageCase> = sizes.chain(every_length()).map(MessageCase::new).collect();
+    for kind in TYPES {
+        let base = if kind <= DEL_ADDRESS {
+            own(0)
+        } else {
+            base(kind)
+        };
+        let message = Draft { kind, ..base }.bytes();
+        for length in 0..=REQUEST_BYTES + 8 {
+            let mut case = MessageCase::new(message.clone());
+            case.request = vec![0xe1; length];
+            all.push(case);
         }
     }
     all

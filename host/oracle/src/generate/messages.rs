@@ -411,6 +411,21 @@ pub struct MessageCase {
     pub made_of: (u16, Vec<u32>),
 }
 
+impl MessageCase {
+    /// A message that comes while the device is up, on the empty state.
+    pub fn new(message: Vec<u8>) -> Self {
+        Self {
+            message,
+            request: vec![0xe1; REQUEST_BYTES],
+            up: 1,
+            state: words::empty(),
+            now: 0,
+            damage: Vec::new(),
+            made_of: (0, Vec::new()),
+        }
+    }
+}
+
 /// An endless stream of messages. What is read goes on to the state.
 pub struct Messages {
     rng: Rng,
