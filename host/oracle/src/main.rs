@@ -23,6 +23,7 @@ const USAGE: &str = "usage: oracle COMMAND
                          of each call must be in it
   cases N SEED [--large PERCENT]
                          prints N random cases as JSON lines
+  message-cases N SEED   prints N random messages as JSON lines
   all                    all of examples, linux, rfc, facts, document,
                          generator, pairs, messages, selftest, and a list of
                          answers replayed";
@@ -46,7 +47,7 @@ fn main() -> ExitCode {
 
 fn command(arguments: &[String]) -> Result<bool, String> {
     let (name, rest) = arguments.split_first().ok_or(USAGE)?;
-    if name != "cases" {
+    if !name.ends_with("cases") {
         println!("interface.rs: sha256 {}", reference::INTERFACE_SHA256);
     }
     let most = |n: usize| {
@@ -100,6 +101,13 @@ fn command(arguments: &[String]) -> Result<bool, String> {
             replayed(&oracle::port::words(&data))
         }
         "cases" => cases(rest),
+        "message-cases" => match rest {
+            [_, _] => {
+                json::messages(number(rest, 0, 0)?, number(rest, 1, SEED)?);
+                Ok(true)
+            }
+            _ => Err(USAGE.to_string()),
+        },
         "all" => most(0).and_then(|()| all()),
         _ => Err(USAGE.to_string()),
     }
