@@ -173,7 +173,7 @@ fn stands(rng: &mut Rng, must: bool) -> bool {
     must || rng.one_in(3)
 }
 
-fn any_bytes(rng: &mut Rng, count: usize) -> Vec<u8> {
+pub fn any_bytes(rng: &mut Rng, count: usize) -> Vec<u8> {
     (0..count).map(|_| rng.draw() as u8).collect()
 }
 
