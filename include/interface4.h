@@ -10,13 +10,12 @@
  *
  * What is lent. A slice is a pointer and a length in elements: words for
  * interface4w_*, bytes for interface4_* (a message is bytes for both). The
- * pointer is never NULL, not even
- * for a length of 0. Words stand at a multiple of 4; bytes anywhere. The
- * caller keeps all of it: nothing is kept past the call, freed or allocated.
- * Through a pointer to const nothing is written, and elsewhere nothing
- * outside the length. No two slices of one call may overlap, and nobody else
- * may write them meanwhile. These are the only demands: any length and any
- * words in them are answered, if need be with a refusal.
+ * pointer is never NULL, not even for a length of 0. Words stand at a multiple
+ * of 4; bytes anywhere. The caller keeps all of it: nothing is kept past the
+ * call, freed or allocated. Through a pointer to const nothing is written, and
+ * elsewhere nothing outside the length. No two slices of one call may overlap,
+ * and nobody else may write them meanwhile. These are the only demands: any
+ * length and any words in them are answered, if need be with a refusal.
  *
  * Re-entrancy. A call is a function of what it is lent and writes nothing
  * else: no globals, no clock, no input or output. So calls on different

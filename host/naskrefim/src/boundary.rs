@@ -9,8 +9,8 @@
 
 use crate::Refused;
 
-/// What every call replies: `number` is 0, or document 01's number of the
-/// refusal, and then the rest is 0.
+/// What every call replies: `number` is 0, or the number of the refusal, and
+/// then the rest is 0.
 #[repr(C)]
 #[derive(Clone, Copy, Debug, Default, PartialEq, Eq, Hash)]
 pub struct Reply {

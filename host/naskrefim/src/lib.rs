@@ -3,7 +3,7 @@
 //! The code behind it is a static library in which every function is proved
 //! to meet its contract; this crate is the way in from Rust. [`Addresses`]
 //! is what a host wants: it has the names and types of paludarium's
-//! `Addresses`, and refusals are document 01's numbers ([`Refused`]).
+//! `Addresses`, and refusals are the documents' numbers ([`Refused`]).
 //! [`words`] and [`bytes`] are the calls as the library has them, on lent
 //! slices, for hosts that keep the state elsewhere. [`Request`] is what an
 //! rtnetlink message asks for, as it comes off the socket, and
