@@ -5,7 +5,6 @@ use netlink_attributes::First;
 ghost use mathlib.Core.Path.{_≡_};
 ghost use mathlib.Core.Bool.{cond, _&&_, _||_, not};
 ghost use Prim.Native.Nat.{_+_, _*_, _≤_, _<_};
-ghost use lib.Dec.{eqb};
 ghost use lib.ListN.{length};
 ghost use Rattle.lists.specs.Lists.{all};
 ghost use Rattle.netlink.specs.Attributes.{attributes, last};
@@ -78,13 +77,17 @@ pub fn attributes_at(t: usize) -> usize
 
 // ---- lengths, type, family
 
-fn family(b: u8) -> u32
-    ensures { λ r. ⌜ r ≡ cond (eqb b 2) 0 205 ⌝ }
+// The lengths, then the family.
+fn judged(lengths: bool, ours: bool) -> u32
+    ensures { λ r. ⌜ r ≡ cond lengths (cond ours 0 205) 204 ⌝ }
 {
-    if b == codes::AF_INET {
-        return 0;
+    if lengths {
+        if ours {
+            return 0;
+        }
+        return codes::OTHER_TYPE;
     }
-    codes::OTHER_TYPE
+    codes::BAD_LENGTH
 }
 
 // The lengths behind ifaddrmsg, then the family.
@@ -95,10 +98,8 @@ fn address_refusal(m: &[u8], n: usize) -> u32
     if n < codes::ADDRESS_ATTRIBUTES_AT {
         return codes::BAD_LENGTH;
     }
-    if netlink_attributes::right(&m[codes::ADDRESS_ATTRIBUTES_AT..n]) {
-        return family(m[codes::HEADER]);
-    }
-    codes::BAD_LENGTH
+    let lengths = netlink_attributes::right(&m[codes::ADDRESS_ATTRIBUTES_AT..n]);
+    judged(lengths, m[codes::HEADER] == codes::AF_INET)
 }
 
 // The lengths behind rtmsg, then the family.
@@ -109,10 +110,8 @@ fn route_refusal(m: &[u8], n: usize) -> u32
     if n < codes::ROUTE_ATTRIBUTES_AT {
         return codes::BAD_LENGTH;
     }
-    if netlink_attributes::right_nested(&m[codes::ROUTE_ATTRIBUTES_AT..n]) {
-        return family(m[codes::HEADER]);
-    }
-    codes::BAD_LENGTH
+    let lengths = netlink_attributes::right_nested(&m[codes::ROUTE_ATTRIBUTES_AT..n]);
+    judged(lengths, m[codes::HEADER] == codes::AF_INET)
 }
 
 // Lengths, type and family: 204, 205, or 0.
