@@ -164,43 +164,45 @@ fn label_sized(code: usize, p: &[u8]) -> bool
     true
 }
 
+// An attribute of one code has its size, and what is asked of other codes holds.
+fn asked(is: bool, sized: bool, others: bool) -> bool
+    ensures { λ r. ⌜ r ≡ (not is || sized) && others ⌝ }
+{
+    if is {
+        if sized {
+            return others;
+        }
+        return false;
+    }
+    others
+}
+
 fn sized_new_addr(code: usize, p: &[u8]) -> bool
     ensures { λ r. ⌜ r ≡ sizedIn 20 (record { code = code; payload = now (p .entry) }) ⌝ }
 {
     let n = p.len();
     let four = n == 4;
-    let last = both(
-        unless(code == codes::IFA_FLAGS, four),
-        both(unless(code == codes::IFA_RT_PRIORITY, four), true),
+    let priority = asked(code == codes::IFA_RT_PRIORITY, four, true);
+    let flags = asked(code == codes::IFA_FLAGS, four, priority);
+    let broadcast = asked(code == codes::IFA_BROADCAST, four, flags);
+    let local = asked(code == codes::IFA_LOCAL, four, broadcast);
+    let address = asked(code == codes::IFA_ADDRESS, four, local);
+    let proto = asked(code == codes::IFA_PROTO, n == 1, address);
+    let cacheinfo = asked(
+        code == codes::IFA_CACHEINFO,
+        n == codes::CACHEINFO_BYTES,
+        proto,
     );
-    let middle = both(
-        unless(code == codes::IFA_LOCAL, four),
-        both(unless(code == codes::IFA_BROADCAST, four), last),
-    );
-    let front = both(
-        unless(code == codes::IFA_PROTO, n == 1),
-        both(unless(code == codes::IFA_ADDRESS, four), middle),
-    );
-    both(
-        both(
-            unless(code == codes::IFA_CACHEINFO, n == codes::CACHEINFO_BYTES),
-            front,
-        ),
-        label_sized(code, p),
-    )
+    both(cacheinfo, label_sized(code, p))
 }
 
 fn sized_del_addr(code: usize, p: &[u8]) -> bool
     ensures { λ r. ⌜ r ≡ sizedIn 21 (record { code = code; payload = now (p .entry) }) ⌝ }
 {
     let four = p.len() == 4;
-    both(
-        both(
-            unless(code == codes::IFA_ADDRESS, four),
-            both(unless(code == codes::IFA_LOCAL, four), true),
-        ),
-        label_sized(code, p),
-    )
+    let local = asked(code == codes::IFA_LOCAL, four, true);
+    let address = asked(code == codes::IFA_ADDRESS, four, local);
+    both(address, label_sized(code, p))
 }
 
 // A type from 1 to 17 has four bytes.
@@ -243,21 +245,13 @@ fn sized_route(code: usize, p: &[u8]) -> bool
     ensures { λ r. ⌜ r ≡ sizedIn 24 (record { code = code; payload = now (p .entry) }) ⌝ }
 {
     let four = p.len() == 4;
-    let last = both(
-        unless(code == codes::RTA_PREFSRC, four),
-        both(unless(code == codes::RTA_TABLE, four), true),
-    );
-    let middle = both(
-        unless(code == codes::RTA_GATEWAY, four),
-        both(unless(code == codes::RTA_PRIORITY, four), last),
-    );
-    both(
-        both(
-            unless(code == codes::RTA_DST, four),
-            both(unless(code == codes::RTA_OIF, four), middle),
-        ),
-        nested_sized(code, p),
-    )
+    let table = asked(code == codes::RTA_TABLE, four, true);
+    let prefsrc = asked(code == codes::RTA_PREFSRC, four, table);
+    let priority = asked(code == codes::RTA_PRIORITY, four, prefsrc);
+    let gateway = asked(code == codes::RTA_GATEWAY, four, priority);
+    let oif = asked(code == codes::RTA_OIF, four, gateway);
+    let dst = asked(code == codes::RTA_DST, four, oif);
+    both(dst, nested_sized(code, p))
 }
 
 fn sized_in(t: usize, code: usize, p: &[u8]) -> bool
