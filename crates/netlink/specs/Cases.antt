@@ -42,3 +42,12 @@ locked-read = refl
 gone-read : read 1 (gone) ≡ asked 25 (254 ∷ 169148416 ∷ 16 ∷ 0 ∷ 10 ∷ 0 ∷ 0 ∷ 255 ∷ 0 ∷ 0 ∷ 0 ∷ 0 ∷ 0 ∷ 1 ∷ 0 ∷ 0 ∷ 0 ∷ 0 ∷ 0 ∷ 0 ∷ 0 ∷ 0 ∷ 0 ∷ 0 ∷ 0 ∷ 0 ∷ 0 ∷ 0 ∷ 0 ∷ 0 ∷ 0 ∷ 0 ∷ 0 ∷ 0 ∷ 0 ∷ 0 ∷ 0 ∷ 0 ∷ 0 ∷ 0 ∷ 0 ∷ 0 ∷ 0 ∷ 0 ∷ 0 ∷ 0 ∷ 0 ∷ 0 ∷ 0 ∷ [])
 unfolding computing gone
 gone-read = refl
+
+-- the first of them with an attribute that has no field (10, of two bytes) before its label
+extra : List ℕ
+extra = 64 ∷ 0 ∷ 0 ∷ 0 ∷ 20 ∷ 0 ∷ 5 ∷ 6 ∷ 192 ∷ 18 ∷ 250 ∷ 106 ∷ 0 ∷ 0 ∷ 0 ∷ 0 ∷ 2 ∷ 24 ∷ 0 ∷ 253 ∷ 1 ∷ 0 ∷ 0 ∷ 0 ∷ 8 ∷ 0 ∷ 2 ∷ 0 ∷ 10 ∷ 6 ∷ 0 ∷ 1
+    ∷ 6 ∷ 0 ∷ 10 ∷ 0 ∷ 7 ∷ 7 ∷ 0 ∷ 0 ∷ 13 ∷ 0 ∷ 3 ∷ 0 ∷ 108 ∷ 111 ∷ 58 ∷ 97 ∷ 108 ∷ 105 ∷ 97 ∷ 115 ∷ 0 ∷ 0 ∷ 0 ∷ 0 ∷ 8 ∷ 0 ∷ 1 ∷ 0 ∷ 10 ∷ 6 ∷ 0 ∷ 1 ∷ []
+
+extra-read : read 1 extra ≡ read 1 aliased
+unfolding computing extra aliased
+extra-read = refl

@@ -20,11 +20,12 @@ use Rattle.netlink.specs.Reader.{Answer, refused, asked, messageLength, 
 use Rattle.netlink.specs.Reader.{headed, body, nestedRight, lengths, sizedIn, given, sizes, request, shapeRefusal, refusal, read}
 
 -- ---- the reasons
--- what stands behind the last whole attribute is a header whose length is below its four bytes or passes the end
+-- the bytes begin with an attribute's header, whose length is below its four bytes or passes the end
 pub data BadAttribute (l : List ℕ) : Type 0 where
   below-header : 4 ≤ length l → u16 l 0 < 4 → BadAttribute l
   past-end : 4 ≤ length l → length l < u16 l 0 → BadAttribute l
 
+-- the bytes behind the last whole attribute
 abbrev pub spare : List ℕ → List ℕ
 spare l = parsed l .spare
 
@@ -34,9 +35,10 @@ known t = isAddress t || isRoute t
 
 pub data BadLength (m : List ℕ) : Type 0 where
   short : length m < 16 → BadLength m
+  -- the header's own: below the header, or past the end
   below : messageLength m < 16 → BadLength m
   past : length m < messageLength m → BadLength m
-  -- below ifaddrmsg's or rtmsg's end
+  -- below the end of ifaddrmsg or rtmsg
   family-header : known (messageType m) ≡ true → messageLength m < attributesAt (messageType m) → BadLength m
   attribute : known (messageType m) ≡ true → BadAttribute (spare (body m)) → BadLength m
   -- inside a route's metrics

@@ -5,7 +5,6 @@ use netlink_attributes::First;
 ghost use mathlib.Core.Path.{_≡_};
 ghost use mathlib.Core.Bool.{cond, _&&_, _||_, not};
 ghost use Prim.Native.Nat.{_+_, _*_, _≤_, _<_};
-ghost use lib.Dec.{eqb};
 ghost use lib.ListN.{length};
 ghost use Rattle.lists.specs.Lists.{all};
 ghost use Rattle.netlink.specs.Attributes.{attributes, last};
@@ -78,13 +77,17 @@ pub fn attributes_at(t: usize) -> usize
 
 // ---- lengths, type, family
 
-fn family(b: u8) -> u32
-    ensures { λ r. ⌜ r ≡ cond (eqb b 2) 0 205 ⌝ }
+// The lengths, then the family.
+fn judged(lengths: bool, ours: bool) -> u32
+    ensures { λ r. ⌜ r ≡ cond lengths (cond ours 0 205) 204 ⌝ }
 {
-    if b == codes::AF_INET {
-        return 0;
+    if lengths {
+        if ours {
+            return 0;
+        }
+        return codes::OTHER_TYPE;
     }
-    codes::OTHER_TYPE
+    codes::BAD_LENGTH
 }
 
 // The lengths behind ifaddrmsg, then the family.
@@ -95,10 +98,8 @@ fn address_refusal(m: &[u8], n: usize) -> u32
     if n < codes::ADDRESS_ATTRIBUTES_AT {
         return codes::BAD_LENGTH;
     }
-    if netlink_attributes::right(&m[codes::ADDRESS_ATTRIBUTES_AT..n]) {
-        return family(m[codes::HEADER]);
-    }
-    codes::BAD_LENGTH
+    let lengths = netlink_attributes::right(&m[codes::ADDRESS_ATTRIBUTES_AT..n]);
+    judged(lengths, m[codes::HEADER] == codes::AF_INET)
 }
 
 // The lengths behind rtmsg, then the family.
@@ -109,10 +110,8 @@ fn route_refusal(m: &[u8], n: usize) -> u32
     if n < codes::ROUTE_ATTRIBUTES_AT {
         return codes::BAD_LENGTH;
     }
-    if netlink_attributes::right_nested(&m[codes::ROUTE_ATTRIBUTES_AT..n]) {
-        return family(m[codes::HEADER]);
-    }
-    codes::BAD_LENGTH
+    let lengths = netlink_attributes::right_nested(&m[codes::ROUTE_ATTRIBUTES_AT..n]);
+    judged(lengths, m[codes::HEADER] == codes::AF_INET)
 }
 
 // Lengths, type and family: 204, 205, or 0.
@@ -165,43 +164,45 @@ fn label_sized(code: usize, p: &[u8]) -> bool
     true
 }
 
+// An attribute of one code has its size, and what is asked of other codes holds.
+fn asked(is: bool, sized: bool, others: bool) -> bool
+    ensures { λ r. ⌜ r ≡ (not is || sized) && others ⌝ }
+{
+    if is {
+        if sized {
+            return others;
+        }
+        return false;
+    }
+    others
+}
+
 fn sized_new_addr(code: usize, p: &[u8]) -> bool
     ensures { λ r. ⌜ r ≡ sizedIn 20 (record { code = code; payload = now (p .entry) }) ⌝ }
 {
     let n = p.len();
     let four = n == 4;
-    let last = both(
-        unless(code == codes::IFA_FLAGS, four),
-        both(unless(code == codes::IFA_RT_PRIORITY, four), true),
+    let priority = asked(code == codes::IFA_RT_PRIORITY, four, true);
+    let flags = asked(code == codes::IFA_FLAGS, four, priority);
+    let broadcast = asked(code == codes::IFA_BROADCAST, four, flags);
+    let local = asked(code == codes::IFA_LOCAL, four, broadcast);
+    let address = asked(code == codes::IFA_ADDRESS, four, local);
+    let proto = asked(code == codes::IFA_PROTO, n == 1, address);
+    let cacheinfo = asked(
+        code == codes::IFA_CACHEINFO,
+        n == codes::CACHEINFO_BYTES,
+        proto,
     );
-    let middle = both(
-        unless(code == codes::IFA_LOCAL, four),
-        both(unless(code == codes::IFA_BROADCAST, four), last),
-    );
-    let front = both(
-        unless(code == codes::IFA_PROTO, n == 1),
-        both(unless(code == codes::IFA_ADDRESS, four), middle),
-    );
-    both(
-        both(
-            unless(code == codes::IFA_CACHEINFO, n == codes::CACHEINFO_BYTES),
-            front,
-        ),
-        label_sized(code, p),
-    )
+    both(cacheinfo, label_sized(code, p))
 }
 
 fn sized_del_addr(code: usize, p: &[u8]) -> bool
     ensures { λ r. ⌜ r ≡ sizedIn 21 (record { code = code; payload = now (p .entry) }) ⌝ }
 {
     let four = p.len() == 4;
-    both(
-        both(
-            unless(code == codes::IFA_ADDRESS, four),
-            both(unless(code == codes::IFA_LOCAL, four), true),
-        ),
-        label_sized(code, p),
-    )
+    let local = asked(code == codes::IFA_LOCAL, four, true);
+    let address = asked(code == codes::IFA_ADDRESS, four, local);
+    both(address, label_sized(code, p))
 }
 
 // A type from 1 to 17 has four bytes.
@@ -244,21 +245,13 @@ fn sized_route(code: usize, p: &[u8]) -> bool
     ensures { λ r. ⌜ r ≡ sizedIn 24 (record { code = code; payload = now (p .entry) }) ⌝ }
 {
     let four = p.len() == 4;
-    let last = both(
-        unless(code == codes::RTA_PREFSRC, four),
-        both(unless(code == codes::RTA_TABLE, four), true),
-    );
-    let middle = both(
-        unless(code == codes::RTA_GATEWAY, four),
-        both(unless(code == codes::RTA_PRIORITY, four), last),
-    );
-    both(
-        both(
-            unless(code == codes::RTA_DST, four),
-            both(unless(code == codes::RTA_OIF, four), middle),
-        ),
-        nested_sized(code, p),
-    )
+    let table = asked(code == codes::RTA_TABLE, four, true);
+    let prefsrc = asked(code == codes::RTA_PREFSRC, four, table);
+    let priority = asked(code == codes::RTA_PRIORITY, four, prefsrc);
+    let gateway = asked(code == codes::RTA_GATEWAY, four, priority);
+    let oif = asked(code == codes::RTA_OIF, four, gateway);
+    let dst = asked(code == codes::RTA_DST, four, oif);
+    both(dst, nested_sized(code, p))
 }
 
 fn sized_in(t: usize, code: usize, p: &[u8]) -> bool

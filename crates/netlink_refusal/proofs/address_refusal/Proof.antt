@@ -1,5 +1,4 @@
 use borrow.Author.Needs.{needs}
-use mathlib.Core.Path.{sym, _∙_}
 use borrow.Author.Tests.{le-leb, lt-leb}
 use Rattle.netlink_refusal.proofs.address_refusal.Statement.{statement}
 use Rattle.netlink_refusal.proofs.address_refusal.Tie as tie
@@ -16,22 +15,16 @@ part-right-end c = search needs
 right-requires : tie.Need-right-requires
 right-requires c κs = search needs
 
-shared-slice-read-family : tie.Need-shared-slice-read-family
-shared-slice-read-family c = search needs
+shared-slice-read-judged : tie.Need-shared-slice-read-judged
+shared-slice-read-judged c = search needs
 
-family-requires : tie.Need-family-requires
-family-requires c κs = search needs
+judged-requires : tie.Need-judged-requires
+judged-requires c κs = search needs
 
 returns-2 : tie.Need-returns-2
 returns-2 c =
-    let at-long = c .before .before .before .before .before in
-    let lengths = sym (c .before .before .before .right .ensures) ∙ c .before .before .if2 .taken in
-    rw (le-leb 24 _ (at-long .if1 .left), lengths) (c .family .ensures)
-
-returns-3 : tie.Need-returns-3
-returns-3 c =
-    let at-long = c .before .before .before in
-    rw (le-leb 24 _ (at-long .if1 .left), sym (c .before .right .ensures) ∙ c .if2 .left)
+    let at-long = c .before .before .before .before in
+    rw (le-leb 24 _ (at-long .if1 .left), ← c .before .before .right .ensures) (c .judged .ensures)
 
 pub address-refusal-spec : {M : Type 1} → statement M
 address-refusal-spec =
@@ -41,7 +34,6 @@ address-refusal-spec =
     part-right-start
     part-right-end
     right-requires
-    shared-slice-read-family
-    family-requires
-    returns-2
-    returns-3)
+    shared-slice-read-judged
+    judged-requires
+    returns-2)
