@@ -1,12 +1,11 @@
 -- Attributes in a list of bytes, as netlink(7) lays them out: two bytes of length with the header's four, two bytes of code, the
 -- payload, and padding up to a multiple of four. Numbers stand with the lowest byte first.
 use Prim.Native.Nat.{ℕ, zero, suc, _+_, _-_, _*_, _/_, _%_}
-use mathlib.Core.Bool.{Bool, true, false, cond, _&&_, _||_, not}
-use mathlib.Core.List.{List, [], _∷_, _++_}
+use mathlib.Core.Bool.{Bool, cond, _&&_}
+use mathlib.Core.List.{List, [], _∷_}
 use mathlib.Core.Option.{Option, none, some}
 use lib.Dec.{eqb, leb, ltb}
 use lib.ListN.{length, getD, take, drop}
-use Rattle.lists.specs.Lists.{all, each, pairwise, zeros}
 
 pub record Attribute : Type 0 where
   pub code : ℕ

@@ -1,12 +1,11 @@
 -- Messages that `ip` sends, read off the socket.
 use Prim.Native.Nat.{ℕ}
 use mathlib.Core.Path.{_≡_, refl}
-use mathlib.Core.List.{List, [], _∷_, _++_}
-use mathlib.Core.Option.{Option, none, some}
+use mathlib.Core.List.{List, [], _∷_}
 use Rattle.lists.specs.Lists.{zeros, pad}
 use Rattle.layout.specs.Flags.{hasBit}
 use Rattle.netlink.specs.Attributes.{whole, first, parsedFrom, lastAfter}
-use Rattle.netlink.specs.Reader.{Answer, refused, asked, headed, lengths, sizes, newAddr, delAddr, newRoute, delRoute, metricsAsked, pairsAsked, request, shapeRefusal, refusal, read}
+use Rattle.netlink.specs.Reader.{asked, headed, lengths, sizes, newAddr, delAddr, newRoute, delRoute, metricsAsked, pairsAsked, request, shapeRefusal, refusal, read}
 
 unfoldable pub computing : Unit {0}
 unfolding zeros pad hasBit whole first parsedFrom lastAfter headed lengths sizes newAddr delAddr newRoute delRoute metricsAsked pairsAsked request shapeRefusal refusal read

@@ -1,19 +1,15 @@
 -- Laws of attributes: one after the other, written and read back, the last of a code.
 -- Assumes nothing.
-use Prim.Native.Nat.{ℕ, zero, suc, _+_, _-_, _*_, _/_, _%_, _≤_, _<_}
-use mathlib.Core.Path.{_≡_, refl, sym, ap, _∙_}
-use mathlib.Core.Bool.{Bool, true, false, cond, _&&_, _||_, not}
-use mathlib.Core.List.{List, [], _∷_, _++_, append-assoc, append-nil}
-use mathlib.Core.Option.{Option, none, some}
+use Prim.Native.Nat.{ℕ, zero, suc, _-_, _≤_}
+use mathlib.Core.Path.{_≡_, refl, ap, _∙_}
+use mathlib.Core.Bool.{true, false}
+use mathlib.Core.List.{List, [], _∷_}
 use native.Mathlib.Omega.{arith}
-use lib.Dec.{eqb, leb, ltb}
-use lib.ListN.{length, getD, take, drop, length-append, length-drop}
-use lib.Seq.{drop-nil, drop-at, take-at, getD-drop, drop-drop}
-use borrow.Author.Tests.{leb-true, le-leb, ltb-true, eqb-true, eq-eqb, ne-eqb}
-use Rattle.lists.specs.Lists.{all, each, pairwise, zeros}
-use Rattle.lists.specs.Rows.{length-zeros}
-use Rattle.lists.specs.Bools.{and-left, and-right, and-both, test-case, cond-true, cond-false}
-use Rattle.netlink.specs.Attributes.{Attribute, Parsed, u16, padded, whole, first, more, parsedFrom, parsed, attributes, right}
+use lib.Dec.{leb}
+use lib.ListN.{length, drop}
+use borrow.Author.Tests.{leb-true, le-leb}
+use Rattle.lists.specs.Bools.{and-left, and-right, and-both}
+use Rattle.netlink.specs.Attributes.{Parsed, u16, padded, whole, first, more, parsedFrom, parsed, attributes}
 
 -- ---- one attribute after the other
 parsed-further : (k : ℕ) (l : List ℕ) → parsedFrom k l ≡ parsed (drop k l)

@@ -1,30 +1,31 @@
 -- Laws of what the functions of the attributes answer.
 -- Assumes nothing.
-use Prim.Native.Nat.{ℕ, zero, suc, _+_, _-_, _*_, _/_, _%_, _≤_, _<_, min}
-use mathlib.Core.Path.{_≡_, refl, sym, ap, _∙_}
-use mathlib.Core.Bool.{Bool, true, false, cond, _&&_, _||_, not, and-true}
-use mathlib.Core.List.{List, [], _∷_, _++_}
-use mathlib.Core.Option.{Option, none, some}
+use Prim.Native.Nat.{ℕ, _+_, _-_, _%_, _≤_, min}
+use mathlib.Core.Path.{_≡_, sym, ap, _∙_}
+use mathlib.Core.Bool.{Bool, true, false, _&&_, and-true}
+use mathlib.Core.List.{List, []}
 use native.Mathlib.Omega.{arith}
-use lib.Dec.{eqb, leb, ltb}
-use lib.ListN.{length, getD, take, drop, length-drop, drop-of-length-le}
+use lib.Dec.{leb, ltb}
+use lib.ListN.{length, take, drop, length-drop, drop-of-length-le}
 use lib.Seq.{take-all, drop-drop}
 use borrow.Author.Tests.{leb-true, leb-false}
 use Rattle.lists.specs.Lists.{all}
 use Rattle.lists.specs.Bools.{fails, test-case}
 use Rattle.netlink_attributes.specs.declared.First as F
 use Rattle.netlink_attributes.specs.declared.First.the-variants as Is
-use Rattle.netlink.specs.Attributes.{Attribute, Parsed, u16, padded, whole, first, more, parsedFrom, parsed, attributes, right}
+use Rattle.netlink.specs.Attributes.{Attribute, Parsed, u16, padded, whole, first, more, parsed, attributes, right}
 use Rattle.netlink.specs.Laws.{four, within, is-whole, parsed-more, parsed-end}
+use Rattle.netlink.specs.Order.{and-swap}
 use Rattle.netlink.specs.Reader.{nestedRight}
-use Rattle.netlink_attributes.specs.Steps.{pickFirst, firstOf, rightNested}
+use Rattle.netlink_attributes.specs.Steps.{firstOf, rightNested}
 
 -- ---- what begins some bytes
 pub nothing : (l : List ℕ) → (4 ≤ u16 l 0 → u16 l 0 ≤ length l → ⊥) → Is.Nothing ≡ firstOf l
 unfolding firstOf
 nothing l h = rw (fails (whole l) (λ w. h (four l w) (within l w)))
 
-pub begins : (l : List ℕ) (size code next : ℕ) → 4 ≤ u16 l 0 → u16 l 0 ≤ length l → code ≡ u16 l 2 % 16384 → size ≡ u16 l 0 - 4 → next ≡ min (padded (u16 l 0)) (length l) → Is.Attribute code size next ≡ firstOf l
+pub begins : (l : List ℕ) (size code next : ℕ) → 4 ≤ u16 l 0 → u16 l 0 ≤ length l
+    → code ≡ u16 l 2 % 16384 → size ≡ u16 l 0 - 4 → next ≡ min (padded (u16 l 0)) (length l) → Is.Attribute code size next ≡ firstOf l
 unfolding firstOf first
 begins l size code next p q e f g = rw (is-whole l p q, e, f, g)
 
@@ -56,7 +57,8 @@ drop-min : (n : ℕ) (m : List ℕ) → drop n m ≡ drop (min n (length m)) m
 drop-min n m =
     test-case (leb n (length m))
     (λ w. let e : n ≡ min n (length m) = omega (arith, leb-true n (length m) w) in ap (λ (k : ℕ). drop k m) e)
-    (λ w. drop-of-length-le m {i = n} (omega (arith, leb-false n (length m) w)) ∙ sym (drop-of-length-le m {i = min n (length m)} (omega (arith, leb-false n (length m) w))))
+    (λ w. let h = leb-false n (length m) w in
+    drop-of-length-le m {i = n} (omega (arith, h)) ∙ sym (drop-of-length-le m {i = min n (length m)} (omega (arith, h))))
 
 -- an attribute begins at the place: where its payload lies, and where the next one stands
 pub record At (l : List ℕ) (at code size next : ℕ) : Type 0 where
@@ -66,7 +68,8 @@ pub record At (l : List ℕ) (at code size next : ℕ) : Type 0 where
   pub is : first (drop at l) ≡ record { code = code; payload = take size (drop (at + 4) l) }
   pub on : parsed (drop at l) ≡ more (first (drop at l)) (parsed (drop (at + next) l))
 
-pub found : (l : List ℕ) (at code size next : ℕ) (r : F.First) → at ≤ length l → r ≡ firstOf (take (length l - at) (drop at l)) → r ≡ Is.Attribute code size next → At l at code size next
+pub found : (l : List ℕ) (at code size next : ℕ) (r : F.First) → at ≤ length l
+    → r ≡ firstOf (take (length l - at) (drop at l)) → r ≡ Is.Attribute code size next → At l at code size next
 unfolding first
 found l at code size next r h e f =
     let b : Begins (drop at l) code size next =
@@ -87,7 +90,8 @@ found l at code size next r h e f =
       on = parsed-more (drop at l) (b .is) ∙ ap (λ (x : List ℕ). more (first (drop at l)) (parsed x)) there;
     }
 
-pub over : (l : List ℕ) (at : ℕ) (r : F.First) → r ≡ firstOf (take (length l - at) (drop at l)) → r ≡ Is.Nothing → parsed (drop at l) ≡ record { attributes = []; spare = drop at l }
+pub over : (l : List ℕ) (at : ℕ) (r : F.First)
+    → r ≡ firstOf (take (length l - at) (drop at l)) → r ≡ Is.Nothing → parsed (drop at l) ≡ record { attributes = []; spare = drop at l }
 over l at r e f = parsed-end (drop at l) (nothing-begins (drop at l) (ap firstOf (sym (part-is l at)) ∙ sym e ∙ f))
 
 -- ---- every length is right
@@ -98,15 +102,11 @@ pub right-end : (l : List ℕ) (at : ℕ) → parsed (drop at l) ≡ record { at
 right-end l at e = ap (λ (p : Parsed). ltb (length (p .spare)) 4) e ∙ ap (λ (n : ℕ). ltb n 4) (length-drop at l)
 
 -- ---- the metrics too
-swap : (a b c : Bool) → a && (b && c) ≡ b && (a && c)
-swap true b c = refl
-swap false true c = refl
-swap false false c = refl
-
-pub nested-on : (l : List ℕ) (at code size next : ℕ) → At l at code size next → rightNested (drop at l) ≡ nestedRight (record { code = code; payload = take size (drop (at + 4) l) }) && rightNested (drop (at + next) l)
+pub nested-on : (l : List ℕ) (at code size next : ℕ) → At l at code size next
+    → rightNested (drop at l) ≡ nestedRight (record { code = code; payload = take size (drop (at + 4) l) }) && rightNested (drop (at + next) l)
 nested-on l at code size next b =
     ap (λ (p : Parsed). ltb (length (p .spare)) 4 && all nestedRight (p .attributes)) (b .on)
-    ∙ swap (right (drop (at + next) l)) (nestedRight (first (drop at l))) (all nestedRight (attributes (drop (at + next) l)))
+    ∙ and-swap (right (drop (at + next) l)) (nestedRight (first (drop at l))) (all nestedRight (attributes (drop (at + next) l)))
     ∙ ap (λ (a : Attribute). nestedRight a && rightNested (drop (at + next) l)) (b .is)
 
 pub nested-end : (l : List ℕ) (at : ℕ) → parsed (drop at l) ≡ record { attributes = []; spare = drop at l } → rightNested (drop at l) ≡ ltb (length l - at) 4
@@ -116,7 +116,9 @@ nested-end l at e =
     ∙ ap (λ (n : ℕ). ltb n 4) (length-drop at l)
 
 -- with the answer of the inner check, which is lent the payload as a part
-pub nested-more : (l : List ℕ) (at code size next : ℕ) (r : Bool) → At l at code size next → r ≡ nestedRight (record { code = code; payload = take (at + 4 + size - (at + 4)) (drop (at + 4) l) }) → rightNested (drop at l) ≡ r && rightNested (drop (at + next) l)
+pub nested-more : (l : List ℕ) (at code size next : ℕ) (r : Bool) → At l at code size next
+    → r ≡ nestedRight (record { code = code; payload = take (at + 4 + size - (at + 4)) (drop (at + 4) l) })
+    → rightNested (drop at l) ≡ r && rightNested (drop (at + next) l)
 nested-more l at code size next r b e =
     let long : size ≡ at + 4 + size - (at + 4) = omega arith in
     nested-on l at code size next b

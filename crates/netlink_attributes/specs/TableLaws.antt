@@ -1,13 +1,13 @@
 -- All attributes in one pass: what the places hold when the pass has come to a place, and one attribute later.
 -- Assumes nothing.
-use Prim.Native.Nat.{ℕ, zero, suc, _+_, _-_, _≤_, _<_, min}
+use Prim.Native.Nat.{ℕ, zero, suc, _+_, _≤_, _<_, min}
 use mathlib.Core.Path.{_≡_, refl, sym, ap, _∙_}
-use mathlib.Core.Bool.{Bool, true, false, cond}
-use mathlib.Core.List.{List, [], _∷_, _++_, map}
+use mathlib.Core.Bool.{cond}
+use mathlib.Core.List.{List, [], map}
 use mathlib.Core.Option.{Option, none, some}
 use native.Mathlib.Omega.{arith}
 use lib.Dec.{eqb}
-use lib.ListN.{length, getD, set, take, drop, length-set, replicate, length-replicate}
+use lib.ListN.{length, getD, set, take, drop, length-set, replicate}
 use lib.Seq.{getD-set-same, getD-set-other}
 use borrow.Author.Tests.{eqb-true, eqb-false, ne-eqb}
 use Rattle.lists.specs.Bools.{test-case}
@@ -36,7 +36,8 @@ begun l = record {
   inside = λ k. omega (arith, zeros-at 19 k);
 }
 
-pub ended : (l starts sizes : List ℕ) (at : ℕ) → Passed l starts sizes at → parsed (drop at l) ≡ record { attributes = []; spare = drop at l } → Placed l starts sizes
+pub ended : (l starts sizes : List ℕ) (at : ℕ) → Passed l starts sizes at
+    → parsed (drop at l) ≡ record { attributes = []; spare = drop at l } → Placed l starts sizes
 unfolding lastAfter
 ended l starts sizes at f e = record {
   is = λ k h. sym (f .is k h ∙ ap (λ (p : Parsed). lastAfter k (placed l (getD starts k 0) (getD sizes k 0)) (map lowered (p .attributes))) e);
@@ -51,7 +52,8 @@ module _ (l starts sizes : List ℕ) (at code size next s : ℕ) (f : Passed l s
   same-size = getD-set-same sizes s size 0 (omega (arith, f .sizes-long))
 
   -- what the place of k holds then
-  holds : (k : ℕ) → placed l (getD (set starts s (at + 4)) k 0) (getD (set sizes s size) k 0) ≡ cond (eqb s k) (some (take size (drop (at + 4) l))) (placed l (getD starts k 0) (getD sizes k 0))
+  holds : (k : ℕ) → placed l (getD (set starts s (at + 4)) k 0) (getD (set sizes s size) k 0)
+      ≡ cond (eqb s k) (some (take size (drop (at + 4) l))) (placed l (getD starts k 0) (getD sizes k 0))
   holds k =
       test-case (eqb s k)
       (λ w. let q = eqb-true s k w in
@@ -67,7 +69,8 @@ module _ (l starts sizes : List ℕ) (at code size next s : ℕ) (f : Passed l s
       (λ w. let other : k ≡ s → ⊥ = (λ z. eqb-false s k w (sym z)) in
       rw (getD-set-other starts s k (at + 4) 0 other, getD-set-other sizes s k size 0 other) (f .inside k))
 
-  step : (k : ℕ) (o : Option (List ℕ)) → lastAfter k o (slots (drop at l)) ≡ lastAfter k (cond (eqb s k) (some (take size (drop (at + 4) l))) o) (slots (drop (at + next) l))
+  step : (k : ℕ) (o : Option (List ℕ)) → lastAfter k o (slots (drop at l))
+      ≡ lastAfter k (cond (eqb s k) (some (take size (drop (at + 4) l))) o) (slots (drop (at + next) l))
   unfolding lastAfter
   step k o =
       ap (λ (p : Parsed). lastAfter k o (map lowered (p .attributes))) (b .on)
@@ -79,6 +82,9 @@ module _ (l starts sizes : List ℕ) (at code size next s : ℕ) (f : Passed l s
     reached = b .inside;
     starts-long = rw length-set (f .starts-long);
     sizes-long = rw length-set (f .sizes-long);
-    is = λ k h. f .is k h ∙ step k (placed l (getD starts k 0) (getD sizes k 0)) ∙ ap (λ (o : Option (List ℕ)). lastAfter k o (slots (drop (at + next) l))) (sym (holds k));
+    is = λ k h.
+        f .is k h
+        ∙ step k (placed l (getD starts k 0) (getD sizes k 0))
+        ∙ ap (λ (o : Option (List ℕ)). lastAfter k o (slots (drop (at + next) l))) (sym (holds k));
     inside = stays;
   }

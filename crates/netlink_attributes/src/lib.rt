@@ -1,6 +1,8 @@
 // Attributes of a netlink message in lent bytes.
+use netlink::codes;
 ghost use mathlib.Core.Path.{_≡_};
 ghost use Prim.Native.Nat.{_+_, _*_, _<_, min};
+ghost use lib.ListN.{length, set};
 ghost use Rattle.netlink.specs.Attributes.{right as Attributes·right};
 ghost use Rattle.netlink_attributes.specs.Steps.{firstOf, rightNested, Placed};
 ghost use Rattle.netlink.specs.Reader.{nestedRight};
@@ -16,6 +18,26 @@ pub fn two(a: u8, b: u8) -> usize
     ensures { λ r. ⌜ (r ≡ a + 256 * b) × (r < 65536) ⌝ }
 {
     wide(a) + 256 * wide(b)
+}
+
+// A place in lent bytes, handed on by value.
+pub struct Cursor {
+    pub at: usize,
+}
+
+impl Cursor {
+    pub fn start() -> Self
+        ensures { λ r. ⌜ r .at ≡ 0 ⌝ }
+    {
+        Cursor { at: 0 }
+    }
+
+    pub fn past(self, n: usize) -> Self
+        requires { ⌜ self .at + n < 18446744073709551616 ⌝ }
+        ensures { λ r. ⌜ r .at ≡ self .at + n ⌝ }
+    {
+        Cursor { at: self.at + n }
+    }
 }
 
 // What begins some bytes: an attribute, with the bytes up to the next one, or none whose length is right.
@@ -59,8 +81,9 @@ pub fn attribute(l: &[u8]) -> First
 pub fn right(l: &[u8]) -> bool
     ensures { λ r. ⌜ r ≡ Attributes·right (now (l .entry)) ⌝ }
 {
-    let mut at = 0usize;
+    let mut cursor = Cursor::start();
     loop {
+        let at = cursor.at;
         let First::Attribute {
             code: _,
             size: _,
@@ -69,7 +92,7 @@ pub fn right(l: &[u8]) -> bool
         else {
             return l.len() - at < 4;
         };
-        at += next;
+        cursor = cursor.past(next);
     }
 }
 
@@ -77,7 +100,7 @@ pub fn right(l: &[u8]) -> bool
 fn nested(code: usize, l: &[u8]) -> bool
     ensures { λ r. ⌜ r ≡ nestedRight (record { code = code; payload = now (l .entry) }) ⌝ }
 {
-    if code == 8 {
+    if code == codes::RTA_METRICS {
         return right(l);
     }
     true
@@ -87,8 +110,9 @@ fn nested(code: usize, l: &[u8]) -> bool
 pub fn right_nested(l: &[u8]) -> bool
     ensures { λ r. ⌜ r ≡ rightNested (now (l .entry)) ⌝ }
 {
-    let mut at = 0usize;
+    let mut cursor = Cursor::start();
     loop {
+        let at = cursor.at;
         let First::Attribute { code, size, next } = attribute(&l[at..]) else {
             return l.len() - at < 4;
         };
@@ -97,7 +121,7 @@ pub fn right_nested(l: &[u8]) -> bool
         if !nested(code, &l[from..to]) {
             return false;
         }
-        at += next;
+        cursor = cursor.past(next);
     }
 }
 
@@ -116,20 +140,29 @@ fn slot(code: usize) -> usize
     18
 }
 
+// What an attribute puts at its code's place stays until the next of that code, so that the last counts.
+fn put(places: &mut [usize], k: usize, v: usize)
+    requires { ⌜ k < length (now places) ⌝ }
+    ensures { λ r. ⌜ now (places .exit) ≡ set (now (places .entry)) k v ⌝ }
+{
+    places[k] = v;
+}
+
 // All attributes in one pass.
 pub fn table(l: &[u8]) -> Places
     ensures { λ r. ⌜ Placed (now (l .entry)) (r .starts) (r .sizes) ⌝ }
 {
     let mut starts = [0usize; 19];
     let mut sizes = [0usize; 19];
-    let mut at = 0usize;
+    let mut cursor = Cursor::start();
     loop {
+        let at = cursor.at;
         let First::Attribute { code, size, next } = attribute(&l[at..]) else {
             return Places { starts, sizes };
         };
         let k = slot(code);
-        starts[k] = at + 4;
-        sizes[k] = size;
-        at += next;
+        put(&mut starts, k, at + 4);
+        put(&mut sizes, k, size);
+        cursor = cursor.past(next);
     }
 }

@@ -1,65 +1,56 @@
 use borrow.Author.Needs.{needs}
-use Prim.Native.Nat.{ℕ, _+_, _*_, _/_, _%_}
 use native.Mathlib.Omega.{arith}
 use denote.Ref.{now}
 use Rattle.netlink_attributes.specs.StepLaws.{nothing, begins}
 use Rattle.netlink_attributes.proofs.attribute.Statement.{statement}
 use Rattle.netlink_attributes.proofs.attribute.Tie as tie
-use Rattle.netlink_attributes.proofs.attribute.Reads as reads
-use Rattle.netlink_attributes.proofs.attribute.Lts as lts
-use Rattle.netlink_attributes.proofs.two.Reads as two-reads
 
--- src/lib.rt:39:9
 returns : tie.Need-returns
 returns c = nothing (now (c .before .before .args .l)) (λ p q. omega arith)
 
--- src/lib.rt:41:17
 shared-slice-read-two : tie.Need-shared-slice-read-two
 shared-slice-read-two c = search needs
 
--- src/lib.rt:41:23
 shared-slice-read-two-2 : tie.Need-shared-slice-read-two-2
 shared-slice-read-two-2 c = search needs
 
--- src/lib.rt:41:9
 two-requires : tie.Need-two-requires
 two-requires c κs = search needs
 
--- src/lib.rt:43:9
 returns-2 : tie.Need-returns-2
-returns-2 c = nothing (now (c .before .before .before .before .before .before .args .l)) (λ p q. omega arith)
+returns-2 c =
+    let at-start = c .before .before .before .before .before .before in
+    nothing (now (at-start .args .l)) (λ p q. omega arith)
 
--- src/lib.rt:46:9
 returns-3 : tie.Need-returns-3
-returns-3 c = nothing (now (c .before .before .before .before .before .before .before .args .l)) (λ p q. omega arith)
+returns-3 c =
+    let at-start = c .before .before .before .before .before .before .before in
+    nothing (now (at-start .args .l)) (λ p q. omega arith)
 
--- src/lib.rt:48:20
 shared-slice-read-two-3 : tie.Need-shared-slice-read-two-3
 shared-slice-read-two-3 c = search needs
 
--- src/lib.rt:48:26
 shared-slice-read-two-4 : tie.Need-shared-slice-read-two-4
 shared-slice-read-two-4 c = search needs
 
--- src/lib.rt:48:16
 two-requires-2 : tie.Need-two-requires-2
 two-requires-2 c κs = search needs
 
--- src/lib.rt:50:17
 add-next : tie.Need-add-next
 add-next c = search needs
 
--- src/lib.rt:50:16
 mul-next : tie.Need-mul-next
 mul-next c = search needs
 
--- src/lib.rt:52:9
 returns-4 : tie.Need-returns-4
-returns-4 c = begins (now (c .before .before .before .before .before .before .before .before .before .before .before .args .l)) _ _ _ (omega arith) (omega arith) (omega arith) (omega arith) (omega arith)
+returns-4 c =
+    let at-start = c .before .before .before .before .before .before .before .before .before .before .before in
+    begins (now (at-start .args .l)) _ _ _ (omega arith) (omega arith) (omega arith) (omega arith) (omega arith)
 
--- src/lib.rt:34:1
 returns-5 : tie.Need-returns-5
-returns-5 c = begins (now (c .before .before .before .before .before .before .before .before .before .before .before .args .l)) _ _ _ (omega arith) (omega arith) (omega arith) (omega arith) (omega arith)
+returns-5 c =
+    let at-start = c .before .before .before .before .before .before .before .before .before .before .before in
+    begins (now (at-start .args .l)) _ _ _ (omega arith) (omega arith) (omega arith) (omega arith) (omega arith)
 
 pub attribute-spec : {M : Type 1} → statement M
 attribute-spec =

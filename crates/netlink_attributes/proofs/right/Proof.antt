@@ -1,79 +1,82 @@
 use borrow.Author.Needs.{needs}
-use Prim.Native.Nat.{ℕ, _+_, _-_, _*_, _≤_}
-use mathlib.Core.Path.{_≡_, refl, sym, ap, _∙_}
+use Prim.Native.Nat.{_-_, _≤_}
+use mathlib.Core.Path.{_≡_, refl, sym, _∙_}
 use native.Mathlib.Omega.{arith}
-use lib.ListN.{length, drop, length-drop}
+use lib.ListN.{length, drop}
 use denote.Ref.{now}
 use Rattle.netlink.specs.Attributes.{right}
 use Rattle.netlink_attributes.specs.StepLaws.{At, found, over, right-on, right-end}
 use Rattle.netlink_attributes.proofs.right.Statement.{statement}
 use Rattle.netlink_attributes.proofs.right.Tie as tie
-use Rattle.netlink_attributes.proofs.right.Reads as reads
-use Rattle.netlink_attributes.proofs.right.Lts as lts
-use Rattle.netlink_attributes.proofs.attribute.Reads as attribute-reads
 
 abbrev Inv-loop : tie.InvT-loop
-Inv-loop l at₀ at = (at ≤ length l) × (right l ≡ right (drop at l))
+Inv-loop l cursor₀ cursor = (cursor .at ≤ length l) × (right l ≡ right (drop (cursor .at) l))
 
 abbrev μ-loop : tie.MeasureT-loop
-μ-loop l at₀ at = length l - at
+μ-loop l cursor₀ cursor = length l - cursor .at
 
--- src/lib.rt:66:5
+start-requires : tie.Need-start-requires Inv-loop μ-loop
+start-requires c κs = search needs
+
 loop-holds : tie.Need-loop-holds Inv-loop μ-loop
-loop-holds c = (omega arith, refl)
+loop-holds c = rw (c .start .ensures) (omega arith, refl)
 
--- src/lib.rt:71:23
 sub-attribute : tie.Need-sub-attribute Inv-loop μ-loop
 sub-attribute c = search needs
 
--- src/lib.rt:71:23
 part-attribute-start : tie.Need-part-attribute-start Inv-loop μ-loop
 part-attribute-start c = search needs
 
--- src/lib.rt:71:23
 part-attribute-end : tie.Need-part-attribute-end Inv-loop μ-loop
 part-attribute-end c = search needs
 
--- src/lib.rt:71:13
 attribute-requires : tie.Need-attribute-requires Inv-loop μ-loop
 attribute-requires c κs = search needs
 
--- src/lib.rt:70:13
 enum-known-next : tie.Need-enum-known-next Inv-loop μ-loop
 enum-known-next c = search needs
 
--- src/lib.rt:72:20
 enum-told : tie.Need-enum-told Inv-loop μ-loop
 enum-told c = search needs
 
--- src/lib.rt:72:20
 sub-result : tie.Need-sub-result Inv-loop μ-loop
 sub-result c = search needs
 
 returns : tie.Need-returns Inv-loop μ-loop
 returns c =
-    let start = c .before .before .before .before .before .before in
     let at-loop = c .before .before .before .before .loop in
+    let at-start = c .before .before .before .before .before .before .before in
     let call = c .before .before .attribute in
-    let l = now (start .args .l) in
-    sym (at-loop .inv .1 ∙ right-end l (at-loop .at) (over l (at-loop .at) (call .result) (call .ensures) (c .enum-told .given .1)))
+    let l = now (at-start .args .l) in
+    let at = at-loop .cursor .at in
+    sym (at-loop .inv .1 ∙ right-end l at (over l at (call .result) (call .ensures) (c .enum-told .given .1)))
 
-stands : (c : lts.After-known-told (attribute-reads.Asked, attribute-reads.Learnt) reads.Pre reads.Post Inv-loop μ-loop)
-    → At (now (c .before .before .before .before .before .before .before .args .l)) (c .before .before .before .before .before .loop .at) (c .before .next .given .0 .0) (c .before .next .given .0 .1 .0) (c .before .next .given .0 .1 .1 .0)
+-- an attribute begins at the cursor
+abbrev at-loop : (c : tie.After-known-told Inv-loop μ-loop) → tie.At-loop Inv-loop μ-loop
+at-loop c = c .before .before .before .before .before
+
+abbrev at-start : (c : tie.After-known-told Inv-loop μ-loop) → tie.Start Inv-loop μ-loop
+at-start c = at-loop c .before .before .before
+
+abbrev at-answer : (c : tie.After-known-told Inv-loop μ-loop) → tie.After-next Inv-loop μ-loop
+at-answer c = c .before
+
+stands : (c : tie.After-known-told Inv-loop μ-loop)
+    → At (now (at-start c .args .l)) (at-loop c .loop .cursor .at)
+    (at-answer c .next .given .0 .0) (at-answer c .next .given .0 .1 .0) (at-answer c .next .given .0 .1 .1 .0)
 stands c =
-    let start = c .before .before .before .before .before .before .before in
-    let at-loop = c .before .before .before .before .before .loop in
     let call = c .before .before .before .attribute in
-    found (now (start .args .l)) (at-loop .at) _ _ _ (call .result) (at-loop .inv .0) (call .ensures) (c .before .next .given .1)
+    let l = now (at-start c .args .l) in
+    found l (at-loop c .loop .cursor .at) _ _ _ (call .result) (at-loop c .loop .inv .0) (call .ensures) (at-answer c .next .given .1)
 
-add-at : tie.Need-add-at Inv-loop μ-loop
-add-at c = omega (arith, stands c .inside)
+past-requires : tie.Need-past-requires Inv-loop μ-loop
+past-requires c κs = omega (arith, stands c .inside)
 
 loop-less : tie.Need-loop-less Inv-loop μ-loop
-loop-less c = omega (arith, stands c .inside, stands c .ahead)
+loop-less c = omega (arith, stands (c .before) .inside, stands (c .before) .ahead)
 
 loop-again : tie.Need-loop-again Inv-loop μ-loop
-loop-again c = (stands c .inside, c .before .before .before .before .before .loop .inv .1 ∙ right-on _ _ _ _ _ (stands c))
+loop-again c = rw (c .past .ensures) (stands (c .before) .inside, at-loop (c .before) .loop .inv .1 ∙ right-on _ _ _ _ _ (stands (c .before)))
 
 pub right-spec : {M : Type 1} → statement M
 right-spec =
@@ -81,6 +84,7 @@ right-spec =
     (tie.spec
     Inv-loop
     μ-loop
+    start-requires
     loop-holds
     sub-attribute
     part-attribute-start
@@ -90,6 +94,6 @@ right-spec =
     enum-told
     sub-result
     returns
-    add-at
+    past-requires
     loop-less
     loop-again)

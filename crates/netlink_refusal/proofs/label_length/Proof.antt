@@ -1,6 +1,6 @@
 use borrow.Author.Needs.{needs}
-use Prim.Native.Nat.{ℕ, _+_, _-_, _≤_}
-use mathlib.Core.Path.{_≡_, refl, sym, ap, _∙_}
+use Prim.Native.Nat.{_+_, _-_, _≤_}
+use mathlib.Core.Path.{_≡_, ap}
 use native.Mathlib.Omega.{arith}
 use lib.ListN.{length, drop, drop-of-length-le}
 use denote.Ref.{now}
@@ -8,8 +8,6 @@ use Rattle.netlink.specs.Reader.{label}
 use Rattle.netlink_refusal.specs.Laws.{until-here, until-on}
 use Rattle.netlink_refusal.proofs.label_length.Statement.{statement}
 use Rattle.netlink_refusal.proofs.label_length.Tie as tie
-use Rattle.netlink_refusal.proofs.label_length.Reads as reads
-use Rattle.netlink_refusal.proofs.label_length.Lts as lts
 
 abbrev Inv-loop : tie.InvT-loop
 Inv-loop p i₀ i = (i ≤ length p) × (length (label p) ≡ i + length (label (drop i p)))
@@ -17,15 +15,12 @@ Inv-loop p i₀ i = (i ≤ length p) × (length (label p) ≡ i + length (label 
 abbrev μ-loop : tie.MeasureT-loop
 μ-loop p i₀ i = length p - i
 
--- src/lib.rt:34:5
 loop-holds : tie.Need-loop-holds Inv-loop μ-loop
 loop-holds c = (omega arith, omega arith)
 
--- src/lib.rt:35:12
 shared-slice-read-if1 : tie.Need-shared-slice-read-if1 Inv-loop μ-loop
 shared-slice-read-if1 c = search needs
 
--- src/lib.rt:36:13
 returns : tie.Need-returns Inv-loop μ-loop
 returns c =
     let at-loop = c .before .before .before .loop in
@@ -34,15 +29,12 @@ returns c =
     let n = ap length e in
     (omega (arith, n, at-loop .inv .1), at-loop .inv .0)
 
--- src/lib.rt:38:9
 add-i : tie.Need-add-i Inv-loop μ-loop
 add-i c = search needs
 
--- src/lib.rt:34:5
 loop-less : tie.Need-loop-less Inv-loop μ-loop
 loop-less c = search needs
 
--- src/lib.rt:34:5
 loop-again : tie.Need-loop-again Inv-loop μ-loop
 loop-again c =
     let at-loop = c .before .before .before .loop in
@@ -50,7 +42,6 @@ loop-again c =
     let n = until-on p (at-loop .i) (c .before .before .loop-test .taken) (c .if1 .left) in
     (omega arith, omega (arith, n, at-loop .inv .1))
 
--- src/lib.rt:30:1
 returns-2 : tie.Need-returns-2 Inv-loop μ-loop
 returns-2 c =
     let at-loop = c .before .loop in
