@@ -1,6 +1,7 @@
 // The words of a request, from the message's headers and the places of its attributes. What is read past an end is 0, as in the
 // definitions.
 use layout::INVALID;
+use netlink::codes;
 ghost use mathlib.Core.Path.{_≡_};
 ghost use mathlib.Core.Bool.{_&&_, not};
 ghost use mathlib.Core.List.{[], _++_};
@@ -168,16 +169,16 @@ fn new_addr_front(m: &[u8], l: &[u8], starts: &[usize; 19], sizes: &[usize; 19])
     requires { ⌜ Placed (now l) (now starts) (now sizes) ⌝ }
     ensures { λ r. ⌜ r ≡ take 8 (newAddr 0 (now (m .entry)) (attributes (now (l .entry)))) ⌝ }
 {
-    let local = address_at(l, starts, sizes, 2, 0);
+    let local = address_at(l, starts, sizes, codes::IFA_LOCAL, 0);
     [
         local,
-        address_at(l, starts, sizes, 1, local),
+        address_at(l, starts, sizes, codes::IFA_ADDRESS, local),
         get(m, 17),
-        given_at(l, starts, sizes, 4),
-        address_at(l, starts, sizes, 4, 0),
+        given_at(l, starts, sizes, codes::IFA_BROADCAST),
+        address_at(l, starts, sizes, codes::IFA_BROADCAST, 0),
         get(m, 19),
-        number_at(l, starts, sizes, 8, 0, get(m, 18)),
-        byte_at(l, starts, sizes, 11),
+        number_at(l, starts, sizes, codes::IFA_FLAGS, 0, get(m, 18)),
+        byte_at(l, starts, sizes, codes::IFA_PROTO),
     ]
 }
 
@@ -186,9 +187,9 @@ fn new_addr_back(m: &[u8], l: &[u8], starts: &[usize; 19], sizes: &[usize; 19], 
     ensures { λ r. ⌜ r ≡ drop 13 (newAddr up (now (m .entry)) (attributes (now (l .entry)))) ⌝ }
 {
     [
-        number_at(l, starts, sizes, 9, 0, 0),
-        number_at(l, starts, sizes, 6, 4, 0xffff_ffff),
-        number_at(l, starts, sizes, 6, 0, 0xffff_ffff),
+        number_at(l, starts, sizes, codes::IFA_RT_PRIORITY, 0, 0),
+        number_at(l, starts, sizes, codes::IFA_CACHEINFO, 4, 0xffff_ffff),
+        number_at(l, starts, sizes, codes::IFA_CACHEINFO, 0, 0xffff_ffff),
         replaces(half(m, 6)),
         up,
     ]
@@ -203,7 +204,7 @@ pub fn new_addr(m: &[u8], l: &[u8], up: u32, request: &mut [u32])
     let starts = t.starts;
     let sizes = t.sizes;
     let front = new_addr_front(m, l, &starts, &sizes);
-    let label = label_at(l, &starts, &sizes, 3, b"lo");
+    let label = label_at(l, &starts, &sizes, codes::IFA_LABEL, b"lo");
     let back = new_addr_back(m, l, &starts, &sizes, up);
     lay(request, &front, &label, &back);
 }
@@ -214,10 +215,10 @@ fn del_addr_front(l: &[u8], starts: &[usize; 19], sizes: &[usize; 19]) -> [u32; 
     ensures { λ r. ⌜ r ≡ take 4 (delAddr [] (attributes (now (l .entry)))) ⌝ }
 {
     [
-        given_at(l, starts, sizes, 2),
-        address_at(l, starts, sizes, 2, 0),
-        given_at(l, starts, sizes, 1),
-        address_at(l, starts, sizes, 1, 0),
+        given_at(l, starts, sizes, codes::IFA_LOCAL),
+        address_at(l, starts, sizes, codes::IFA_LOCAL, 0),
+        given_at(l, starts, sizes, codes::IFA_ADDRESS),
+        address_at(l, starts, sizes, codes::IFA_ADDRESS, 0),
     ]
 }
 
@@ -230,8 +231,8 @@ pub fn del_addr(m: &[u8], l: &[u8], request: &mut [u32])
     let starts = t.starts;
     let sizes = t.sizes;
     let front = del_addr_front(l, &starts, &sizes);
-    let named = given_at(l, &starts, &sizes, 3);
-    let label = label_at(l, &starts, &sizes, 3, b"");
+    let named = given_at(l, &starts, &sizes, codes::IFA_LABEL);
+    let label = label_at(l, &starts, &sizes, codes::IFA_LABEL, b"");
     lay(request, &front, &[get(m, 17), named], &label);
 }
 
@@ -241,11 +242,11 @@ fn route_front(m: &[u8], l: &[u8], starts: &[usize; 19], sizes: &[usize; 19]) ->
     ensures { λ r. ⌜ r ≡ take 8 (routeWords (now (m .entry)) (attributes (now (l .entry)))) ⌝ }
 {
     [
-        number_at(l, starts, sizes, 15, 0, get(m, 20)),
-        address_at(l, starts, sizes, 1, 0),
+        number_at(l, starts, sizes, codes::RTA_TABLE, 0, get(m, 20)),
+        address_at(l, starts, sizes, codes::RTA_DST, 0),
         get(m, 17),
         get(m, 19),
-        number_at(l, starts, sizes, 6, 0, 0),
+        number_at(l, starts, sizes, codes::RTA_PRIORITY, 0, 0),
         get(m, 23),
         get(m, 21),
         get(m, 22),
@@ -257,11 +258,11 @@ fn route_back(l: &[u8], starts: &[usize; 19], sizes: &[usize; 19]) -> [u32; 5]
     ensures { λ r. ⌜ r ≡ drop 8 (routeWords [] (attributes (now (l .entry)))) ⌝ }
 {
     [
-        given_at(l, starts, sizes, 7),
-        address_at(l, starts, sizes, 7, 0),
-        given_at(l, starts, sizes, 5),
-        address_at(l, starts, sizes, 5, 0),
-        number_at(l, starts, sizes, 4, 0, 0),
+        given_at(l, starts, sizes, codes::RTA_PREFSRC),
+        address_at(l, starts, sizes, codes::RTA_PREFSRC, 0),
+        given_at(l, starts, sizes, codes::RTA_GATEWAY),
+        address_at(l, starts, sizes, codes::RTA_GATEWAY, 0),
+        number_at(l, starts, sizes, codes::RTA_OIF, 0, 0),
     ]
 }
 
@@ -278,7 +279,7 @@ fn metrics(l: &[u8]) -> [u32; 18]
         return words;
     }
     let mut k = 1usize;
-    while k < 18 {
+    while k <= codes::RTAX_MAX {
         words[k] = number_at(l, &starts, &sizes, k, 0, 0);
         k += 1;
     }
@@ -290,11 +291,11 @@ fn metrics_asked(l: &[u8], starts: &[usize; 19], sizes: &[usize; 19]) -> [u32; 1
     requires { ⌜ Placed (now l) (now starts) (now sizes) ⌝ }
     ensures { λ r. ⌜ r ≡ metricsAsked (metricsIn (attributes (now (l .entry)))) ⌝ }
 {
-    let start = starts[8];
+    let start = starts[codes::RTA_METRICS];
     if start == 0 {
         return [0u32; 18];
     }
-    let end = start + sizes[8];
+    let end = start + sizes[codes::RTA_METRICS];
     metrics(&l[start..end])
 }
 
@@ -365,7 +366,7 @@ fn pairs(l: &[u8]) -> [u32; 36]
     }
     let mut at = 2usize;
     let mut k = 1usize;
-    while k < 18 {
+    while k <= codes::RTAX_MAX {
         at = append(l, &starts, &sizes, k, &mut words, at);
         k += 1;
     }
@@ -379,13 +380,13 @@ fn pairs_asked(l: &[u8], starts: &[usize; 19], sizes: &[usize; 19]) -> [u32; 36]
     requires { ⌜ Placed (now l) (now starts) (now sizes) ⌝ }
     ensures { λ r. ⌜ r ≡ pairsAsked (metricsIn (attributes (now (l .entry)))) ⌝ }
 {
-    let start = starts[8];
+    let start = starts[codes::RTA_METRICS];
     if start == 0 {
         let mut words = [0u32; 36];
         words[0] = 1;
         return words;
     }
-    let end = start + sizes[8];
+    let end = start + sizes[codes::RTA_METRICS];
     pairs(&l[start..end])
 }
 

@@ -61,7 +61,7 @@ loop-again c =
       omega arith,
       omega arith,
       length-set (at-loop .loop .words) (at-loop .loop .k) (c .number-at .result) ∙ inv .2,
-      words-more l _ (at-loop .loop .words) (at-loop .loop .k) (c .number-at .result) refl (inv .0) (c .before .before .before .loop-test .taken) (inv .3) (c .number-at .ensures),
+      words-more l _ (at-loop .loop .words) (at-loop .loop .k) (c .number-at .result) refl (inv .0) (omega (arith, c .before .before .before .loop-test .taken)) (inv .3) (c .number-at .ensures),
     )
 
 returns-2 : tie.Need-returns-2 Inv-loop μ-loop

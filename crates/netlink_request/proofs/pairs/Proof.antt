@@ -1,4 +1,4 @@
-use Prim.Native.Nat.{_+_, _-_, _≤_}
+use Prim.Native.Nat.{_+_, _-_, _≤_, _<_}
 use mathlib.Core.Path.{_≡_, refl, ap, _∙_}
 use native.Mathlib.Omega.{arith}
 use denote.Ref.{now}
@@ -61,12 +61,13 @@ loop-again c =
     let at-start = at-loop .before .before .before .before .before .before in
     let l = attributes (now (at-start .args .l)) in
     let inv = at-loop .loop .inv in
+    let below : at-loop .loop .k < 18 = omega (arith, at-test .loop-test .taken) in
     let next = at-append .append .ensures in
-    let more = next .1 ∙ pairs-put l _ (at-loop .loop .words) (at-loop .loop .at) (at-loop .loop .k) refl (inv .0) (at-test .loop-test .taken) (inv .3) (inv .4) in (
+    let more = next .1 ∙ pairs-put l _ (at-loop .loop .words) (at-loop .loop .at) (at-loop .loop .k) refl (inv .0) below (inv .3) (inv .4) in (
       omega arith,
       omega arith,
       ap length more ∙ pairs-long l _ (at-loop .loop .k + 1) refl (omega arith) (omega arith),
-      next .0 ∙ pairs-next l (at-loop .loop .at) (at-loop .loop .k) (inv .0) (at-test .loop-test .taken) (inv .3),
+      next .0 ∙ pairs-next l (at-loop .loop .at) (at-loop .loop .k) (inv .0) below (inv .3),
       more,
     )
 
