@@ -99,7 +99,7 @@ pub del-addr-laid : (m : List ℕ) (l : List Attribute) {a c : List ℕ} {prefix
 unfolding delAddr
 del-addr-laid m l e f g h = λ i. e i ++ (f i ∷ g i ∷ h i)
 
-length-asked : (l : List Attribute) → length (metricsAsked l) ≡ 18
+pub length-asked : (l : List Attribute) → length (metricsAsked l) ≡ 18
 unfolding metricsAsked zeros
 length-asked l = cond-case (λ (w : List ℕ). length w ≡ 18) (unknownMetric l) (λ e. refl) (λ e. refl)
 

@@ -128,7 +128,7 @@ pair-short : (t : ℕ) (o : Option (List ℕ)) → length (pair t o) ≤ 2
 pair-short t none = omega arith
 pair-short t (some p) = omega arith
 
-pairs-short : (l : List Attribute) (ts : List ℕ) → length (pairsOf l ts) ≤ 2 * length ts
+pub pairs-short : (l : List Attribute) (ts : List ℕ) → length (pairsOf l ts) ≤ 2 * length ts
 pairs-short l [] = omega arith
 pairs-short l (t ∷ ts) =
     let e = length-append (pair t (last t l)) (pairsOf l ts) in
