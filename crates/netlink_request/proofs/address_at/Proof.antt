@@ -1,54 +1,64 @@
-use borrow.Author.Needs.{needs}
-use Prim.Native.Nat.{ℕ, _+_, _-_}
-use mathlib.Core.Path.{_≡_, refl, sym, ap, _∙_}
 use native.Mathlib.Omega.{arith}
-use lib.ListN.{length, take, drop, List·getD-eq-default}
-use borrow.Author.Tests.{eq-eqb, ne-eqb}
 use denote.Ref.{now}
-use Rattle.netlink.specs.Reader.{address}
+use mathlib.Core.Path.{_∙_}
+use Rattle.netlink_request.specs.Laws.{missing, present}
+use borrow.Author.Needs.{needs}
 use Rattle.netlink_request.proofs.address_at.Statement.{statement}
 use Rattle.netlink_request.proofs.address_at.Tie as tie
-use Rattle.netlink_request.proofs.address_at.Reads as reads
-use Rattle.netlink_request.proofs.address_at.Lts as lts
-use Rattle.netlink_request.proofs.address.Reads as address-reads
 
--- src/lib.rt:41:9
+mul-start : tie.Need-mul-start
+mul-start c = search needs
+
+element-copy-out-start : tie.Need-element-copy-out-start
+element-copy-out-start c = search needs
+
 returns : tie.Need-returns
-returns c = rw (eq-eqb _ _ (c .if1 .taken))
+returns c =
+    let at-start = c .before .before .before in
+    let a = at-start .args in
+    rw (missing (now (a .l)) (now (a .starts)) (now (a .sizes)) (at-start .pre .0) (a .k) (at-start .pre .1) (c .if1 .taken))
 
--- src/lib.rt:43:15
+mul-end : tie.Need-mul-end
+mul-end c = search needs
+
+element-copy-out-end : tie.Need-element-copy-out-end
+element-copy-out-end c = search needs
+
 add-end : tie.Need-add-end
-add-end c = search needs
+add-end c =
+    let at-start = c .before .before .before .before in
+    omega (arith, at-start .pre .0 .inside (at-start .args .k))
 
--- src/lib.rt:44:13
 sub-address : tie.Need-sub-address
 sub-address c = search needs
 
--- src/lib.rt:44:13
 part-address-start : tie.Need-part-address-start
 part-address-start c = search needs
 
--- src/lib.rt:44:13
 part-address-end : tie.Need-part-address-end
-part-address-end c = search needs
+part-address-end c =
+    let at-start = c .before .before .before .before in
+    omega (arith, at-start .pre .0 .inside (at-start .args .k))
 
--- src/lib.rt:44:5
 address-requires : tie.Need-address-requires
 address-requires c κs = search needs
 
--- src/lib.rt:36:1
 returns-2 : tie.Need-returns-2
 returns-2 c =
-    let start = c .before .before .before .before in
-    let a = start .args in
-    let n : a .start + a .size - a .start ≡ a .size = omega arith in
-    rw (ne-eqb (a .start) 0 (c .before .before .if1 .left)) (c .address .ensures ∙ ap (λ k. address (take k (drop (a .start) (now (a .l))))) n)
+    let at-choice = c .before .before .before in
+    let at-start = at-choice .before .before .before in
+    let a = at-start .args in
+    rw (present (now (a .l)) (now (a .starts)) (now (a .sizes)) (at-start .pre .0) (a .k) (at-start .pre .1) (at-choice .if1 .left)) (c .address .ensures)
 
 pub address-at-spec : {M : Type 1} → statement M
 address-at-spec =
     tie.close
     (tie.spec
+    mul-start
+    element-copy-out-start
     returns
+    mul-end
+    element-copy-out-end
     add-end
     sub-address
     part-address-start

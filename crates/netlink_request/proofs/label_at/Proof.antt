@@ -1,117 +1,112 @@
-use borrow.Author.Needs.{needs}
-use Prim.Native.Nat.{ℕ, _+_, _-_}
-use mathlib.Core.Path.{_≡_, refl, sym, ap, _∙_}
 use native.Mathlib.Omega.{arith}
-use lib.ListN.{length, take, drop, List·getD-eq-default}
-use borrow.Author.Tests.{eq-eqb, ne-eqb}
+use mathlib.Core.Path.{ap, _∙_}
 use denote.Ref.{now}
-use mathlib.Core.List.{[], _∷_}
-use Rattle.netlink.specs.Reader.{u32}
-use Rattle.netlink_request.specs.Laws.{label-long, label-front, label-within}
+use Prim.Native.Nat.{_+_, _-_, _≤_}
+use lib.ListN.{getD}
+use Rattle.netlink.specs.Reader.{labelWords}
+use Rattle.netlink_request.specs.Laws.{missing, present, part-below, label-within, label-front}
+use borrow.Author.Needs.{needs}
 use Rattle.netlink_request.proofs.label_at.Statement.{statement}
 use Rattle.netlink_request.proofs.label_at.Tie as tie
-use Rattle.netlink_request.proofs.label_at.Reads as reads
-use Rattle.netlink_request.proofs.label_at.Lts as lts
-use Rattle.netlink_request.proofs.word.Reads as word-reads
-use Rattle.netlink_refusal.proofs.label_length.Reads as label-length-reads
 
--- src/lib.rt:53:9
+mul-start : tie.Need-mul-start
+mul-start c = search needs
+
+element-copy-out-start : tie.Need-element-copy-out-start
+element-copy-out-start c = search needs
+
+label-words-requires : tie.Need-label-words-requires
+label-words-requires c κs = search needs
+
 returns : tie.Need-returns
-returns c = rw (eq-eqb _ _ (c .if1 .taken))
+returns c =
+    let at-choice = c .before in
+    let at-start = at-choice .before .before .before .before in
+    let a = at-start .args in
+    rw (missing (now (a .l)) (now (a .starts)) (now (a .sizes)) (at-start .pre .0) (a .k) (at-start .pre .1) (at-choice .if1 .taken)) (c .label-words .ensures)
 
--- src/lib.rt:55:15
+mul-end : tie.Need-mul-end
+mul-end c = search needs
+
+element-copy-out-end : tie.Need-element-copy-out-end
+element-copy-out-end c = search needs
+
 add-end : tie.Need-add-end
-add-end c = search needs
+add-end c =
+    let at-start = c .before .before .before .before .before in
+    omega (arith, at-start .pre .0 .inside (at-start .args .k))
 
--- src/lib.rt:56:33
 sub-label-length : tie.Need-sub-label-length
 sub-label-length c = search needs
 
--- src/lib.rt:56:33
 part-label-length-start : tie.Need-part-label-length-start
 part-label-length-start c = search needs
 
--- src/lib.rt:56:33
 part-label-length-end : tie.Need-part-label-length-end
-part-label-length-end c = search needs
+part-label-length-end c =
+    let at-start = c .before .before .before .before .before in
+    omega (arith, at-start .pre .0 .inside (at-start .args .k))
 
--- src/lib.rt:56:9
 label-length-requires : tie.Need-label-length-requires
 label-length-requires c κs = search needs
 
--- src/lib.rt:57:16
+within : (c : tie.After-label-length)
+    → c .label-length .result ≤ getD (now (c .before .before .before .before .before .before .before .args .sizes)) (c .before .before .before .before .before .before .before .args .k) 0
+within c =
+    let a = c .before .before .before .before .before .before .before .args in
+    label-within (now (a .l)) (getD (now (a .starts)) (a .k) 0) (getD (now (a .sizes)) (a .k) 0) (c .label-length .result) (c .label-length .ensures .1)
+
 add-stop : tie.Need-add-stop
-add-stop c = search needs
+add-stop c =
+    let at-start = c .before .before .before .before .before .before .before in
+    omega (arith, within c, at-start .pre .0 .inside (at-start .args .k))
 
--- src/lib.rt:58:13
-sub-p : tie.Need-sub-p
-sub-p c = search needs
+sub-label-words : tie.Need-sub-label-words
+sub-label-words c = search needs
 
--- src/lib.rt:58:13
-part-p-start : tie.Need-part-p-start
-part-p-start c = search needs
+part-label-words-start : tie.Need-part-label-words-start
+part-label-words-start c = search needs
 
--- src/lib.rt:58:13
-part-p-end : tie.Need-part-p-end
-part-p-end c = search needs
+part-label-words-end : tie.Need-part-label-words-end
+part-label-words-end c =
+    let at-start = c .before .before .before .before .before .before .before in
+    omega (arith, within c, at-start .pre .0 .inside (at-start .args .k))
 
--- src/lib.rt:59:6
-cast-t15 : tie.Need-cast-t15
-cast-t15 c =
-    let start = c .before .before .before .before .before in
-    let a = start .args in
-    let call = c .before .label-length in
-    omega (arith, label-within (now (a .l)) (a .start) (a .size) (call .result) (call .ensures .1), start .pre .1)
+label-words-requires-2 : tie.Need-label-words-requires-2
+label-words-requires-2 c κs =
+    let at-length = c .before in
+    let at-start = at-length .before .before .before .before .before .before .before in
+    let start = getD (now (at-start .args .starts)) (at-start .args .k) 0 in
+    part-below (now (at-start .args .l)) (start + at-length .label-length .result - start) start 4294967296 (at-start .pre .2)
 
--- src/lib.rt:59:16
-word-requires : tie.Need-word-requires
-word-requires c κs = search needs
-
--- src/lib.rt:59:28
-word-requires-2 : tie.Need-word-requires-2
-word-requires-2 c κs = search needs
-
--- src/lib.rt:59:40
-word-requires-3 : tie.Need-word-requires-3
-word-requires-3 c κs = search needs
-
--- src/lib.rt:59:52
-word-requires-4 : tie.Need-word-requires-4
-word-requires-4 c κs = search needs
-
--- src/lib.rt:48:1
 returns-2 : tie.Need-returns-2
 returns-2 c =
-    let start = c .before .before .before .before .before .before .before .before .before in
-    let a = start .args in
-    let l = now (a .l) in
-    let call = c .before .before .before .before .before .label-length in
-    let size = label-long l (a .start) (a .size) (call .result) (call .ensures .0) in
-    let front = label-front l (a .start) (a .size) (call .result) (call .ensures .0) (label-within l (a .start) (a .size) (call .result) (call .ensures .1)) in
-    rw (ne-eqb (a .start) 0 (c .before .before .before .before .before .before .before .if1 .left)) (λ i. size i
-    ∷ (c .before .before .before .word .ensures ∙ ap (λ p. u32 p 0) front) i
-    ∷ (c .before .before .word2 .ensures ∙ ap (λ p. u32 p 4) front) i
-    ∷ (c .before .word3 .ensures ∙ ap (λ p. u32 p 8) front) i
-    ∷ (c .word4 .ensures ∙ ap (λ p. u32 p 12) front) i
-    ∷ [])
+    let at-words = c .before in
+    let at-length = at-words .before in
+    let at-choice = at-length .before .before .before in
+    let at-start = at-choice .before .before .before .before in
+    let a = at-start .args in
+    let front = label-front (now (a .l)) (getD (now (a .starts)) (a .k) 0) (getD (now (a .sizes)) (a .k) 0) (at-length .label-length .result) (at-length .label-length .ensures .0) (within at-length) in
+    rw (present (now (a .l)) (now (a .starts)) (now (a .sizes)) (at-start .pre .0) (a .k) (at-start .pre .1) (at-choice .if1 .left)) (c .label-words2 .ensures ∙ ap labelWords front)
 
 pub label-at-spec : {M : Type 1} → statement M
 label-at-spec =
     tie.close
     (tie.spec
+    mul-start
+    element-copy-out-start
+    label-words-requires
     returns
+    mul-end
+    element-copy-out-end
     add-end
     sub-label-length
     part-label-length-start
     part-label-length-end
     label-length-requires
     add-stop
-    sub-p
-    part-p-start
-    part-p-end
-    cast-t15
-    word-requires
-    word-requires-2
-    word-requires-3
-    word-requires-4
+    sub-label-words
+    part-label-words-start
+    part-label-words-end
+    label-words-requires-2
     returns-2)

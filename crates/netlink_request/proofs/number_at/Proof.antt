@@ -1,50 +1,67 @@
-use borrow.Author.Needs.{needs}
-use Prim.Native.Nat.{ℕ, _+_, _-_, _≤_}
-use mathlib.Core.Path.{_≡_, refl, sym, ap, _∙_}
 use native.Mathlib.Omega.{arith}
-use lib.ListN.{length, take, drop, length-set}
-use borrow.Author.Tests.{eq-eqb, ne-eqb}
 use denote.Ref.{now}
-use Rattle.netlink.specs.Reader.{number}
+use mathlib.Core.Path.{_∙_}
+use Rattle.netlink_request.specs.Laws.{missing, present}
+use borrow.Author.Needs.{needs}
 use Rattle.netlink_request.proofs.number_at.Statement.{statement}
 use Rattle.netlink_request.proofs.number_at.Tie as tie
-use Rattle.netlink_request.proofs.number_at.Reads as reads
-use Rattle.netlink_request.proofs.number_at.Lts as lts
-use Rattle.netlink_request.proofs.word.Reads as word-reads
 
--- src/lib.rt:106:9
+mul-start : tie.Need-mul-start
+mul-start c = search needs
+
+element-copy-out-start : tie.Need-element-copy-out-start
+element-copy-out-start c = search needs
+
 returns : tie.Need-returns
-returns c = rw (eq-eqb _ _ (c .if1 .taken))
+returns c =
+    let at-start = c .before .before .before in
+    let a = at-start .args in
+    rw (missing (now (a .l)) (now (a .starts)) (now (a .sizes)) (at-start .pre .0) (a .k) (at-start .pre .1) (c .if1 .taken))
 
--- src/lib.rt:108:15
+mul-end : tie.Need-mul-end
+mul-end c = search needs
+
+element-copy-out-end : tie.Need-element-copy-out-end
+element-copy-out-end c = search needs
+
 add-end : tie.Need-add-end
-add-end c = search needs
+add-end c =
+    let at-start = c .before .before .before .before in
+    omega (arith, at-start .pre .0 .inside (at-start .args .k))
 
--- src/lib.rt:109:10
 sub-word : tie.Need-sub-word
 sub-word c = search needs
 
--- src/lib.rt:109:10
 part-word-start : tie.Need-part-word-start
 part-word-start c = search needs
 
--- src/lib.rt:109:10
 part-word-end : tie.Need-part-word-end
-part-word-end c = search needs
+part-word-end c =
+    let at-start = c .before .before .before .before in
+    omega (arith, at-start .pre .0 .inside (at-start .args .k))
 
--- src/lib.rt:109:5
 word-requires : tie.Need-word-requires
 word-requires c κs = search needs
 
--- src/lib.rt:101:1
 returns-2 : tie.Need-returns-2
 returns-2 c =
-    let start = c .before .before .before .before in
-    let a = start .args in
-    let n : a .start + a .size - a .start ≡ a .size = omega arith in
-    rw (ne-eqb (a .start) 0 (c .before .before .if1 .left)) (c .word .ensures ∙ ap (λ k. number (take k (drop (a .start) (now (a .l))))) n)
+    let at-choice = c .before .before .before in
+    let at-start = at-choice .before .before .before in
+    let a = at-start .args in
+    rw (present (now (a .l)) (now (a .starts)) (now (a .sizes)) (at-start .pre .0) (a .k) (at-start .pre .1) (at-choice .if1 .left)) (c .word .ensures)
 
 pub number-at-spec : {M : Type 1} → statement M
 number-at-spec =
     tie.close
-    (tie.spec returns add-end sub-word part-word-start part-word-end word-requires returns-2)
+    (tie.spec
+    mul-start
+    element-copy-out-start
+    returns
+    mul-end
+    element-copy-out-end
+    add-end
+    sub-word
+    part-word-start
+    part-word-end
+    word-requires
+    returns-2)
