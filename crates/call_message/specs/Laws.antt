@@ -17,7 +17,9 @@ use Rattle.lists.specs.Bools.{fails, cond-case}
 use Rattle.netlink.specs.Codes.{rtmNewAddr, rtmDelAddr, rtmNewRoute, rtmDelRoute}
 use Rattle.netlink.specs.Exactly.{Shaped, four-types}
 use Rattle.netlink.specs.Attributes.{Attribute, attributes}
-use Rattle.netlink.specs.Reader.{messageLength, messageType, attributesAt, body, newAddr, delAddr, newRoute, delRoute, request, refusal, read}
+use Rattle.layout.specs.Request.{delRoute4Size}
+use Rattle.netlink.specs.Codes.{rtmNewAddr, rtmDelAddr, rtmNewRoute}
+use Rattle.netlink.specs.Reader.{Answer, messageLength, messageType, attributesAt, body, newAddr, delAddr, newRoute, delRoute, request, refusal, read}
 use Rattle.netlink.specs.Reader.{types, unknownMetric, metricsIn, metricsAsked, pairsAsked}
 use Rattle.netlink_request.specs.Laws.{length-asked}
 use Rattle.netlink_request.specs.Metrics.{pairsOf, pairs-short}
@@ -26,7 +28,7 @@ use Rattle.definition.specs.Call.{refusal as refusing}
 use Rattle.call_read.specs.Answer.{Writes}
 use Rattle.call_message.specs.declared.Asked.{Asked}
 use Rattle.call_message.specs.declared.Asked.the-variants.{Refused, Request}
-use Rattle.call_message.specs.Message.{requested, readCall}
+use Rattle.call_message.specs.Message.{requested, replied, readCall}
 use Rattle.call_message.specs.Answer.{askedBy, askedOf}
 
 -- ---- the headers lie within the message
@@ -175,3 +177,29 @@ module _ (room up : ℕ) (m b : List ℕ) where
     unfolding readCall read
     is-read {b′} {r} z e f =
         rw (le-leb 49 room h, eq-eqb (refusal m) 0 z, e) (record { answer = refl; says = refl; rows = f ∙ ap (λ (q : List ℕ). put 0 q b) (sym (flat-one (requestIn up m))) })
+
+-- ---- the words written are as many as the reply says, and at most 49
+request-short : (up : ℕ) (m : List ℕ) (t : ℕ) (l : List Attribute) → length (request up m t l) ≤ 49
+unfolding request
+request-short up m t l =
+    let few : Row → Type 0 = λ w. length w ≤ 49 in
+    cond-case few (eqb t rtmNewAddr) (λ e. omega (arith, length-new-addr up m l))
+    (λ e. cond-case few (eqb t rtmDelAddr) (λ e. omega (arith, length-del-addr up m l))
+    (λ e. cond-case few (eqb t rtmNewRoute) (λ e. omega (arith, length-new-route up m l)) (λ e. omega (arith, length-del-route up m l))))
+
+pub record Counted (r : Reply) : Type 0 where
+  pub words : length (flat (r .rows)) ≡ r .second
+  pub few : r .second ≤ 49
+
+counted-refusal : (n : ℕ) → Counted (refusing n)
+unfolding flat
+counted-refusal n = record { words = refl; few = omega arith }
+
+pub counted : (room up : ℕ) (m : List ℕ) → Counted (readCall room up m)
+unfolding readCall read
+counted room up m =
+    cond-case Counted (leb delRoute4Size room)
+    (λ e. cond-case (λ (a : Answer). Counted (replied a)) (eqb (refusal m) 0)
+    (λ e. record { words = ap length (flat-one (requestIn up m)); few = request-short up m (messageType m) (attributes (body m)) })
+    (λ e. counted-refusal (refusal m)))
+    (λ e. counted-refusal 200)
