@@ -13,7 +13,8 @@ pub mod Shrinking
 pub mod Numbers
 pub mod Emitted
 pub mod Refused
+pub mod Reading
+pub mod Shape
 pub mod Change
 pub mod Step
-pub mod Reading
 pub mod Peaks

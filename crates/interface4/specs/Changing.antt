@@ -20,8 +20,9 @@ use Rattle.definition.specs.Words.{stateSize}
 use Rattle.definition.specs.Call.{Call, Numbers, numbers, refusal}
 use Rattle.definition.specs.Step.{Result, Buffer, forEvents, alters, semantics, step, eventRoom}
 use Rattle.definition.specs.Laws.Refusals.{unfit-stays, others-leave}
+use Rattle.definition.specs.Preservation.Shape.{Shaped}
 use Rattle.definition.specs.Noninterference.Public.{Lent}
-use Rattle.definition.specs.Noninterference.ReadBack.{Shaped, shaped}
+use Rattle.definition.specs.Noninterference.ReadBack.{shaped}
 use Rattle.definition_bytes.specs.Bytes.{stateFits, with, suffices, inner, Made}
 use Rattle.call_reply.specs.declared.Reply.{Reply}
 use Rattle.call_reply.specs.Answer.{numbersIn}

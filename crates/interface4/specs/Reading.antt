@@ -18,9 +18,10 @@ use Rattle.endian.specs.Laws.{Below, words-below, bytes-none}
 use Rattle.definition.specs.Words.{stateSize}
 use Rattle.definition.specs.Call.{Call, Reply, Numbers, numbers, refusal}
 use Rattle.definition.specs.Step.{Buffer, unlent, forListing, forRow, alters, semantics, step, listingRoom}
+use Rattle.definition.specs.Preservation.Shape.{Shaped}
 use Rattle.definition.specs.Noninterference.Public as Words
 use Rattle.definition.specs.Noninterference.Public.{Lent, width, many}
-use Rattle.definition.specs.Noninterference.ReadBack.{Shaped, shaped, roomOf}
+use Rattle.definition.specs.Noninterference.ReadBack.{shaped}
 use Rattle.definition_bytes.specs.Bytes.{stateFits, rowWords, with, suffices, inner, Made}
 use Rattle.call_dispatch.specs.Numbered.{findAt, askAt}
 use Rattle.call_dispatch.specs.Laws.{Reads, find-is, ask-is}

@@ -170,7 +170,7 @@ pub record Events (rows : List Row) : Type 0 where
 no-events : Events []
 no-events = record { few = omega arith; size = refl }
 
-outcome-events : {later : State} (o : Outcome) (w : List ℕ) → Sound later o → Events (outcome o w .reply .rows)
+pub outcome-events : {later : State} (o : Outcome) (w : List ℕ) → Sound later o → Events (outcome o w .reply .rows)
 outcome-events (goes o) w s =
     cond-case (λ (r : Result). Events (r .reply .rows)) (within (o .peak)) (λ e. record { few = s .eventBound .few e; size = s .kept .events }) (λ e. no-events)
 outcome-events (refused n st) w s =
