@@ -66,13 +66,15 @@ Acts k (changes listed f) = Changes k listed f
 Acts k (replies f) = Replies f
 Acts k (lists f) = Unit {0}
 
--- and its rows can be read back (Shape): a change is lent an event buffer that suffices, of what else replies its reply shows it
+-- a buffer for events that suffices
 abbrev pub eventsIn : Buffer → Bool
 eventsIn unlent = false
 eventsIn (forEvents room) = eventsFit room
 eventsIn (forListing room) = false
 eventsIn (forRow room) = false
 
+-- what its rows need to be read back, once the checks are passed: a change has room for its events, any other reply has the buffer's
+-- shape
 abbrev pub Shapes : Checks → Buffer → Action → Type 0
 Shapes k b (changes listed f) = k .buffers ≡ true → eventsIn b ≡ true
 Shapes k b (replies f) = (st : State) → Good st → k .buffers ≡ true → Shaped b (f st)
