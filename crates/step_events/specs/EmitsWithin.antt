@@ -23,7 +23,7 @@ pub record Ready (potential : State → ℕ) (s ev : List ℕ) : Type 0 where
   pub state : State
   pub fits : Fits potential state s ev
 
--- a step from st came to o: the words hold o's state, and the r rows told stand at the start of the buffer, behind which nothing changed
+-- a step from st came to o: the words hold o's state, and the r rows emitted stand at the start of the buffer, behind which nothing changed
 pub record EmitsWithin (potential : State → ℕ) (st : State) (o : Out) (s ev₀ ev : List ℕ) (r : ℕ) : Type 0 where
   pub holds : Represents s (o .state)
   pub count : r ≡ length (o .emitted)
