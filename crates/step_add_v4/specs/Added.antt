@@ -4,6 +4,7 @@ use Prim.Native.Nat.{ℕ, _≤_, _<_}
 use mathlib.Core.Path.{_≡_, refl, sym, ap, _∙_}
 use mathlib.Core.Bool.{Bool}
 use mathlib.Core.List.{List, []}
+use mathlib.Core.Logic.{_⊎_, inl, inr}
 use mathlib.Core.Option.{none, some}
 use native.Mathlib.Omega.{arith}
 use lib.Dec.{eqb}
@@ -56,6 +57,14 @@ abbrev pub stepOf : Done → Done
 stepOf (Rows k) = Rows k
 stepOf (Refused n) = Rows 0
 stepOf Full = Full
+
+pub step-other : (r : Done) → ((n : ℕ) → r ≡ Refused n → ⊥) → r ≡ stepOf r
+step-other (Rows k) other = refl
+step-other (Refused n) other = absurd (other n refl)
+step-other Full other = refl
+
+pub not-second : (_≡_ {A = ℕ} 1 0) ⊎ (_≡_ {A = ℕ} 1 2) → ⊥
+not-second h = elim h [ inl a ↦ omega arith | inr b ↦ omega arith ]
 
 pub step-few : (n : ℕ) (d t : Done) → t ≡ stepOf d → rowsOf d ≤ n → rowsOf t ≤ n
 step-few n (Rows k) t e h = rw e h

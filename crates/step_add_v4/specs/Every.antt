@@ -24,10 +24,10 @@ use Rattle.definition.specs.Preservation.Addresses.{bring-keeps}
 use Rattle.definition.specs.Preservation.Growing as Growing
 use Rattle.state.specs.Represents.{Represents, count-addresses, Sound}
 use Rattle.step_events.specs.Emits.{does-length, rest}
-use Rattle.step_events.specs.Comes.{Comes, joined, holds-within, comes-rows, adds-also, adds-stop}
-use Rattle.step_events.specs.Through.{Covered, covered-through, adds-start, adds-next, adds-full-end, adds-end}
+use Rattle.step_events.specs.Comes.{Comes, NoRows, joined, joined-other, holds-within, comes-rows, adds-also, adds-stop}
+use Rattle.step_events.specs.Through.{Covered, covered-through, adds-start, adds-next, adds-other-end, adds-end}
 use Rattle.step_events.specs.declared.Done.{Done}
-use Rattle.step_events.specs.declared.Done.the-variants.{Rows, Full}
+use Rattle.step_events.specs.declared.Done.the-variants.{Rows}
 use Rattle.step_kernel_add.specs.Add.{kernelAdd4-covered}
 use Rattle.step_new_address.specs.Sound.{AddsFrom, Leaves, adds-sound, through-leaves, kernelAdd4-leaves}
 use Rattle.step_new_address.specs.Bring.{block-rows, block-ready}
@@ -138,21 +138,19 @@ module _ {s₀ ev₀ s ev : List ℕ} {i t : ℕ} (a : LoopInvariant s₀ ev₀ 
               subst (λ (q : Done). Comes (goes (through (turn (st .addresses)) (take (i + 1) (st .addresses)) st)) w ev₀ (take (34 * t) ev ++ (x ++ drop (length ev - 34 * t) (drop (34 * t) ev))) (joined t q)) e (one-more st h f);
         }
 
-    pub sofar-full : r ≡ Full → {w′ ev′ : List ℕ} → AddsFrom every s₀ w′ ev₀ ev′ Full
-    sofar-full e st h f =
-        adds-full-end (turn (st .addresses)) (st .addresses) st (turn-covered (st .addresses)) (holds-within h) (i + 1)
-        (subst (λ (q : Done). Comes (goes (through (turn (st .addresses)) (take (i + 1) (st .addresses)) st)) w ev₀ (take (34 * t) ev ++ (x ++ drop (length ev - 34 * t) (drop (34 * t) ev))) (joined t q)) e (one-more st h f))
+    pub sofar-other : NoRows r → {w′ ev′ : List ℕ} → AddsFrom every s₀ w′ ev₀ ev′ r
+    sofar-other other st h f =
+        adds-other-end (turn (st .addresses)) (st .addresses) st (turn-covered (st .addresses)) (holds-within h) (i + 1) other
+        (rw (← (joined-other t r other)) at (one-more st h f))
 
   pub sofar-end : addressCount s₀ ≤ i → AddsFrom every s₀ s ev₀ ev (Rows t)
   sofar-end b st h f = adds-end (turn (st .addresses)) (st .addresses) st i (omega (arith, count-addresses h)) (a .adds st h f)
 
 -- ---- up: the loopback's address, then every address's routes
 module _ (clock : ℕ) {s₀ s ev₀ ev : List ℕ} {r : Done} (a : AddsFrom (λ st. outOf (addV4 loopback clock st)) s₀ s ev₀ ev r) where
-  pub up-full : r ≡ Full → {w ev′ : List ℕ} → AddsFrom (up clock) s₀ w ev₀ ev′ Full
+  pub up-other : NoRows r → {w ev′ : List ℕ} → AddsFrom (up clock) s₀ w ev₀ ev′ r
   unfolding up
-  up-full e st h f =
-      let full : Comes (goes (outOf (addV4 loopback clock st))) s ev₀ ev Full = subst (λ (q : Done). Comes (goes (outOf (addV4 loopback clock st))) s ev₀ ev q) e (a st h f) in
-      adds-stop full every
+  up-other other st h f = adds-stop other (a st h f) every
 
   module _ (k : ℕ) (e : r ≡ Rows k) where
     came : AddsFrom (λ st. outOf (addV4 loopback clock st)) s₀ s ev₀ ev (Rows k)
