@@ -36,7 +36,7 @@ module _ (potential : State → ℕ) {st : State} where
   weighed : {o : Out} {s ev₀ ev : List ℕ} {r : ℕ} → Emits o s ev₀ ev r → r + potential (o .state) ≤ potential st → 34 * potential st ≤ length ev₀ → EmitsWithin potential st o s ev₀ ev r
   weighed d l m = record { holds = d .holds; count = d .count; wide = d .wide; words = d .words; less = l; room = m }
 
-  step-does : {o : Out} {s ev₀ ev : List ℕ} {r : ℕ} → EmitsWithin potential st o s ev₀ ev r → Emits o s ev₀ ev r
+  pub step-does : {o : Out} {s ev₀ ev : List ℕ} {r : ℕ} → EmitsWithin potential st o s ev₀ ev r → Emits o s ev₀ ev r
   step-does t = record { holds = t .holds; count = t .count; wide = t .wide; words = t .words; room = omega (arith, t .less, t .room) }
 
   pub step-same : {o p : Out} {s ev₀ ev : List ℕ} {r : ℕ} → o .state ≡ p .state → o .emitted ≡ p .emitted → EmitsWithin potential st o s ev₀ ev r → EmitsWithin potential st p s ev₀ ev r

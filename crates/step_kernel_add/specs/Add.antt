@@ -25,6 +25,7 @@ use Rattle.state_tables.specs.Listed.{tablesOf}
 use Rattle.step_insert.specs.Plan.{answerOf, rowsAfter, InsertedInto}
 use Rattle.step_insert.specs.declared.Inserted.{Inserted}
 use Rattle.step_insert.specs.declared.Inserted.the-variants.{Put, Nothing, Refused, Full}
+use Rattle.step_events.specs.Row.{new-route-long}
 use Rattle.step_events.specs.Emits.{does-one}
 use Rattle.step_events.specs.Comes.{Comes, holds-within, goes-made, comes-full, adds-none}
 use Rattle.step_events.specs.Through.{Covered}
@@ -43,10 +44,6 @@ routes-pass false b c h = refl
 pub created-fit : (t : ℕ) (st : State) → fitState st ≡ true → fitState (create4 t st) ≡ true
 created-fit t st h = state-fit (create4 t st) (create4-fit t st (fit-state st h))
 
-length-event : (r : Row) (flags : ℕ) → length r ≡ 32 → length (newRoute4 r flags) ≡ 34
-unfolding newRoute4
-length-event r flags h = omega arith
-
 -- ---- by what came of the insertion into the state with the table listed
 module _ (new : Row) (made : State) {w ev : List ℕ} where
   after-put : (i : Insert.Inserted) (flags : ℕ) {ev′ : List ℕ} → Put flags ≡ answerOf i → Represents w (withRoutes (rowsAfter i (made .routes)) made)
@@ -57,7 +54,7 @@ module _ (new : Row) (made : State) {w ev : List ℕ} where
       let same : Put flags ≡ Put emitted = rw f at e in
       let is : flags ≡ emitted = cc in
       let k : Represents w (withRoutes rows made) = rw f at h in
-      goes-made (holds-within k) (does-one (withRoutes rows made) (newRoute4 new emitted) k (length-event new emitted n) room (rw is at x)))
+      goes-made (holds-within k) (does-one (withRoutes rows made) (newRoute4 new emitted) k (new-route-long new emitted n) room (rw is at x)))
       (λ f.
       let same : Put flags ≡ Full = rw f at e in
       let z : _≡_ {A = ℕ} 0 1 = cc in
