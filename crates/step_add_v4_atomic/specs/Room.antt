@@ -31,7 +31,7 @@ use Rattle.definition.specs.Preservation.Growing.{Grows, insert-grows, no-repla
 use Rattle.definition.specs.Preservation.Peaks.{kernelAdd4-rises, newAddress-rises, up-rises, rises-within, kernelDel4-under}
 use Rattle.definition.specs.Preservation.Step.{covered}
 use Rattle.definition.specs.Step.{roomy}
-use Rattle.step_events.specs.EmitsOrFull.{within-also}
+use Rattle.step_events.specs.Comes.{within-also}
 use Rattle.step_add_v4.specs.Every.{turn, every}
 use Rattle.row_candidates.specs.Rows.{subnetRoute}
 

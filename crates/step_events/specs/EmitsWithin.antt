@@ -23,7 +23,7 @@ pub record Ready (potential : State → ℕ) (s ev : List ℕ) : Type 0 where
   pub state : State
   pub fits : Fits potential state s ev
 
--- a step from st came to o: the words hold o's state, and the r rows told stand at the start of the buffer, behind which nothing changed
+-- a step from st came to o: the words hold o's state, and the r rows emitted stand at the start of the buffer, behind which nothing changed
 pub record EmitsWithin (potential : State → ℕ) (st : State) (o : Out) (s ev₀ ev : List ℕ) (r : ℕ) : Type 0 where
   pub holds : Represents s (o .state)
   pub count : r ≡ length (o .emitted)
@@ -36,7 +36,7 @@ module _ (potential : State → ℕ) {st : State} where
   weighed : {o : Out} {s ev₀ ev : List ℕ} {r : ℕ} → Emits o s ev₀ ev r → r + potential (o .state) ≤ potential st → 34 * potential st ≤ length ev₀ → EmitsWithin potential st o s ev₀ ev r
   weighed d l m = record { holds = d .holds; count = d .count; wide = d .wide; words = d .words; less = l; room = m }
 
-  step-does : {o : Out} {s ev₀ ev : List ℕ} {r : ℕ} → EmitsWithin potential st o s ev₀ ev r → Emits o s ev₀ ev r
+  pub step-does : {o : Out} {s ev₀ ev : List ℕ} {r : ℕ} → EmitsWithin potential st o s ev₀ ev r → Emits o s ev₀ ev r
   step-does t = record { holds = t .holds; count = t .count; wide = t .wide; words = t .words; room = omega (arith, t .less, t .room) }
 
   pub step-same : {o p : Out} {s ev₀ ev : List ℕ} {r : ℕ} → o .state ≡ p .state → o .emitted ≡ p .emitted → EmitsWithin potential st o s ev₀ ev r → EmitsWithin potential st p s ev₀ ev r

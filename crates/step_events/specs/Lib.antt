@@ -2,5 +2,5 @@ pub mod Row
 pub mod Emits
 pub mod EmitsWithin
 pub mod Turns
-pub mod EmitsOrFull
+pub mod Comes
 pub mod Through

@@ -10,7 +10,7 @@ use Rattle.state.specs.Represents.{Represents}
 use Rattle.step_events.specs.EmitsWithin.{Fits, Ready, EmitsWithin, step-same, step-none, rest-fits, step-also}
 use Rattle.step_events.specs.Emits.{rest}
 
--- ---- steps that show the same: the state that they leave and the rows that they tell
+-- ---- steps that show the same: the state that they leave and the rows that they emit
 pub record Like (o p : Out) : Type 0 where
   pub leaves : o .state ≡ p .state
   pub sameEmitted : o .emitted ≡ p .emitted
@@ -61,7 +61,7 @@ through-append f (x ∷ l) m st =
     (like-sym (also-assoc (f x st) (through f l) (through f m)))
 
 -- ---- turns
--- k rows are told of a step to goal: what remains is next, and what a turn needs of the state is held
+-- k rows are emitted of a step to goal: what remains is next, and what a turn needs of the state is held
 pub record Going (potential : State → ℕ) (st : State) (goal : Out) (next : State → Out) (held : State → Type 0) (s ev₀ ev : List ℕ) (k : ℕ) : Type 0 where
   pub sofar : Out
   pub step : EmitsWithin potential st sofar s ev₀ ev k

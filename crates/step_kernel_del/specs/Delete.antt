@@ -22,6 +22,7 @@ use Rattle.definition.specs.Reference.Insert.{named, kernelDel4}
 use Rattle.definition.specs.Preservation.Shrinking.{potential, live, kernelDel4-away}
 use Rattle.state.specs.Represents.{Represents, sizedR, count-routes}
 use Rattle.state.specs.Change.{route-at}
+use Rattle.step_events.specs.Row.{del-route-long}
 use Rattle.step_events.specs.Emits.{Emits, does-none, does-one}
 use Rattle.step_events.specs.EmitsWithin.{Fits, Ready, EmitsWithin, does-step}
 
@@ -32,10 +33,6 @@ named-far p r h =
     sym (fails (named p r) (λ k. h (sym (eqb-true (dst r) (dst p) ((simp and-iff at k) .0 .0 .0 .0 .0 .0 .0 .0 .0 .1)))))
 
 -- ---- the deletion
-length-event : (r : Row) → length r ≡ 32 → length (delRoute4 r) ≡ 34
-unfolding delRoute4
-length-event r h = omega arith
-
 module _ (p : Row) (st : State) {w ev : List ℕ} (h : Represents w st) (i : ℕ) (e : i ≡ placeOf (named p) (st .routes)) where
   pub none-named : length (st .routes) ≤ i → Emits (kernelDel4 p st) w ev ev 0
   unfolding kernelDel4
@@ -52,7 +49,7 @@ module _ (p : Row) (st : State) {w ev : List ℕ} (h : Represents w st) (i : ℕ
       let gone : removeFirst (named p) (st .routes) ≡ take i (st .routes) ++ drop (suc i) (st .routes) = rw (← e) at (remove-at (named p) (st .routes)) in
       let size : routesAt + 32 * i + 32 - (routesAt + 32 * i) ≡ 32 = omega arith in
       let there : take (routesAt + 32 * i + 32 - (routesAt + 32 * i)) (drop (routesAt + 32 * i) w) ≡ r = rw size (unfold span in route-at h i b) in
-      rw (found, gone) (does-one (withRoutes (take i (st .routes) ++ drop (suc i) (st .routes)) st) (delRoute4 r) k (length-event r (sized-at 32 (st .routes) i b (sizedR h))) room (x ∙ ap (λ (y : Row). put 0 (delRoute4 y) ev) there))
+      rw (found, gone) (does-one (withRoutes (take i (st .routes) ++ drop (suc i) (st .routes)) st) (delRoute4 r) k (del-route-long r (sized-at 32 (st .routes) i b (sizedR h))) room (x ∙ ap (λ (y : Row). put 0 (delRoute4 y) ev) there))
 
 -- the row as it is lent
 pub row-wide : (w : List ℕ) (i : ℕ) → length w ≡ baseSize → i < 256 → length (take (routesAt + 32 * i + 32 - (routesAt + 32 * i)) (drop (routesAt + 32 * i) w)) ≡ 32

@@ -15,16 +15,16 @@ use Rattle.lists.specs.Block.{block-laid}
 use Rattle.layout.specs.Route.{fitRoute}
 use Rattle.definition.specs.State.{through}
 use Rattle.definition.specs.Reference.Insert.{kernelAdd4}
-use Rattle.definition.specs.Reference.Addresses.{bring}
+use Rattle.definition.specs.Reference.Addresses.{goes, bring}
 use Rattle.definition.specs.Preservation.Fit.{sized-routes}
 use Rattle.definition.specs.Preservation.Keeps.{Keeps, through-keeps, keeps-fit}
 use Rattle.definition.specs.Preservation.Addresses.{kernelAdd4-keeps}
 use Rattle.state.specs.Represents.{Valid, Sound, sound-valid}
 use Rattle.step_events.specs.Emits.{does-length, rest}
-use Rattle.step_events.specs.EmitsOrFull.{EmitsOrFull, joined, holds-within, adds-rows}
-use Rattle.step_events.specs.Through.{adds-start, adds-next, adds-full-end, adds-end}
-use Rattle.step_events.specs.declared.Told.{Told}
-use Rattle.step_events.specs.declared.Told.the-variants.{Rows, Full}
+use Rattle.step_events.specs.Comes.{Comes, NoRows, joined, joined-other, holds-within, comes-rows}
+use Rattle.step_events.specs.Through.{adds-start, adds-next, adds-other-end, adds-end}
+use Rattle.step_events.specs.declared.Done.{Done}
+use Rattle.step_events.specs.declared.Done.the-variants.{Rows}
 use Rattle.step_kernel_add.specs.Add.{kernelAdd4-covered}
 use Rattle.step_new_address.specs.Sound.{AddsFrom, adds-holds, adds-sound}
 
@@ -56,16 +56,16 @@ module _ {block s₀ ev₀ s ev : List ℕ} {i t : ℕ} (a : LoopInvariant block
   sofar-valid v y = sound-valid (sofar-sound v y)
 
   pub sofar-length : Sound s₀ → Lays 32 fitRoute block → length ev ≡ length ev₀
-  sofar-length v y = does-length ((adds-rows (a .adds (y .list) (y .laid) (v .state) (v .holds) (v .fits))) .1)
+  sofar-length v y = does-length ((comes-rows (a .adds (y .list) (y .laid) (v .state) (v .holds) (v .fits))) .1)
 
   module _ (k : ℕ) (long : length block ≡ 32 * k) where
-    module _ (b : i < k) {w x : List ℕ} {r : Told} (u : AddsFrom (kernelAdd4 (part 32 block i)) s w (rest t ev) x r) where
+    module _ (b : i < k) {w x : List ℕ} {r : Done} (u : AddsFrom (kernelAdd4 (part 32 block i)) s w (rest t ev) x r) where
       one-more : (rows : List Row) → Laid 32 fitRoute block rows
           → AddsFrom (through kernelAdd4 (take (i + 1) rows)) s₀ w ev₀ (take (34 * t) ev ++ (x ++ drop (length ev - 34 * t) (drop (34 * t) ev))) (joined t r)
       one-more rows h st hs f =
           let b′ : i < length rows = omega (arith, laid-rows block k (lit< tt) long rows h) in
           let step = through kernelAdd4 (take i rows) in
-          let here : EmitsOrFull (kernelAdd4 (getD rows i []) ((step st) .state)) w (rest t ev) x r =
+          let here : Comes (goes (kernelAdd4 (getD rows i []) ((step st) .state))) w (rest t ev) x r =
           rw (laid-part h i b′) at (u ((step st) .state) (adds-holds step (a .adds rows h) st hs f) (keeps-fit step (first-keep rows i (h .fitting)) st f))
           in
           adds-next kernelAdd4 rows st kernelAdd4-covered (holds-within hs) i [] b′ (a .adds rows h st hs f) here
@@ -74,14 +74,13 @@ module _ {block s₀ ev₀ s ev : List ℕ} {i t : ℕ} (a : LoopInvariant block
       sofar-next m e =
           record {
             adds = λ rows h st hs f.
-                subst (λ (q : Told). EmitsOrFull (through kernelAdd4 (take (i + 1) rows) st) w ev₀ (take (34 * t) ev ++ (x ++ drop (length ev - 34 * t) (drop (34 * t) ev))) (joined t q)) e (one-more rows h st hs f);
+                subst (λ (q : Done). Comes (goes (through kernelAdd4 (take (i + 1) rows) st)) w ev₀ (take (34 * t) ev ++ (x ++ drop (length ev - 34 * t) (drop (34 * t) ev))) (joined t q)) e (one-more rows h st hs f);
           }
 
-      pub sofar-full : r ≡ Full → {w′ ev′ : List ℕ} (rows : List Row) → Laid 32 fitRoute block rows → AddsFrom (bring rows) s₀ w′ ev₀ ev′ Full
+      pub sofar-other : NoRows r → {w′ ev′ : List ℕ} (rows : List Row) → Laid 32 fitRoute block rows → AddsFrom (bring rows) s₀ w′ ev₀ ev′ r
       unfolding bring
-      sofar-full e rows h st hs f =
-          adds-full-end kernelAdd4 rows st kernelAdd4-covered (holds-within hs) (i + 1)
-          (subst (λ (q : Told). EmitsOrFull (through kernelAdd4 (take (i + 1) rows) st) w ev₀ (take (34 * t) ev ++ (x ++ drop (length ev - 34 * t) (drop (34 * t) ev))) (joined t q)) e (one-more rows h st hs f))
+      sofar-other other rows h st hs f =
+          adds-other-end kernelAdd4 rows st kernelAdd4-covered (holds-within hs) (i + 1) other (rw (← (joined-other t r other)) at (one-more rows h st hs f))
 
     pub sofar-end : k ≤ i → (rows : List Row) → Laid 32 fitRoute block rows → AddsFrom (bring rows) s₀ s ev₀ ev (Rows t)
     unfolding bring

@@ -13,11 +13,12 @@ use Rattle.definition.specs.State.{State, Out, stays, also, through}
 use Rattle.definition.specs.Words.{fitState}
 use Rattle.definition.specs.Reference.Insert as Insert
 use Rattle.definition.specs.Reference.Insert.{create4, insert4, inserted, kernelAdd4}
+use Rattle.definition.specs.Reference.Addresses.{goes}
 use Rattle.definition.specs.Preservation.Keeps.{Keeps, keeps-fit}
 use Rattle.state.specs.Represents.{Represents, Sound}
-use Rattle.step_events.specs.EmitsOrFull.{EmitsOrFull, rowsOf, joined, adds-rows}
-use Rattle.step_events.specs.declared.Told.{Told}
-use Rattle.step_events.specs.declared.Told.the-variants.{Rows, Full}
+use Rattle.step_events.specs.Comes.{Comes, rowsOf, joined, comes-rows}
+use Rattle.step_events.specs.declared.Done.{Done}
+use Rattle.step_events.specs.declared.Done.the-variants.{Rows, Refused, Full}
 use Rattle.layout.specs.Route.{table}
 
 -- what is left of a buffer
@@ -26,12 +27,12 @@ rest-room t n ev h =
     let l : length (rest t ev) ≡ length ev - 34 * t = length-take-le (length ev - 34 * t) (drop (34 * t) ev) (rw length-drop (omega arith)) in
     omega arith
 
-abbrev pub AddsFrom : (State → Out) → List ℕ → List ℕ → List ℕ → List ℕ → Told → Type 0
-AddsFrom f w₀ w ev₀ ev r = (st : State) → Represents w₀ st → fitState st ≡ true → EmitsOrFull (f st) w ev₀ ev r
+abbrev pub AddsFrom : (State → Out) → List ℕ → List ℕ → List ℕ → List ℕ → Done → Type 0
+AddsFrom f w₀ w ev₀ ev r = (st : State) → Represents w₀ st → fitState st ≡ true → Comes (goes (f st)) w ev₀ ev r
 
 -- a step that had room leaves words that hold a fit state
 pub adds-holds : (f : State → Out) {w₀ w ev₀ ev : List ℕ} {k : ℕ} → AddsFrom f w₀ w ev₀ ev (Rows k) → (st : State) → Represents w₀ st → fitState st ≡ true → Represents w ((f st) .state)
-adds-holds f a st h g = (adds-rows (a st h g)) .1 .holds
+adds-holds f a st h g = (comes-rows (a st h g)) .1 .holds
 
 pub adds-sound : (f : State → Out) → Keeps f → {w₀ w ev₀ ev : List ℕ} {k : ℕ} → AddsFrom f w₀ w ev₀ ev (Rows k) → Sound w₀ → Sound w
 adds-sound f k a s =
@@ -68,21 +69,19 @@ kernelAdd4-leaves new =
     go new (Insert.unplaced n) made = refl
 
 -- ---- answers
-pub rows-are : (n : ℕ) (t : Told) (m : ℕ) → t ≡ Rows m → rowsOf t ≤ n → m ≤ n
+pub rows-are : (n : ℕ) (t : Done) (m : ℕ) → t ≡ Rows m → rowsOf t ≤ n → m ≤ n
 rows-are n t m e h = rw e at h
 
-pub joined-room : (k : ℕ) (t : Told) (m : ℕ) → t ≡ Rows m → k + rowsOf t ≤ 1000 → k + m ≤ 1000
+pub joined-room : (k : ℕ) (t : Done) (m : ℕ) → t ≡ Rows m → k + rowsOf t ≤ 1000 → k + m ≤ 1000
 joined-room k t m e h = rw e at h
 
-pub joined-rows : (k : ℕ) (t : Told) (m : ℕ) → t ≡ Rows m → Rows (k + m) ≡ joined k t
+pub joined-rows : (k : ℕ) (t : Done) (m : ℕ) → t ≡ Rows m → Rows (k + m) ≡ joined k t
 joined-rows k t m e = rw e
 
-pub joined-full : (k : ℕ) (t : Told) → t ≡ Full → Full ≡ joined k t
-joined-full k t e = rw e
-
-pub joined-le : (k n : ℕ) (t : Told) → rowsOf t ≤ n → rowsOf (joined k t) ≤ k + n
+pub joined-le : (k n : ℕ) (t : Done) → rowsOf t ≤ n → rowsOf (joined k t) ≤ k + n
 joined-le k n (Rows m) h = omega arith
+joined-le k n (Refused m) h = omega arith
 joined-le k n Full h = omega arith
 
-pub joined-few : (k n : ℕ) (t r : Told) → r ≡ joined k t → rowsOf t ≤ n → rowsOf r ≤ k + n
+pub joined-few : (k n : ℕ) (t r : Done) → r ≡ joined k t → rowsOf t ≤ n → rowsOf r ≤ k + n
 joined-few k n t r e h = rw e (joined-le k n t h)

@@ -22,7 +22,7 @@ ghost use Rattle.state_tables.specs.Listed.{tablesOf};
 ghost use Rattle.request_gateway.specs.Rows.{reachedOf};
 ghost use Rattle.layout.specs.Route.{fitRoute};
 ghost use Rattle.definition.specs.Words.{fitState};
-ghost use Rattle.step_route_request.specs.Done.{Requested};
+ghost use Rattle.step_events.specs.Comes.{ComesWhole};
 ghost use Rattle.step_route_request.specs.Add.{fullOf, Tells};
 ghost use Rattle.step_route_request.specs.Check.{prefsrcCheck, checkAll};
 
@@ -31,7 +31,7 @@ pub fn del_route4(s: &mut [u32], ev: &mut [u32], q: &[u32]) -> Done
     requires { ⌜ Valid (now s) ⌝ }
     requires { ⌜ (length (now q) ≡ 49) × (fitDelRoute4 (now q) ≡ true) ⌝ }
     requires { ⌜ 34 ≤ length (now ev) ⌝ }
-    ensures { λ r. ⌜ ((st : State) → Represents (now (s .entry)) st → Requested (delRoute4Request (now (q .entry)) st) st (now (s .exit)) (now (ev .entry)) (now (ev .exit)) r) ⌝ }
+    ensures { λ r. ⌜ ((st : State) → Represents (now (s .entry)) st → ComesWhole st (delRoute4Request (now (q .entry)) st) (now (s .exit)) (now (ev .entry)) (now (ev .exit)) r) ⌝ }
 {
     let t = request_route::table_named(q);
     if !state_tables::listed(s, t) {
@@ -101,7 +101,7 @@ fn full(i: Inserted) -> bool
     }
 }
 
-// What an insertion comes to, a row put in told of.
+// What an insertion comes to, with the event of a row put in.
 fn tell(ev: &mut [u32], new: &[u32], i: Inserted) -> Done
     requires { ⌜ (34 ≤ length (now ev)) × (length (now new) ≡ 32) ⌝ }
     ensures { λ r. ⌜ Tells (now (new .entry)) i (now (ev .entry)) (now (ev .exit)) r ⌝ }
@@ -123,7 +123,7 @@ fn add_checked(s: &mut [u32], ev: &mut [u32], q: &[u32], t: u32, linked: bool) -
     requires { ⌜ length (listTable t (tablesOf (now s))) ≤ 32 ⌝ }
     requires { ⌜ (length (now q) ≡ 34) × (fitRoute (askedRoute (now q) linked) ≡ true) ⌝ }
     requires { ⌜ 34 ≤ length (now ev) ⌝ }
-    ensures { λ r. ⌜ ((st : State) → Represents (now (s .entry)) st → fitState st ≡ true → Requested (insertedAs (askedRoute (now (q .entry)) linked) (insert4 (askedRoute (now (q .entry)) linked) (nlmFlags (now (q .entry))) (st .routes)) (create4 t st)) st (now (s .exit)) (now (ev .entry)) (now (ev .exit)) r) ⌝ }
+    ensures { λ r. ⌜ ((st : State) → Represents (now (s .entry)) st → fitState st ≡ true → ComesWhole st (insertedAs (askedRoute (now (q .entry)) linked) (insert4 (askedRoute (now (q .entry)) linked) (nlmFlags (now (q .entry))) (st .routes)) (create4 t st)) (now (s .exit)) (now (ev .entry)) (now (ev .exit)) r) ⌝ }
 {
     let mut new = [0u32; ROUTE_WORDS];
     request_route::asked_route(q, linked, &mut new);
@@ -140,7 +140,7 @@ pub fn add_route4(s: &mut [u32], ev: &mut [u32], q: &[u32]) -> Done
     requires { ⌜ Sound (now s) ⌝ }
     requires { ⌜ (length (now q) ≡ 34) × (fitAddRoute4 (now q) ≡ true) ⌝ }
     requires { ⌜ 34 ≤ length (now ev) ⌝ }
-    ensures { λ r. ⌜ ((st : State) → Represents (now (s .entry)) st → fitState st ≡ true → Requested (addRoute4 (now (q .entry)) st) st (now (s .exit)) (now (ev .entry)) (now (ev .exit)) r) ⌝ }
+    ensures { λ r. ⌜ ((st : State) → Represents (now (s .entry)) st → fitState st ≡ true → ComesWhole st (addRoute4 (now (q .entry)) st) (now (s .exit)) (now (ev .entry)) (now (ev .exit)) r) ⌝ }
 {
     let t = request_route::table_named(q);
     if TABLE_LIMIT < state_tables::tables_after(s, t) {

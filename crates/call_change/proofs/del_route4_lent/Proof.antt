@@ -12,7 +12,7 @@ use Rattle.definition.specs.Preservation.Numbers.{delRoute4-number}
 use Rattle.state.specs.Represents.{sound-valid}
 use Rattle.call_read.specs.Laws.{passed, lent}
 use Rattle.call_change.specs.Laws.{request-checked, sizes, sound, answers-refused, answers-passed}
-use Rattle.call_change.specs.Steps.{requested-answers}
+use Rattle.call_change.specs.Steps.{whole-answers}
 use borrow.Author.Needs.{needs}
 use Rattle.call_change.proofs.del_route4_lent.Statement.{statement}
 use Rattle.call_change.proofs.del_route4_lent.Tie as tie
@@ -118,7 +118,7 @@ returns-2 c =
     in
     let p = passed (call .checks) w n-is (at-step .before .before .before .if1 .left) in
     answers-passed call w p
-    (requested-answers w (delRoute4Request q (stateOf w)) (at-step .del-route4 .result) p (delRoute4-number q (stateOf w))
+    (whole-answers p (delRoute4Request q (stateOf w)) (delRoute4-number q (stateOf w))
     (at-step .del-route4 .ensures (stateOf w) (p .holds)) (c .of-done .ensures))
 
 pub del-route4-lent-spec : {M : Type 1} → statement M

@@ -4,7 +4,8 @@ use native.Mathlib.Omega.{arith}
 use lib.ListN.{length}
 use Rattle.state.specs.Represents.{sound-long}
 use Rattle.step_new_address.specs.Sound.{rest-room, rows-are}
-use Rattle.step_add_v4.specs.Every.{LoopInvariant, sofar-start, sofar-sound, sofar-few, sofar-length, sofar-count, sofar-next, sofar-full, sofar-end}
+use Rattle.step_add_v4.specs.Every.{LoopInvariant, sofar-start, sofar-sound, sofar-few, sofar-length, sofar-count, sofar-next, sofar-other, sofar-end}
+use Rattle.step_events.specs.Comes.{not-first}
 use borrow.Author.Needs.{needs}
 use Rattle.step_add_v4.proofs.bring_all.Statement.{statement}
 use Rattle.step_add_v4.proofs.bring_all.Tie as tie
@@ -66,17 +67,6 @@ bring-at-requires c κs =
 enum-known-came : tie.Need-enum-known-came Inv-loop μ-loop
 enum-known-came c = search needs
 
-add-emitted : tie.Need-add-emitted Inv-loop μ-loop
-add-emitted c =
-    let t = c .before in
-    let w = t .before .before .before .before .before .before in
-    let k = w .before .before .before .before in
-    let inv = k .loop .inv in
-    omega (arith, inv .1 .0, rows-are 4 (w .bring-at .result) (t .came .given .0 .0) (t .came .given .1) (w .bring-at .ensures .0))
-
-enum-told : tie.Need-enum-told Inv-loop μ-loop
-enum-told c = search needs
-
 same-length : tie.Need-same-length Inv-loop μ-loop
 same-length c = search needs
 
@@ -85,11 +75,19 @@ same-length-2 c = search needs
 
 returns : tie.Need-returns Inv-loop μ-loop
 returns c =
-    let w = c .before .before .before .before .before .before in
+    let w = c .before .before .before .before .before in
     let k = w .before .before .before .before in
     let n = k .before in
     let inv = k .loop .inv in
-    (omega arith, sofar-full (inv .1 .1 .1 .1) (omega (arith, n .address-count .ensures, w .before .before .before .loop-test .taken)) (w .bring-at .ensures .1) (c .enum-told .given .1))
+    (omega (arith, w .bring-at .ensures .0), sofar-other (inv .1 .1 .1 .1) (omega (arith, n .address-count .ensures, w .before .before .before .loop-test .taken)) (w .bring-at .ensures .1) (λ k e. not-first (rw e at (c .match .keys2))))
+
+add-emitted : tie.Need-add-emitted Inv-loop μ-loop
+add-emitted c =
+    let t = c .before in
+    let w = t .before .before .before .before .before .before in
+    let k = w .before .before .before .before in
+    let inv = k .loop .inv in
+    omega (arith, inv .1 .0, rows-are 4 (w .bring-at .result) (t .came .given .0 .0) (t .came .given .1) (w .bring-at .ensures .0))
 
 add-i : tie.Need-add-i Inv-loop μ-loop
 add-i c = search needs
@@ -137,11 +135,10 @@ bring-all-spec =
     part-bring-at-end
     bring-at-requires
     enum-known-came
-    add-emitted
-    enum-told
     same-length
     same-length-2
     returns
+    add-emitted
     add-i
     loop-less
     loop-again

@@ -2,11 +2,12 @@ use lib.Dec.{lit<}
 use Rattle.lists.specs.Pass.{part-fit}
 use Rattle.state.specs.Represents.{sound-long}
 use Rattle.step_new_address.specs.Sound.{rest-room, rows-are}
+use Rattle.step_events.specs.Comes.{not-first}
 use Prim.Native.Nat.{_-_, _≤_}
 use mathlib.Core.Path.{_≡_, refl, sym, _∙_}
 use native.Mathlib.Omega.{arith}
 use lib.ListN.{length}
-use Rattle.step_new_address.specs.Bring.{LoopInvariant, sofar-start, sofar-sound, sofar-valid, sofar-length, sofar-next, sofar-full, sofar-end}
+use Rattle.step_new_address.specs.Bring.{LoopInvariant, sofar-start, sofar-sound, sofar-valid, sofar-length, sofar-next, sofar-other, sofar-end}
 use borrow.Author.Needs.{needs}
 use Rattle.step_new_address.proofs.bring.Statement.{statement}
 use Rattle.step_new_address.proofs.bring.Tie as tie
@@ -78,17 +79,6 @@ kernel-add4-requires c κs =
 enum-known-came : tie.Need-enum-known-came Inv-loop μ-loop
 enum-known-came c = search needs
 
-add-emitted : tie.Need-add-emitted Inv-loop μ-loop
-add-emitted c =
-    let t = c .before in
-    let w = t .before .before .before .before .before .before in
-    let k = w .before .before .before .before .before in
-    let s = k .before .before .before .before in
-    omega (arith, k .loop .inv .0, k .loop .inv .1 .0, s .pre .1 .1 .1, rows-are 1 (w .kernel-add4 .result) (t .came .given .0 .0) (t .came .given .1) (w .kernel-add4 .ensures .1 .0))
-
-enum-told : tie.Need-enum-told Inv-loop μ-loop
-enum-told c = search needs
-
 same-length : tie.Need-same-length Inv-loop μ-loop
 same-length c = search needs
 
@@ -97,12 +87,21 @@ same-length-2 c = search needs
 
 returns : tie.Need-returns Inv-loop μ-loop
 returns c =
-    let w = c .before .before .before .before .before .before in
+    let w = c .before .before .before .before .before in
     let k = w .before .before .before .before .before in
     let s = k .before .before .before .before in
     let y = s .pre .1 .0 in
     let inv = k .loop .inv in
-    (omega arith, λ rows h. sofar-full (inv .1 .1 .1 .1) (s .args .k) (y .0) (w .before .before .before .before .loop-test .taken) (w .kernel-add4 .ensures .1 .1) (c .enum-told .given .1) rows h)
+    let taken = w .before .before .before .before .loop-test .taken in
+    (omega (arith, taken, w .kernel-add4 .ensures .1 .0), λ rows h. sofar-other (inv .1 .1 .1 .1) (s .args .k) (y .0) taken (w .kernel-add4 .ensures .1 .1) (λ k e. not-first (rw e at (c .match .keys2))) rows h)
+
+add-emitted : tie.Need-add-emitted Inv-loop μ-loop
+add-emitted c =
+    let t = c .before in
+    let w = t .before .before .before .before .before .before in
+    let k = w .before .before .before .before .before in
+    let s = k .before .before .before .before in
+    omega (arith, k .loop .inv .0, k .loop .inv .1 .0, s .pre .1 .1 .1, rows-are 1 (w .kernel-add4 .result) (t .came .given .0 .0) (t .came .given .1) (w .kernel-add4 .ensures .1 .0))
 
 add-i : tie.Need-add-i Inv-loop μ-loop
 add-i c = search needs
@@ -157,11 +156,10 @@ bring-spec =
     part-kernel-add4-end-2
     kernel-add4-requires
     enum-known-came
-    add-emitted
-    enum-told
     same-length
     same-length-2
     returns
+    add-emitted
     add-i
     loop-less
     loop-again

@@ -74,7 +74,7 @@ returns-2 c = let s = c .before .before .before .before .before .before .before 
     let q = now (a .q) in
     let new = asked-new (c .before .before .before .before .before .before .before .before .before .before .before .before .before .before .before .before .before .before .asked-route .last .1 .1 .0) (askedRoute q (a .linked)) _ (c .before .before .before .before .before .before .before .before .before .before .before .before .before .before .before .before .before .before .asked-route .ensures) (s .pre .1 .1 .0 .1) refl in
     let i = c .before .before .before .before .before .before .before .before .before .before .before .before .before .insert4 in
-    λ st h g. way-on q (a .linked) (a .t) st (now (a .ev)) (c .before .before .before .before .before .before .before .before .before .before .before .before .before .before .before .before .before .before .asked-route .last .1 .1 .0) (i .result) new (i .ensures .1 st h g) (sym (c .before .before .before .before .before .before .before .before .before .before .full .ensures) ∙ c .before .before .before .before .before .before .before .before .before .if1 .left) (c .before .before .before .before .before .before .before .list-table .ensures _ (i .ensures .1 st h g .holds)) (c .before .before .tell .ensures)
+    λ st h g. way-on q (a .linked) (a .t) st (now (a .ev)) (c .before .before .before .before .before .before .before .before .before .before .before .before .before .before .before .before .before .before .asked-route .last .1 .1 .0) (i .result) new (i .ensures .1 st h g) (s .pre .1 .1 .0 .1) (s .pre .1 .1 .1) (sym (c .before .before .before .before .before .before .before .before .before .before .full .ensures) ∙ c .before .before .before .before .before .before .before .before .before .if1 .left) (c .before .before .before .before .before .before .before .list-table .ensures _ (i .ensures .1 st h g .holds)) (c .before .before .tell .ensures)
 
 pub add-checked-spec : {M : Type 1} → statement M
 add-checked-spec =
