@@ -16,10 +16,10 @@ use Rattle.definition.specs.Step.{Checks, outcome, roomy, eventRoom}
 use Rattle.definition.specs.Reference.Addresses.{Outcome, goes, refused, down}
 use Rattle.definition.specs.Preservation.Shrinking.{potential, live}
 use Rattle.definition.specs.Preservation.Peaks.{down-roomy}
-use Rattle.definition.specs.Preservation.Encode.{Good}
+use Rattle.definition.specs.Preservation.Encode.{Admissible}
 use Rattle.definition.specs.Preservation.Numbers.{Numbered}
 use Rattle.state.specs.Represents.{Represents}
-use Rattle.step_events.specs.EmitsWithin.{Fits, EmitsWithin}
+use Rattle.step_events.specs.EmitsWithin.{RoomFor, EmitsWithin}
 use Rattle.step_events.specs.Comes.{Comes, ComesWhole, made}
 use Rattle.step_events.specs.declared.Done as Step
 use Rattle.step_events.specs.declared.Done.the-variants.{Full}
@@ -30,12 +30,12 @@ use Rattle.call_change.specs.Answer.{Answers, ofDone}
 use Rattle.call_change.specs.Laws.{answers-made, answers-full}
 
 -- ---- room for what a step may emit: 384 rows suffice
-potential-few : (st : State) → Good st → potential st ≤ 384
+potential-few : (st : State) → Admissible st → potential st ≤ 384
 potential-few st g =
     let k = simp and-iff at (g .limits) in
     omega (arith, leb-true (length (st .addresses)) 64 (k .0 .0), leb-true (length (st .routes)) 256 (k .0 .1), count-most live (st .addresses))
 
-pub fitting : {k : Checks} {w ev : List ℕ} → Passed k w → eventRoom ≤ length ev → Fits potential (stateOf w) (base w) ev
+pub fitting : {k : Checks} {w ev : List ℕ} → Passed k w → eventRoom ≤ length ev → RoomFor potential (stateOf w) (base w) ev
 fitting {w = w} p room = record { holds = p .holds; room = omega (arith, potential-few (stateOf w) (p .good)) }
 
 -- ---- a step that only takes away keeps to the limits

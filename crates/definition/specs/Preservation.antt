@@ -1,4 +1,4 @@
--- What every call keeps: the words' form, the lists' order, the limits, the room for events; and that what it tells can be read back.
+-- What every call keeps: the words' form, the lists' order, the limits, the room for events; and that what it emits can be read back.
 pub mod Fit
 pub mod Encode
 pub mod Order

@@ -28,11 +28,11 @@ use Rattle.call_dispatch.specs.Laws.{Reads, find-is, ask-is}
 use Rattle.interface4.specs.Made.{Wrote, wrote, part-words, made-gave, made-no, made-yes}
 
 -- ---- as many bytes as there must be
-pub record Fits (n : ℕ) (s out : List ℕ) : Type 0 where
+pub record EnoughRoom (n : ℕ) (s out : List ℕ) : Type 0 where
   pub state : length s ≡ 4 * stateSize
   pub room : n ≤ length out
 
-pub fits : (n : ℕ) (s out : List ℕ) → with s n (length out) ≡ true → Fits n s out
+pub fits : (n : ℕ) (s out : List ℕ) → with s n (length out) ≡ true → EnoughRoom n s out
 fits n s out h =
     record {
       state = eqb-true (length s) (4 * stateSize) (and-left (stateFits s) (leb n (length out)) h);

@@ -14,7 +14,7 @@ ghost use Rattle.layout.specs.Request.{fitAddV4};
 ghost use Rattle.definition.specs.State.{State};
 ghost use Rattle.definition.specs.Words.{fitState, addressCount};
 ghost use Rattle.definition.specs.Reference.Addresses.{addV4, up};
-ghost use Rattle.state.specs.Represents.{Represents, Sound};
+ghost use Rattle.state.specs.Represents.{Represents, RepresentsFit};
 ghost use Rattle.step_events.specs.Comes.{Comes, rowsOf};
 ghost use Rattle.step_new_address.specs.Sound.{AddsFrom};
 ghost use Rattle.step_add_v4.specs.Added.{stepOf};
@@ -33,7 +33,7 @@ fn step_of(came: Done) -> Done
 
 // A requested address put in, or the one that is there changed, where the request says so.
 pub fn add_v4(s: &mut [u32], ev: &mut [u32], q: &[u32], clock: Nanoseconds) -> Done
-    requires { ⌜ Sound (now s) ⌝ }
+    requires { ⌜ RepresentsFit (now s) ⌝ }
     requires { ⌜ (length (now q) ≡ 18) × (fitAddV4 (now q) ≡ true) ⌝ }
     requires { ⌜ 170 ≤ length (now ev) ⌝ }
     ensures { λ r. ⌜ rowsOf r ≤ 5 ⌝ }
@@ -54,8 +54,8 @@ pub fn add_v4(s: &mut [u32], ev: &mut [u32], q: &[u32], clock: Nanoseconds) -> D
 }
 
 // The routes of address i.
-fn bring_at(s: &mut [u32], ev: &mut [u32], i: usize) -> Done
-    requires { ⌜ Sound (now s) ⌝ }
+fn install_at(s: &mut [u32], ev: &mut [u32], i: usize) -> Done
+    requires { ⌜ RepresentsFit (now s) ⌝ }
     requires { ⌜ i < addressCount (now s) ⌝ }
     requires { ⌜ 136 ≤ length (now ev) ⌝ }
     ensures { λ r. ⌜ rowsOf r ≤ 4 ⌝ }
@@ -67,12 +67,12 @@ fn bring_at(s: &mut [u32], ev: &mut [u32], i: usize) -> Done
     let mut block = [0u32; 128];
     let k = row_candidates::candidates(rows, n, &rows[at..at + ADDRESS_WORDS], true, &mut block);
     let end = ROUTE_WORDS * k;
-    step_new_address::bring(s, ev, &block[0..end], k)
+    step_new_address::install(s, ev, &block[0..end], k)
 }
 
 // The routes of every address, in order.
-fn bring_all(s: &mut [u32], ev: &mut [u32]) -> Done
-    requires { ⌜ Sound (now s) ⌝ }
+fn install_all(s: &mut [u32], ev: &mut [u32]) -> Done
+    requires { ⌜ RepresentsFit (now s) ⌝ }
     requires { ⌜ 11016 ≤ length (now ev) ⌝ }
     ensures { λ r. ⌜ rowsOf r ≤ 320 ⌝ }
     ensures { λ r. ⌜ AddsFrom every (now (s .entry)) (now (s .exit)) (now (ev .entry)) (now (ev .exit)) r ⌝ }
@@ -82,7 +82,7 @@ fn bring_all(s: &mut [u32], ev: &mut [u32]) -> Done
     let mut i = 0usize;
     while i < n {
         let from = EVENT_WORDS * emitted;
-        let came = bring_at(s, &mut ev[from..], i);
+        let came = install_at(s, &mut ev[from..], i);
         let Done::Rows(m) = came else {
             return came;
         };
@@ -94,7 +94,7 @@ fn bring_all(s: &mut [u32], ev: &mut [u32]) -> Done
 
 // 127.0.0.1 if it isn't there, with its routes; then the routes that every address has.
 pub fn up(s: &mut [u32], ev: &mut [u32], clock: Nanoseconds) -> Done
-    requires { ⌜ Sound (now s) ⌝ }
+    requires { ⌜ RepresentsFit (now s) ⌝ }
     requires { ⌜ eventRoom ≤ length (now ev) ⌝ }
     ensures { λ r. ⌜ rowsOf r ≤ 325 ⌝ }
     ensures { λ r. ⌜ AddsFrom (up (clock .0)) (now (s .entry)) (now (s .exit)) (now (ev .entry)) (now (ev .exit)) r ⌝ }
@@ -125,6 +125,6 @@ pub fn up(s: &mut [u32], ev: &mut [u32], clock: Nanoseconds) -> Done
         return first;
     };
     let from = EVENT_WORDS * k;
-    let rest = bring_all(s, &mut ev[from..]);
+    let rest = install_all(s, &mut ev[from..]);
     step_new_address::joined(k, rest)
 }

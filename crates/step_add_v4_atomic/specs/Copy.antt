@@ -13,15 +13,15 @@ use Rattle.lists.specs.Put.{put-whole}
 use Rattle.definition.specs.State.{State, Out}
 use Rattle.definition.specs.Reference.Addresses.{Outcome, goes, refused, outOf}
 use Rattle.definition.specs.Laws.Refusals.{Leaves}
-use Rattle.state.specs.Represents.{Represents, Sound}
+use Rattle.state.specs.Represents.{Represents, RepresentsFit}
 use Rattle.step_events.specs.Emits.{Emits, does-none}
 use Rattle.step_events.specs.Comes.{Comes, ComesWhole, NoRows, rowsOf, comes-rows, comes-roomy, full-past, other-past, refused-full, whole-made, whole-full}
 use Rattle.step_events.specs.declared.Done.{Done}
 use Rattle.step_events.specs.declared.Done.the-variants.{Rows, Refused, Full}
 
 -- the copy is the words
-pub copy-sound : (o w : List ℕ) → length o ≡ length w → {x : List ℕ} → x ≡ put 0 w o → Sound w → Sound x
-copy-sound o w e h s = subst Sound (sym (h ∙ put-whole w o (sym e))) s
+pub copy-sound : (o w : List ℕ) → length o ≡ length w → {x : List ℕ} → x ≡ put 0 w o → RepresentsFit w → RepresentsFit x
+copy-sound o w e h s = subst RepresentsFit (sym (h ∙ put-whole w o (sym e))) s
 
 pub copy-holds : (o w : List ℕ) → length o ≡ length w → {x : List ℕ} → x ≡ put 0 w o → (st : State) → Represents w st → Represents x st
 copy-holds o w e h st s = subst (λ (y : List ℕ). Represents y st) (sym (h ∙ put-whole w o (sym e))) s

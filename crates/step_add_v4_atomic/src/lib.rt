@@ -18,7 +18,7 @@ ghost use Rattle.definition.specs.State.{State};
 ghost use Rattle.definition.specs.Words.{fitState, routeCount, baseSize};
 ghost use Rattle.definition.specs.Laws.Refusals.{Leaves};
 ghost use Rattle.definition.specs.Reference.Addresses.{Outcome, goes, addV4, up};
-ghost use Rattle.state.specs.Represents.{Represents, Sound};
+ghost use Rattle.state.specs.Represents.{Represents, RepresentsFit};
 ghost use Rattle.step_events.specs.Comes.{Comes, ComesWhole, rowsOf};
 ghost use Rattle.step_add_v4_atomic.specs.Room.{hasRoom};
 ghost use Rattle.definition.specs.Step.{eventRoom};
@@ -55,7 +55,7 @@ fn copy_back(s: &mut [u32], ev: &mut [u32], copy: &[u32], rows: &[u32], came: Do
 }
 
 fn try_add_v4(s: &mut [u32], ev: &mut [u32], q: &[u32], clock: Nanoseconds) -> Done
-    requires { ⌜ Sound (now s) ⌝ }
+    requires { ⌜ RepresentsFit (now s) ⌝ }
     requires { ⌜ (length (now q) ≡ 18) × (fitAddV4 (now q) ≡ true) ⌝ }
     requires { ⌜ 170 ≤ length (now ev) ⌝ }
     ensures { λ r. ⌜ rowsOf r ≤ 5 ⌝ }
@@ -70,7 +70,7 @@ fn try_add_v4(s: &mut [u32], ev: &mut [u32], q: &[u32], clock: Nanoseconds) -> D
 
 // A requested address put in, or the one that is there changed, where the request says so.
 pub fn add_v4(s: &mut [u32], ev: &mut [u32], q: &[u32], clock: Nanoseconds) -> Done
-    requires { ⌜ Sound (now s) ⌝ }
+    requires { ⌜ RepresentsFit (now s) ⌝ }
     requires { ⌜ (length (now q) ≡ 18) × (fitAddV4 (now q) ≡ true) ⌝ }
     requires { ⌜ 170 ≤ length (now ev) ⌝ }
     ensures { λ r. ⌜ rowsOf r ≤ 5 ⌝ }
@@ -83,7 +83,7 @@ pub fn add_v4(s: &mut [u32], ev: &mut [u32], q: &[u32], clock: Nanoseconds) -> D
 }
 
 fn try_up(s: &mut [u32], ev: &mut [u32], clock: Nanoseconds) -> Done
-    requires { ⌜ Sound (now s) ⌝ }
+    requires { ⌜ RepresentsFit (now s) ⌝ }
     requires { ⌜ eventRoom ≤ length (now ev) ⌝ }
     ensures { λ r. ⌜ rowsOf r ≤ 325 ⌝ }
     ensures { λ r. ⌜ ((st : State) → Represents (now (s .entry)) st → fitState st ≡ true → ComesWhole st (goes (up (clock .0) st)) (now (s .exit)) (now (ev .entry)) (now (ev .exit)) r) ⌝ }
@@ -97,7 +97,7 @@ fn try_up(s: &mut [u32], ev: &mut [u32], clock: Nanoseconds) -> Done
 
 // 127.0.0.1 if it isn't there, with its routes; then the routes that every address has.
 pub fn up(s: &mut [u32], ev: &mut [u32], clock: Nanoseconds) -> Done
-    requires { ⌜ Sound (now s) ⌝ }
+    requires { ⌜ RepresentsFit (now s) ⌝ }
     requires { ⌜ eventRoom ≤ length (now ev) ⌝ }
     ensures { λ r. ⌜ rowsOf r ≤ 325 ⌝ }
     ensures { λ r. ⌜ ((st : State) → Represents (now (s .entry)) st → fitState st ≡ true → ComesWhole st (goes (up (clock .0) st)) (now (s .exit)) (now (ev .entry)) (now (ev .exit)) r) ⌝ }

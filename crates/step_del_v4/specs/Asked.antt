@@ -22,7 +22,7 @@ use Rattle.definition.specs.Preservation.Shrinking.{potential}
 use Rattle.definition.specs.Preservation.Peaks.{removeV4-under}
 use Rattle.definition.specs.Preservation.Step.{covered}
 use Rattle.state.specs.Represents.{count-addresses}
-use Rattle.step_events.specs.EmitsWithin.{Fits, EmitsWithin, step-does}
+use Rattle.step_events.specs.EmitsWithin.{RoomFor, EmitsWithin, step-does}
 use Rattle.step_events.specs.Comes.{ComesWhole, holds-within, goes-made, refused-made, whole-made}
 use Rattle.lists.specs.Front.{any-here}
 use Rattle.step_remove_v4.specs.One.{addressRow, lent-address}
@@ -59,7 +59,7 @@ unfolding deletes
 deletes-is q a same within e f = rw (e, f)
 
 -- ---- what came of it
-module _ (q : Row) {st : State} {s ev : List ℕ} (f : Fits potential st s ev) (n i : ℕ) (en : n ≡ addressCount s) (e : i ≡ placeOf (deletes q) (st .addresses)) where
+module _ (q : Row) {st : State} {s ev : List ℕ} (f : RoomFor potential st s ev) (n i : ℕ) (en : n ≡ addressCount s) (e : i ≡ placeOf (deletes q) (st .addresses)) where
   place : first (deletes q) (st .addresses) ≡ getElem? (st .addresses) i
   place = first-at (deletes q) (st .addresses) ∙ ap (getElem? (st .addresses)) (sym e)
 

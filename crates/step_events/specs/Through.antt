@@ -13,7 +13,7 @@ use Rattle.definition.specs.Words.{within}
 use Rattle.definition.specs.Reference.Addresses.{goes}
 use Rattle.state.specs.Represents.{Represents}
 use Rattle.step_events.specs.Emits.{does-same, rest}
-use Rattle.step_events.specs.Turns.{Like, like-refl, like-sym, like-trans, also-like, through-one, through-append}
+use Rattle.step_events.specs.Iterations.{Like, like-refl, like-sym, like-trans, also-like, through-one, through-append}
 use Rattle.step_events.specs.Comes.{Comes, NoRows, joined, within-also, other-past, comes-full, adds-none, adds-also}
 use Rattle.step_events.specs.declared.Done.{Done}
 use Rattle.step_events.specs.declared.Done.the-variants.{Rows}

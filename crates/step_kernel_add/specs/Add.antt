@@ -19,7 +19,7 @@ use Rattle.definition.specs.Reference.Insert.{listTable, create4, insert4, inse
 use Rattle.definition.specs.Reference.Addresses.{goes}
 use Rattle.definition.specs.Preservation.Fit.{fit-state, state-fit}
 use Rattle.definition.specs.Preservation.Addresses.{create4-fit}
-use Rattle.state.specs.Represents.{Represents, Valid}
+use Rattle.state.specs.Represents.{Represents, RepresentsSome}
 use Rattle.state.specs.Change.{tables-at}
 use Rattle.state_tables.specs.Listed.{tablesOf}
 use Rattle.step_insert.specs.Plan.{answerOf, rowsAfter, InsertedInto}
@@ -146,5 +146,5 @@ kernelAdd4-covered =
     go new (Insert.unplaced n) made h = h
 
 -- the words hold some state still
-pub valid-created : {w : List ℕ} (t : ℕ) (st : State) → Represents w (create4 t st) → Valid w
+pub valid-created : {w : List ℕ} (t : ℕ) (st : State) → Represents w (create4 t st) → RepresentsSome w
 valid-created t st h = record { state = create4 t st; holds = h }

@@ -12,17 +12,17 @@ ghost use Rattle.definition.specs.State.{State};
 ghost use Rattle.definition.specs.Words.{fitState};
 ghost use Rattle.definition.specs.Reference.Insert.{kernelAdd4};
 ghost use Rattle.definition.specs.Reference.Addresses.{goes};
-ghost use Rattle.state.specs.Represents.{Represents, Valid};
+ghost use Rattle.state.specs.Represents.{Represents, RepresentsSome};
 ghost use Rattle.step_events.specs.Comes.{Comes, rowsOf};
 
 const CREATE_APPEND: u32 = 0xc00;
 
 // Its table is listed, and it is put behind the rows alike it with its event, unless it is there.
 pub fn kernel_add4(s: &mut [u32], ev: &mut [u32], new: &[u32]) -> Done
-    requires { ⌜ Valid (now s) ⌝ }
+    requires { ⌜ RepresentsSome (now s) ⌝ }
     requires { ⌜ fitRoute (now new) ≡ true ⌝ }
     requires { ⌜ 34 ≤ length (now ev) ⌝ }
-    ensures { λ r. ⌜ Valid (now (s .exit)) ⌝ }
+    ensures { λ r. ⌜ RepresentsSome (now (s .exit)) ⌝ }
     ensures { λ r. ⌜ rowsOf r ≤ 1 ⌝ }
     ensures { λ r. ⌜ ((st : State) → Represents (now (s .entry)) st → fitState st ≡ true → Comes (goes (kernelAdd4 (now (new .entry)) st)) (now (s .exit)) (now (ev .entry)) (now (ev .exit)) r) ⌝ }
 {

@@ -27,7 +27,7 @@ use Rattle.definition.specs.Preservation.Shrinking.{kernelDel4-away}
 use Rattle.definition.specs.Preservation.Peaks.{kernelDel4-under}
 use Rattle.definition.specs.Preservation.Step.{covered}
 use Rattle.row_candidates.specs.Rows.{subnetRoute}
-use Rattle.state.specs.Represents.{Represents, count-addresses, Sound}
+use Rattle.state.specs.Represents.{Represents, count-addresses, RepresentsFit}
 use Rattle.state.specs.Change.{address-at}
 use Rattle.step_events.specs.Emits.{Emits, does-one, rest}
 use Rattle.step_events.specs.Comes.{Comes, NoRows, holds-within, goes-made, adds-none, adds-also, adds-stop, comes-rows}
@@ -107,7 +107,7 @@ module _ (q : Row) (clock : ℕ) (old : Row) (g : fitAddV4 q ≡ true) (fit : fi
       went : AddsFrom (moved q old) w₀ w ev₀ ev (Rows k)
       went = rw f at m
 
-      pub change-sound : Sound w₀ → Sound w
+      pub change-sound : RepresentsFit w₀ → RepresentsFit w
       change-sound v = adds-sound (moved q old) (moved-keeps q old fit) went v
 
       pub change-count : (st : State) → Represents w₀ st → fitState st ≡ true → addressCount w ≡ addressCount w₀
@@ -144,12 +144,12 @@ module _ {w : List ℕ} (i : ℕ) (b : i < addressCount w) (o : List ℕ) (e : l
       let there : x ≡ put 0 (getD (st .addresses) i []) o = rw row at g in
       there ∙ put-whole (getD (st .addresses) i []) o (length-address (getD (st .addresses) i []) (all-at fitAddress i (st .addresses) [] b′ (h .addressesFit)) ∙ sym e)
 
-  pub old-fit : Sound w → fitAddress x ≡ true
+  pub old-fit : RepresentsFit w → fitAddress x ≡ true
   old-fit v =
       let b′ : i < length (v .state .addresses) = omega (arith, count-addresses (v .holds)) in
       ap fitAddress (old-row (v .state) (v .holds)) ∙ all-at fitAddress i (v .state .addresses) [] b′ (v .holds .addressesFit)
 
-  pub old-long : Sound w → length x ≡ 20
+  pub old-long : RepresentsFit w → length x ≡ 20
   old-long v = length-address x (old-fit v)
 
 pub row-room : (at : ℕ) (w : List ℕ) → 0 + length (take (at + 20 - at) (drop at w)) ≤ 20

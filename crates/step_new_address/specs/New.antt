@@ -17,7 +17,7 @@ use Rattle.layout.specs.Route.{fitRoute}
 use Rattle.layout.specs.Event.{newAddr4}
 use Rattle.definition.specs.State.{State, becomes, withAddresses}
 use Rattle.definition.specs.Words.{fitState, addressCount}
-use Rattle.definition.specs.Reference.Addresses.{goes, candidates, bring, place4, newAddress}
+use Rattle.definition.specs.Reference.Addresses.{goes, candidates, install, place4, newAddress}
 use Rattle.definition.specs.Preservation.Fit.{fit-state, state-fit, length-address, fields-address}
 use Rattle.definition.specs.Preservation.Keeps.{fit-addresses}
 use Rattle.definition.specs.Preservation.Rows.{candidates-fit}
@@ -29,7 +29,7 @@ use Rattle.step_events.specs.Comes.{Comes, joined, holds-within, goes-made, com
 use Rattle.step_events.specs.declared.Done.{Done}
 use Rattle.step_events.specs.declared.Done.the-variants.{Rows, Full}
 use Rattle.step_new_address.specs.Sound.{AddsFrom}
-use Rattle.step_new_address.specs.Bring.{block-rows, block-ready}
+use Rattle.step_new_address.specs.Install.{block-rows, block-ready}
 
 pub length-emitted : (a : Row) → length a ≡ 20 → length (newAddr4 a) ≡ 34
 unfolding newAddr4
@@ -55,7 +55,7 @@ module _ (new : Row) (up : Bool) (st : State) where
       let full : Comes (goes (becomes (placed new st) (newAddr4 new ∷ []))) w ev₀ ev Full =
       comes-full (too-many (leb (length (place4 new (st .addresses))) 64) (leb (length (st .routes)) 256) (leb (length (st .tables)) 32) past)
       in
-      adds-stop full-no-rows full (bring (candidates (place4 new (st .addresses)) up new))
+      adds-stop full-no-rows full (install (candidates (place4 new (st .addresses)) up new))
 
   pub placed-fit : fitAddress new ≡ true → fitState st ≡ true → fitState (placed new st) ≡ true
   placed-fit g h =
@@ -78,7 +78,7 @@ module _ (new : Row) (up : Bool) (st : State) where
       new-ready = block-ready (candidates (place4 new (st .addresses)) up new) routes-fit k (c .0) o (c .1)
 
       pub new-done : fitState st ≡ true → {ev₀ ev : List ℕ} → 34 ≤ length ev₀ → ev ≡ put 0 (newAddr4 new) ev₀ → {w′ x′ : List ℕ} {r : Done}
-          → ((rows : List Row) → Laid 32 fitRoute (take (32 * k - 0) (drop 0 x)) rows → AddsFrom (bring rows) w w′ (rest 1 ev) x′ r)
+          → ((rows : List Row) → Laid 32 fitRoute (take (32 * k - 0) (drop 0 x)) rows → AddsFrom (install rows) w w′ (rest 1 ev) x′ r)
           → (z : Done) → z ≡ joined 1 r → Comes (goes (newAddress new up st)) w′ ev₀ (take 34 ev ++ (x′ ++ drop (length ev - 34) (drop 34 ev))) z
       unfolding newAddress
       new-done f {ev₀} {ev} room emitted {w′} {x′} {r} b z same =
@@ -86,4 +86,4 @@ module _ (new : Row) (up : Bool) (st : State) where
           let first : Comes (goes (becomes (placed new st) (newAddr4 new ∷ []))) w ev₀ ev (Rows 1) =
           goes-made (holds-within placed-holds) (does-one (placed new st) (newAddr4 new) placed-holds (length-emitted new (length-address new fit)) room emitted)
           in
-          rw same (adds-also first (bring rows) (b rows (block-rows rows routes-fit k (c .0) o (c .1)) (placed new st) placed-holds (placed-fit fit f)))
+          rw same (adds-also first (install rows) (b rows (block-rows rows routes-fit k (c .0) o (c .1)) (placed new st) placed-holds (placed-fit fit f)))

@@ -15,7 +15,7 @@ use Rattle.definition.specs.Reference.Insert as Insert
 use Rattle.definition.specs.Reference.Insert.{create4, insert4, inserted, kernelAdd4}
 use Rattle.definition.specs.Reference.Addresses.{goes}
 use Rattle.definition.specs.Preservation.Keeps.{Keeps, keeps-fit}
-use Rattle.state.specs.Represents.{Represents, Sound}
+use Rattle.state.specs.Represents.{Represents, RepresentsFit}
 use Rattle.step_events.specs.Comes.{Comes, rowsOf, joined, comes-rows}
 use Rattle.step_events.specs.declared.Done.{Done}
 use Rattle.step_events.specs.declared.Done.the-variants.{Rows, Refused, Full}
@@ -34,7 +34,7 @@ AddsFrom f w₀ w ev₀ ev r = (st : State) → Represents w₀ st → fitState 
 pub adds-holds : (f : State → Out) {w₀ w ev₀ ev : List ℕ} {k : ℕ} → AddsFrom f w₀ w ev₀ ev (Rows k) → (st : State) → Represents w₀ st → fitState st ≡ true → Represents w ((f st) .state)
 adds-holds f a st h g = (comes-rows (a st h g)) .1 .holds
 
-pub adds-sound : (f : State → Out) → Keeps f → {w₀ w ev₀ ev : List ℕ} {k : ℕ} → AddsFrom f w₀ w ev₀ ev (Rows k) → Sound w₀ → Sound w
+pub adds-sound : (f : State → Out) → Keeps f → {w₀ w ev₀ ev : List ℕ} {k : ℕ} → AddsFrom f w₀ w ev₀ ev (Rows k) → RepresentsFit w₀ → RepresentsFit w
 adds-sound f k a s =
     record {
       state = (f (s .state)) .state;

@@ -20,8 +20,8 @@ ghost use Rattle.layout.specs.Route.{fitRoute};
 ghost use Rattle.layout.specs.Request.{fitAddV4};
 ghost use Rattle.definition.specs.State.{State};
 ghost use Rattle.definition.specs.Words.{fitState, addressCount};
-ghost use Rattle.definition.specs.Reference.Addresses.{goes, bring, newAddress, moved, changeV4, sameAddress};
-ghost use Rattle.state.specs.Represents.{Represents, Sound};
+ghost use Rattle.definition.specs.Reference.Addresses.{goes, install, newAddress, moved, changeV4, sameAddress};
+ghost use Rattle.state.specs.Represents.{Represents, RepresentsFit};
 ghost use Rattle.step_events.specs.Comes.{Comes, rowsOf, joined};
 ghost use Rattle.step_new_address.specs.Sound.{AddsFrom};
 
@@ -37,12 +37,12 @@ pub fn joined(k: usize, came: Done) -> Done
 }
 
 // The k routes laid out in a block, in order.
-pub fn bring(s: &mut [u32], ev: &mut [u32], block: &[u32], k: usize) -> Done
-    requires { ⌜ Sound (now s) ⌝ }
+pub fn install(s: &mut [u32], ev: &mut [u32], block: &[u32], k: usize) -> Done
+    requires { ⌜ RepresentsFit (now s) ⌝ }
     requires { ⌜ (length (now block) ≡ 32 * k) × Lays 32 fitRoute (now block) ⌝ }
     requires { ⌜ (34 * k ≤ length (now ev)) × (k ≤ 100) ⌝ }
     ensures { λ r. ⌜ rowsOf r ≤ k ⌝ }
-    ensures { λ r. ⌜ ((rows : List Row) → Laid 32 fitRoute (now (block .entry)) rows → AddsFrom (bring rows) (now (s .entry)) (now (s .exit)) (now (ev .entry)) (now (ev .exit)) r) ⌝ }
+    ensures { λ r. ⌜ ((rows : List Row) → Laid 32 fitRoute (now (block .entry)) rows → AddsFrom (install rows) (now (s .entry)) (now (s .exit)) (now (ev .entry)) (now (ev .exit)) r) ⌝ }
 {
     let mut emitted = 0usize;
     let mut i = 0usize;
@@ -61,7 +61,7 @@ pub fn bring(s: &mut [u32], ev: &mut [u32], block: &[u32], k: usize) -> Done
 
 // An address put in its place with its event, then the routes that it brings.
 pub fn new_address(s: &mut [u32], ev: &mut [u32], new: &[u32], up: bool) -> Done
-    requires { ⌜ Sound (now s) ⌝ }
+    requires { ⌜ RepresentsFit (now s) ⌝ }
     requires { ⌜ fitAddress (now new) ≡ true ⌝ }
     requires { ⌜ 170 ≤ length (now ev) ⌝ }
     ensures { λ r. ⌜ rowsOf r ≤ 5 ⌝ }
@@ -77,13 +77,13 @@ pub fn new_address(s: &mut [u32], ev: &mut [u32], new: &[u32], up: bool) -> Done
     let mut block = [0u32; 128];
     let k = row_candidates::candidates(state_read::addresses(s), n + 1, new, up, &mut block);
     let end = ROUTE_WORDS * k;
-    let came = bring(s, &mut ev[EVENT_WORDS..], &block[0..end], k);
+    let came = install(s, &mut ev[EVENT_WORDS..], &block[0..end], k);
     joined(1, came)
 }
 
 // An address's prefix route with a request's priority put in, and then the one with its own taken out.
 fn moved(s: &mut [u32], ev: &mut [u32], q: &[u32], old: &[u32]) -> Done
-    requires { ⌜ Sound (now s) ⌝ }
+    requires { ⌜ RepresentsFit (now s) ⌝ }
     requires { ⌜ length (now q) ≡ 18 ⌝ }
     requires { ⌜ length (now old) ≡ 20 ⌝ }
     requires { ⌜ fitAddress (now old) ≡ true ⌝ }
@@ -115,7 +115,7 @@ fn moved(s: &mut [u32], ev: &mut [u32], q: &[u32], old: &[u32]) -> Done
 
 // Address i, which is the requested one, with the request's priority, proto and lifetimes.
 pub fn change_v4(s: &mut [u32], ev: &mut [u32], i: usize, q: &[u32], clock: Nanoseconds) -> Done
-    requires { ⌜ Sound (now s) ⌝ }
+    requires { ⌜ RepresentsFit (now s) ⌝ }
     requires { ⌜ i < addressCount (now s) ⌝ }
     requires { ⌜ (length (now q) ≡ 18) × (fitAddV4 (now q) ≡ true) ⌝ }
     requires { ⌜ 102 ≤ length (now ev) ⌝ }

@@ -60,7 +60,7 @@ emittedOf new Nothing = []
 emittedOf new (Refused n) = []
 emittedOf new Full = []
 
-pub record Tells (new : Row) (i : Inserted) (ev₀ ev : List ℕ) (r : Result.Done) : Type 0 where
+pub record Emission (new : Row) (i : Inserted) (ev₀ ev : List ℕ) (r : Result.Done) : Type 0 where
   pub answer : r ≡ tellOf i
   pub events : ev ≡ put 0 (flat (emittedOf new i)) ev₀
 
@@ -73,7 +73,7 @@ not-full i e f =
 -- ---- an insertion, then its table listed
 module _ (new : Row) (t : ℕ) (st : State) {w : List ℕ} (ev : List ℕ) where
   pub added : length new ≡ 32 → 34 ≤ length ev → (d : Insert.Inserted) (i : Inserted) {ev′ : List ℕ} {r : Result.Done} → i ≡ answerOf d → fullOf i ≡ false
-      → Represents w (create4 t (withRoutes (rowsAfter d (st .routes)) st)) → Tells new i ev ev′ r → ComesWhole st (insertedAs new d (create4 t st)) w ev ev′ r
+      → Represents w (create4 t (withRoutes (rowsAfter d (st .routes)) st)) → Emission new i ev ev′ r → ComesWhole st (insertedAs new d (create4 t st)) w ev ev′ r
   unfolding create4
   added wide room (Insert.placed rows emitted) i {ev′} {r} a n h k =
       test-case (leb (length rows) 256)
@@ -141,17 +141,17 @@ table-full q t {w} {st} ev e h long =
 
 -- ---- telling
 module _ (new : Row) (i : Inserted) (ev : List ℕ) where
-  pub tells-put : {ev′ : List ℕ} (emitted : ℕ) → i ≡ Put emitted → ev′ ≡ put 0 (newRoute4 new emitted) ev → Tells new i ev ev′ (Done.Rows 1)
-  tells-put emitted e k = record { answer = rw e; events = rw e (k ∙ ap (λ (x : List ℕ). put 0 x ev) (sym (flat-one (newRoute4 new emitted)))) }
+  pub emission-put : {ev′ : List ℕ} (emitted : ℕ) → i ≡ Put emitted → ev′ ≡ put 0 (newRoute4 new emitted) ev → Emission new i ev ev′ (Done.Rows 1)
+  emission-put emitted e k = record { answer = rw e; events = rw e (k ∙ ap (λ (x : List ℕ). put 0 x ev) (sym (flat-one (newRoute4 new emitted)))) }
 
-  pub tells-nothing : i ≡ Nothing → Tells new i ev ev (Done.Rows 0)
-  tells-nothing e = record { answer = rw e; events = rw e (put-no-rows ev) }
+  pub emission-nothing : i ≡ Nothing → Emission new i ev ev (Done.Rows 0)
+  emission-nothing e = record { answer = rw e; events = rw e (put-no-rows ev) }
 
-  pub tells-refused : (n : ℕ) → i ≡ Refused n → Tells new i ev ev (Done.Refused n)
-  tells-refused n e = record { answer = rw e; events = rw e (put-no-rows ev) }
+  pub emission-refused : (n : ℕ) → i ≡ Refused n → Emission new i ev ev (Done.Refused n)
+  emission-refused n e = record { answer = rw e; events = rw e (put-no-rows ev) }
 
-  pub tells-full : i ≡ Full → Tells new i ev ev Done.Full
-  tells-full e = record { answer = rw e; events = rw e (put-no-rows ev) }
+  pub emission-full : i ≡ Full → Emission new i ev ev Done.Full
+  emission-full e = record { answer = rw e; events = rw e (put-no-rows ev) }
 
 -- ---- what the calls require
 pub check-formed : (q : Row) (made : State) (linked : Bool) → by linked ≡ checkAll q made → formCheck q ≡ 0
@@ -185,7 +185,7 @@ module _ (q : Row) (linked : Bool) (t : ℕ) (st : State) {w : List ℕ} (ev x :
   way-full f = row-full (askedRoute q linked) t st ev (insert4 (askedRoute q linked) (nlmFlags q) (st .routes)) i (into .answer) f (into .holds)
 
   pub way-on : fitRoute (askedRoute q linked) ≡ true → 34 ≤ length ev → {y ev′ : List ℕ} {r : Result.Done} → fullOf i ≡ false
-      → Represents y (create4 t (withRoutes (rowsAfter (insert4 x (nlmFlags q) (st .routes)) (st .routes)) st)) → Tells x i ev ev′ r
+      → Represents y (create4 t (withRoutes (rowsAfter (insert4 x (nlmFlags q) (st .routes)) (st .routes)) st)) → Emission x i ev ev′ r
       → ComesWhole st (insertedAs (askedRoute q linked) (insert4 (askedRoute q linked) (nlmFlags q) (st .routes)) (create4 t st)) y ev ev′ r
   way-on fit room f h g =
       added (askedRoute q linked) t st ev (length-route (askedRoute q linked) fit) room (insert4 (askedRoute q linked) (nlmFlags q) (st .routes)) i (into .answer) f (rw new at h) (rw new at g)

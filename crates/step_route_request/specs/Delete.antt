@@ -17,7 +17,7 @@ use Rattle.definition.specs.Words.{routeCount, routesAt}
 use Rattle.definition.specs.Preservation.Fit.{length-route}
 use Rattle.definition.specs.Reference.Lookup.{listed}
 use Rattle.definition.specs.Reference.Routes.{tableNamed, badPrefix, selects, delRoute4Request}
-use Rattle.state.specs.Represents.{Represents, Valid, count-routes, sizes-valid}
+use Rattle.state.specs.Represents.{Represents, RepresentsSome, count-routes, sizes-valid}
 use Rattle.state.specs.Change.{route-at, fit-route-at}
 use Rattle.state_tables.specs.Listed.{tablesOf}
 use Rattle.state_read.specs.Parts.{listed-there}
@@ -44,10 +44,10 @@ module _ {w : List ℕ} {st : State} (h : Represents w st) (i : ℕ) (b : i < ro
       rw whole (fit-route-at h i (omega (arith, count-routes h)))
 
 -- what the event's row requires, and where the row ends
-pub row-long : {w : List ℕ} → Valid w → (i : ℕ) → i < routeCount w → length (routeRow w i) ≡ 32
+pub row-long : {w : List ℕ} → RepresentsSome w → (i : ℕ) → i < routeCount w → length (routeRow w i) ≡ 32
 row-long {w} v i b = length-route (routeRow w i) (row-fit (v .holds) i b)
 
-pub row-end : {w : List ℕ} → Valid w → (i : ℕ) → i < routeCount w → routesAt + 32 * i + 32 ≤ length w
+pub row-end : {w : List ℕ} → RepresentsSome w → (i : ℕ) → i < routeCount w → routesAt + 32 * i + 32 ≤ length w
 row-end {w} v i b = omega (arith, sizes-valid v)
 
 module _ (q : Row) {w : List ℕ} {st : State} (h : Represents w st) (ev : List ℕ) where

@@ -16,13 +16,13 @@ use Rattle.definition.specs.Words.{within, stateOf}
 use Rattle.definition.specs.Call.{Call, Reply, Numbers, numbers, replied, refusal, written}
 use Rattle.definition.specs.Reference.Addresses.{Outcome, goes, refused}
 use Rattle.definition.specs.Step.{Result, Checks, Action, changes, replies, lists, Buffer, unlent, forEvents, forListing, forRow, eventRoom, outcome, semantics, step}
-use Rattle.definition.specs.Preservation.Encode.{Good}
+use Rattle.definition.specs.Preservation.Encode.{Admissible}
 use Rattle.definition.specs.Preservation.Shape.{Shaped, refusal-shaped}
-use Rattle.definition.specs.Preservation.Change.{Passes, Sound, Acts, eventsIn, Shapes, lawful}
+use Rattle.definition.specs.Preservation.Change.{Passes, Preserving, Acts, eventsIn, Shapes, lawful}
 use Rattle.definition.specs.Preservation.Step.{acted, perform-case, checked-held, checked-passes, good-held, outcome-events}
 use Rattle.definition.specs.Noninterference.Public.{Lent, Made, roomOf, width, rowsRead, readBack}
 
--- ---- a change tells as many rows as its value says
+-- ---- a change emits as many rows as its value says
 record Counted (r : Reply) : Type 0 where
   says : r .value ≡ length (r .rows)
 
@@ -36,11 +36,11 @@ outcome-counted : (o : Outcome) (w : List ℕ) → Counted (outcome o w .reply)
 outcome-counted (goes o) w = cond-case (λ (r : Result). Counted (r .reply)) (within (o .peak)) (λ e. written-counted (o .emitted)) (λ e. none-counted 203)
 outcome-counted (refused n st) w = cond-case (λ (r : Result). Counted (r .reply)) (within (sizes st)) (λ e. none-counted n) (λ e. none-counted 203)
 
-outcome-shaped : {later : State} (b : Buffer) (o : Outcome) (w : List ℕ) → Sound later o → eventsIn b ≡ true → Shaped b (outcome o w .reply)
+outcome-shaped : {later : State} (b : Buffer) (o : Outcome) (w : List ℕ) → Preserving later o → eventsIn b ≡ true → Shaped b (outcome o w .reply)
 outcome-shaped unlent o w s h = absurd (false≢true h)
 outcome-shaped (forEvents room) o w s h =
-    let told = outcome-events o w s in
-    record { counts = outcome-counted o w .says; size = told .size; room = omega (arith, told .few, leb-true eventRoom room h) }
+    let emitted = outcome-events o w s in
+    record { counts = outcome-counted o w .says; size = emitted .size; room = omega (arith, emitted .few, leb-true eventRoom room h) }
 outcome-shaped (forListing room) o w s h = absurd (false≢true h)
 outcome-shaped (forRow room) o w s h = absurd (false≢true h)
 
@@ -52,7 +52,7 @@ shaped c w =
     (λ z. go (s .checks) (s .lent) (s .action) (lawful c .acts) (lawful c .shape) (good-held w (checked-held (s .checks) w z)) (checked-passes (s .checks) w z))
     (λ n e z. refusal-shaped (s .lent) n z)
   where
-    go : (k : Checks) (b : Buffer) (a : Action) → Acts k a → Shapes k b a → Good (stateOf w) → Passes k → Shaped b (acted a w .reply)
+    go : (k : Checks) (b : Buffer) (a : Action) → Acts k a → Shapes k b a → Admissible (stateOf w) → Passes k → Shaped b (acted a w .reply)
     go k b (changes listed f) l h g p = outcome-shaped b (f (stateOf w)) w (l .sound (stateOf w) g p) (h (p .room))
     go k b (replies f) l h g p = h (stateOf w) g (p .room)
     go k b (lists f) l h g p = h (stateOf w) g (p .room)

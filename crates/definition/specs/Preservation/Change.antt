@@ -24,13 +24,13 @@ use Rattle.definition.specs.Reference.Removal.{expire}
 use Rattle.definition.specs.Reference.Insert.{create4, Insertion, insert4}
 use Rattle.definition.specs.Reference.Routes.{tableNamed, addedBy}
 use Rattle.definition.specs.Step.{Checks, Action, changes, replies, lists, Buffer, unlent, forEvents, forListing, forRow, Semantics, going, query, finding, unless, eventsFit, requestIs, clockLimit, semantics, routed}
-use Rattle.definition.specs.Preservation.Fit.{Fit, fit-state}
+use Rattle.definition.specs.Preservation.Fit.{Invariant, fit-state}
 use Rattle.definition.specs.Preservation.Routes.{insert-fit}
-use Rattle.definition.specs.Preservation.Encode.{Good}
+use Rattle.definition.specs.Preservation.Encode.{Admissible}
 use Rattle.definition.specs.Preservation.Keeps.{Keeps, KeptOutcome}
 use Rattle.definition.specs.Preservation.Addresses.{addV4-keeps, up-keeps, down-keeps}
 use Rattle.definition.specs.Preservation.Removal.{delV4-keeps, expire-keeps}
-use Rattle.definition.specs.Preservation.Requests.{delRoute4-keeps, Fits, added-keeps}
+use Rattle.definition.specs.Preservation.Requests.{delRoute4-keeps, InsertsFit, added-keeps}
 use Rattle.definition.specs.Preservation.Numbers.{Numbered, OfFound, lookup-number, addV4-number, delV4-number, delRoute4-number, Numbers, insert-number, added-number}
 use Rattle.definition.specs.Preservation.Refused.{Leaves, addV4-leaves, delV4-leaves, delRoute4-leaves, added-leaves}
 use Rattle.definition.specs.Preservation.Emitted.{EventBound, EventBoundOutcome, up-eventBound, down-eventBound, addV4-eventBound, delV4-eventBound, expire-eventBound, delRoute4-eventBound, added-eventBound}
@@ -42,8 +42,8 @@ pub record Passes (k : Checks) : Type 0 where
   pub handed : k .row ≡ true
   pub fit : k .request ≡ 0
 
--- an outcome: fit, told in few rows, refused with a number of the reference, and then the state is `later`
-pub record Sound (later : State) (o : Outcome) : Type 0 where
+-- an outcome: fit, emitted in few rows, refused with a number of the reference, and then the state is `later`
+pub record Preserving (later : State) (o : Outcome) : Type 0 where
   pub kept : KeptOutcome o
   pub eventBound : EventBoundOutcome o
   pub numbered : Numbered o
@@ -56,7 +56,7 @@ pub record Proper (r : Reply) : Type 0 where
 
 -- ---- what all calls keep, on a good state, once the checks are passed
 pub record Changes (k : Checks) (listed : State → State) (f : State → Outcome) : Type 0 where
-  pub sound : (st : State) → Good st → Passes k → Sound (listed st) (f st)
+  pub sound : (st : State) → Admissible st → Passes k → Preserving (listed st) (f st)
 
 pub record Replies (f : State → Reply) : Type 0 where
   pub proper : (st : State) → Proper (f st)
@@ -77,8 +77,8 @@ eventsIn (forRow room) = false
 -- shape
 abbrev pub Shapes : Checks → Buffer → Action → Type 0
 Shapes k b (changes listed f) = k .buffers ≡ true → eventsIn b ≡ true
-Shapes k b (replies f) = (st : State) → Good st → k .buffers ≡ true → Shaped b (f st)
-Shapes k b (lists f) = (st : State) → Good st → k .buffers ≡ true → Shaped b (written (f st))
+Shapes k b (replies f) = (st : State) → Admissible st → k .buffers ≡ true → Shaped b (f st)
+Shapes k b (lists f) = (st : State) → Admissible st → k .buffers ≡ true → Shaped b (written (f st))
 
 pub record Lawful (s : Semantics) : Type 0 where
   pub request : s .checks .request ≢ 203
@@ -86,7 +86,7 @@ pub record Lawful (s : Semantics) : Type 0 where
   pub shape : Shapes (s .checks) (s .lent) (s .action)
 
 -- ---- helpers
-abbrev fit : (st : State) → Good st → Fit st
+abbrev fit : (st : State) → Admissible st → Invariant st
 fit st g = fit-state st (g .fits)
 
 none-asked : _≢_ {A = ℕ} 0 203
@@ -110,7 +110,7 @@ asked-room : (n events : ℕ) (q : Row) → requestIs n q && eventsFit events �
 asked-room n events q h = and-right (requestIs n q) (eventsFit events) h
 
 -- a step that always goes on
-going-lawful : (events request : ℕ) (f : State → Out) → request ≢ 203 → Keeps f → ((st : State) → Good st → EventBound (f st)) → Lawful (going events request f)
+going-lawful : (events request : ℕ) (f : State → Out) → request ≢ 203 → Keeps f → ((st : State) → Admissible st → EventBound (f st)) → Lawful (going events request f)
 going-lawful events request f r k b =
     record {
       request = r;
@@ -119,7 +119,7 @@ going-lawful events request f r k b =
     }
 
 -- a request to add a route, by some insertion
-added-lawful : (insert : Insertion) → Fits insert → Numbers insert → (q : Row) (events request : ℕ) → request ≢ 203 → (request ≡ 0 → fitAddRoute4 q ≡ true)
+added-lawful : (insert : Insertion) → InsertsFit insert → Numbers insert → (q : Row) (events request : ℕ) → request ≢ 203 → (request ≡ 0 → fitAddRoute4 q ≡ true)
     → Lawful (routed addRoute4Size q events request (create4 (tableNamed q)) (addedBy insert q))
 added-lawful insert fits numbers q events request r passed =
     record {
@@ -140,7 +140,7 @@ added-lawful insert fits numbers q events request r passed =
 
 found-proper : (f : Found) → OfFound f → Proper (foundRow f)
 found-proper (Found.route r) o = record { alone = λ h. absurd (h refl); spaced = none-asked }
-found-proper (Found.refused n) o = record { alone = λ h. refl; spaced = λ e. omega (arith, o .most) }
+found-proper (Found.noRoute n) o = record { alone = λ h. refl; spaced = λ e. omega (arith, o .most) }
 
 valued-proper : (v : ℕ) → Proper (valued v)
 valued-proper v = record { alone = λ h. absurd (h refl); spaced = none-asked }

@@ -19,7 +19,7 @@ use Rattle.definition.specs.Reference.Lookup.{Flow, lookupIn}
 use Rattle.definition.specs.Reference.Source.{dump4}
 use Rattle.definition.specs.Step.{Buffer, unlent, forEvents, forListing, forRow, listingRoom}
 use Rattle.definition.specs.Preservation.Fit.{fit-state, length-route}
-use Rattle.definition.specs.Preservation.Encode.{Good}
+use Rattle.definition.specs.Preservation.Encode.{Admissible}
 use Rattle.definition.specs.Preservation.Numbers.{OfFound, lookup-number}
 use Rattle.definition.specs.Preservation.Reading.{dump4-listing, FoundIn, lookup-fit}
 use Rattle.definition.specs.Noninterference.Public.{roomOf, width, many}
@@ -37,16 +37,16 @@ refusal-shaped (forListing room) n h = record { counts = refl; size = refl; room
 refusal-shaped (forRow room) n h = record { counts = rw h; size = refl; room = omega arith }
 
 -- a listing, a lookup's row, where the buffer suffices
-pub listing-shaped : (room : ℕ) (st : State) → Good st → leb listingRoom room ≡ true → Shaped (forListing room) (written (dump4 st))
+pub listing-shaped : (room : ℕ) (st : State) → Admissible st → leb listingRoom room ≡ true → Shaped (forListing room) (written (dump4 st))
 listing-shaped room st g p =
     let l = dump4-listing st g in
     record { counts = refl; size = l .1; room = omega (arith, l .0, leb-true listingRoom room p) }
 
 found-shaped : (room : ℕ) (x : Lookup.Found) → leb Route.size room ≡ true → FoundIn fitRoute x → OfFound x → Shaped (forRow room) (foundRow x)
 found-shaped room (Lookup.route r) p h o = record { counts = refl; size = rw (length-route r h); room = omega (arith, leb-true Route.size room p) }
-found-shaped room (Lookup.refused n) p h o = refusal-shaped (forRow room) n (ne-eqb n 0 (λ e. omega (arith, o .positive)))
+found-shaped room (Lookup.noRoute n) p h o = refusal-shaped (forRow room) n (ne-eqb n 0 (λ e. omega (arith, o .positive)))
 
-pub lookup-shaped : (room : ℕ) (st : State) (f : Flow) → Good st → leb Route.size room ≡ true → Shaped (forRow room) (foundRow (lookupIn st f))
+pub lookup-shaped : (room : ℕ) (st : State) (f : Flow) → Admissible st → leb Route.size room ≡ true → Shaped (forRow room) (foundRow (lookupIn st f))
 lookup-shaped room st f g p = found-shaped room (lookupIn st f) p (lookup-fit st f (fit-state st (g .fits))) (lookup-number st f)
 
 -- an answer in numbers alone

@@ -1,6 +1,6 @@
 use mathlib.Core.Path.{refl}
 use native.Mathlib.Omega.{arith}
-use Rattle.state.specs.Represents.{count-addresses, sound-valid, sound-long}
+use Rattle.state.specs.Represents.{count-addresses, fit-some, sound-long}
 use Rattle.state_read.specs.Parts.{ready-addresses, of-addresses}
 use Rattle.step_add_v4.specs.Added.{added-change, added-refused, added-new}
 use borrow.Author.Needs.{needs}
@@ -18,7 +18,7 @@ same-at-requires : tie.Need-same-at-requires
 same-at-requires c κs =
     let n = c .before .before in
     let s = n .before .before .before .before .before in
-    (ready-addresses _ (n .address-count .result) (sound-valid (s .pre .0)) (c .addresses .ensures) (n .address-count .ensures), omega (arith, s .pre .1 .0 .0))
+    (ready-addresses _ (n .address-count .result) (fit-some (s .pre .0)) (c .addresses .ensures) (n .address-count .ensures), omega (arith, s .pre .1 .0 .0))
 
 shared-slice-read-if2 : tie.Need-shared-slice-read-if2
 shared-slice-read-if2 c = search needs
@@ -77,7 +77,7 @@ fresh-requires c κs =
     let p = c .before .before .before .before in
     let n = p .before .before .before in
     let s = n .before .before .before .before .before in
-    (ready-addresses _ (n .address-count .result) (sound-valid (s .pre .0)) (c .before .addresses2 .ensures) (n .address-count .ensures), (s .pre .1 .0, refl))
+    (ready-addresses _ (n .address-count .result) (fit-some (s .pre .0)) (c .before .addresses2 .ensures) (n .address-count .ensures), (s .pre .1 .0, refl))
 
 shared-slice-read-up : tie.Need-shared-slice-read-up
 shared-slice-read-up c = search needs

@@ -47,8 +47,8 @@ mul-from c =
     let five = rows-are 5 (t .step-of .result) k (e .first .given .1) (step-few 5 (d .add-v4 .result) (t .step-of .result) (t .step-of .ensures) (d .add-v4 .ensures .0)) in
     omega (arith, five)
 
-mul-bring-all : tie.Need-mul-bring-all
-mul-bring-all c =
+mul-install-all : tie.Need-mul-install-all
+mul-install-all c =
     let t = c .before .before .before .before in
     let d = t .before .before .before .before .before in
     let e = c .before .before in
@@ -56,8 +56,8 @@ mul-bring-all c =
     let five = rows-are 5 (t .step-of .result) k (e .first .given .1) (step-few 5 (d .add-v4 .result) (t .step-of .result) (t .step-of .ensures) (d .add-v4 .ensures .0)) in
     omega (arith, five)
 
-sub-bring-all : tie.Need-sub-bring-all
-sub-bring-all c =
+sub-install-all : tie.Need-sub-install-all
+sub-install-all c =
     let t = c .before .before .before .before in
     let d = t .before .before .before .before .before in
     let s = d .before .before .before .before .before .before in
@@ -66,8 +66,8 @@ sub-bring-all c =
     let five = rows-are 5 (t .step-of .result) k (e .first .given .1) (step-few 5 (d .add-v4 .result) (t .step-of .result) (t .step-of .ensures) (d .add-v4 .ensures .0)) in
     omega (arith, five, s .pre .1)
 
-part-bring-all-start : tie.Need-part-bring-all-start
-part-bring-all-start c =
+part-install-all-start : tie.Need-part-install-all-start
+part-install-all-start c =
     let t = c .before .before .before .before in
     let d = t .before .before .before .before .before in
     let s = d .before .before .before .before .before .before in
@@ -76,11 +76,11 @@ part-bring-all-start c =
     let five = rows-are 5 (t .step-of .result) k (e .first .given .1) (step-few 5 (d .add-v4 .result) (t .step-of .result) (t .step-of .ensures) (d .add-v4 .ensures .0)) in
     omega (arith, five, s .pre .1)
 
-part-bring-all-end : tie.Need-part-bring-all-end
-part-bring-all-end c = search needs
+part-install-all-end : tie.Need-part-install-all-end
+part-install-all-end c = search needs
 
-bring-all-requires : tie.Need-bring-all-requires
-bring-all-requires c κs =
+install-all-requires : tie.Need-install-all-requires
+install-all-requires c κs =
     let t = c .before .before .before .before .before in
     let d = t .before .before .before .before .before in
     let s = d .before .before .before .before .before .before in
@@ -99,7 +99,7 @@ joined-requires c κs =
     let e = c .before .before .before .before .before .before .before .before in
     let k = e .first .given .0 .0 in
     let five = rows-are 5 (t .step-of .result) k (e .first .given .1) (step-few 5 (d .add-v4 .result) (t .step-of .result) (t .step-of .ensures) (d .add-v4 .ensures .0)) in
-    omega (arith, five, c .before .before .before .before .bring-all .ensures .0)
+    omega (arith, five, c .before .before .before .before .install-all .ensures .0)
 
 same-length-3 : tie.Need-same-length-3
 same-length-3 c = search needs
@@ -117,8 +117,8 @@ returns-2 c =
     let k = e .first .given .0 .0 in
     let five = rows-are 5 (t .step-of .result) k (e .first .given .1) (step-few 5 (d .add-v4 .result) (t .step-of .result) (t .step-of .ensures) (d .add-v4 .ensures .0)) in
     let b = c .before .before .before .before .before in (
-      omega (arith, five, joined-few k 320 (b .bring-all .result) (c .joined .result) (c .joined .ensures) (b .bring-all .ensures .0)),
-      up-done clock (λ st h g. added-step (addV4 loopback clock st) (d .add-v4 .result) (t .step-of .result) (t .step-of .ensures) (d .add-v4 .ensures .1 st h g)) k (e .first .given .1) (b .bring-all .ensures .1) (c .joined .result) (c .joined .ensures),
+      omega (arith, five, joined-few k 320 (b .install-all .result) (c .joined .result) (c .joined .ensures) (b .install-all .ensures .0)),
+      up-done clock (λ st h g. added-step (addV4 loopback clock st) (d .add-v4 .result) (t .step-of .result) (t .step-of .ensures) (d .add-v4 .ensures .1 st h g)) k (e .first .given .1) (b .install-all .ensures .1) (c .joined .result) (c .joined .ensures),
     )
 
 pub up-spec : {M : Type 1} → statement M
@@ -133,11 +133,11 @@ up-spec =
     same-length-2
     returns
     mul-from
-    mul-bring-all
-    sub-bring-all
-    part-bring-all-start
-    part-bring-all-end
-    bring-all-requires
+    mul-install-all
+    sub-install-all
+    part-install-all-start
+    part-install-all-end
+    install-all-requires
     joined-requires
     same-length-3
     same-length-4

@@ -3,7 +3,7 @@ use mathlib.Core.Path.{refl}
 use native.Mathlib.Omega.{arith}
 use lib.ListN.{getD}
 use mathlib.Core.List.{[]}
-use Rattle.state.specs.Represents.{sound-valid, sound-few, sound-long}
+use Rattle.state.specs.Represents.{fit-some, sound-few, sound-long}
 use Rattle.step_new_address.specs.Sound.{rest-room, rows-are}
 use Rattle.step_new_address.specs.Change.{old-row, old-fit, old-long, row-room, changed-fit, change-other, change-sound, change-count, change-done}
 use Rattle.definition.specs.Preservation.Fit.{length-address}
@@ -117,7 +117,7 @@ replace-address-requires c κs =
     let two = rows-are 2 (m .moved .result) k (e .came .given .1) (m .moved .ensures .0) in
     let v = change-sound q (a .clock .0) old (f .1) fit _ refl (h .changed-to .ensures) (m .moved .ensures .1) k (e .came .given .1) (s .pre .0) in
     let n = change-count q (a .clock .0) old (f .1) fit _ refl (h .changed-to .ensures) (m .moved .ensures .1) k (e .came .given .1) (s .pre .0 .state) (s .pre .0 .holds) (s .pre .0 .fits) in
-    (sound-valid v, (omega (arith, n, s .pre .1 .0), changed-fit q (a .clock .0) old (f .1) fit _ refl (h .changed-to .ensures)))
+    (fit-some v, (omega (arith, n, s .pre .1 .0), changed-fit q (a .clock .0) old (f .1) fit _ refl (h .changed-to .ensures)))
 
 mul-from : tie.Need-mul-from
 mul-from c =

@@ -4,7 +4,7 @@ use borrow.Author.Tests.{not-true, not-false}
 use Rattle.step_events.specs.Comes.{not-first}
 use lib.ListN.{getD}
 use Rattle.row_subnet.specs.Laws.{fit-short}
-use Rattle.state.specs.Represents.{sound-valid}
+use Rattle.state.specs.Represents.{fit-some}
 use Rattle.step_new_address.specs.Sound.{rest-room, rows-are}
 use Rattle.step_new_address.specs.Change.{moved-none, moved-other, moved-both, route-row, row-fits, row-wide}
 use borrow.Author.Needs.{needs}
@@ -62,7 +62,7 @@ kernel-add4-requires c κs =
     let s = i .before .before .before .before .before in
     let a = s .args in
     let fit = s .pre .1 .1 .1 .0 in
-    (sound-valid (s .pre .0), (row-fits (a .old .now) fit (getD (a .q .now) 13 0) (getD (a .old .now) 0 0) _ refl (n .prefix-route4 .ensures), omega (arith, s .pre .1 .1 .1 .1)))
+    (fit-some (s .pre .0), (row-fits (a .old .now) fit (getD (a .q .now) 13 0) (getD (a .old .now) 0 0) _ refl (n .prefix-route4 .ensures), omega (arith, s .pre .1 .1 .1 .1)))
 
 enum-known-came : tie.Need-enum-known-came
 enum-known-came c = search needs

@@ -1,7 +1,7 @@
 -- `step_route_request::add_checked` meets its contract.
 -- Assumes nothing.
 use Rattle.step_route_request.specs.Add.{asked-new, room-kept, way-full, way-on}
-use Rattle.state.specs.Represents.{sound-valid}
+use Rattle.state.specs.Represents.{fit-some}
 use Rattle.definition.specs.Reference.Routes.{askedRoute}
 use Rattle.definition.specs.Preservation.Fit.{length-route}
 use Rattle.layout.specs.Route.{fitRoute}
@@ -29,7 +29,7 @@ insert4-requires c κs = let s = c .before .before .before .before .before .befo
     let a = s .args in
     let q = now (a .q) in
     let new = asked-new (c .before .before .before .before .asked-route .last .1 .1 .0) (askedRoute q (a .linked)) _ (c .before .before .before .before .asked-route .ensures) (s .pre .1 .1 .0 .1) refl in
-    (sound-valid (s .pre .0), ap fitRoute new ∙ s .pre .1 .1 .0 .1)
+    (fit-some (s .pre .0), ap fitRoute new ∙ s .pre .1 .1 .0 .1)
 
 full-requires : tie.Need-full-requires
 full-requires c κs = search needs

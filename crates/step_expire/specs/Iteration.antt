@@ -25,7 +25,7 @@ use Rattle.definition.specs.Reference.Removal.{removeOne, removeV4, due, deprec
 use Rattle.definition.specs.Laws.Expire.{expire-last, expire-again}
 use Rattle.definition.specs.Preservation.Fit.{length-address}
 use Rattle.definition.specs.Preservation.Shrinking.{potential, live, deprecate-marked, removeOne-removes}
-use Rattle.step_events.specs.Turns.{Like, like-refl, like-sym, like-trans, like-eq, stays-also, also-like, also-assoc}
+use Rattle.step_events.specs.Iterations.{Like, like-refl, like-sym, like-trans, like-eq, stays-also, also-like, also-assoc}
 use Rattle.lists.specs.Front.{none-joined, first-front, front-more, any-here}
 use Rattle.step_remove_v4.specs.Gone.{goesWith, secondaries, remove-parts, primary-there}
 
@@ -203,7 +203,7 @@ module _ (allowance now : ℕ) where
         like-trans (like-eq (expire-last allowance now st (ap (first (due allowance now)) (sym back) ∙ first-behind l [] whole)))
         (deprecateDue-stays st (ap deprecateList (sym back) ∙ deprecate-front l [] whole ∙ back) (ap emittedOf (sym back) ∙ emitted-front l [] whole))
 
-  -- ---- a turn
+  -- ---- an iteration
   -- what comes of the address at i
   unfoldable pub expireTurn : ℕ → State → Out
   expireTurn i st =
@@ -246,10 +246,10 @@ module _ (allowance now : ℕ) (i : ℕ) (st : State) (h : Quiet allowance now i
   here = getD (st .addresses) i []
 
   -- what is left is expire, and the front doesn't stir
-  pub expire-turn : (j : ℕ) → j ≡ nextPlace i (length (st .addresses)) (length ((expireTurn allowance now i st) .state .addresses))
+  pub expire-iteration : (j : ℕ) → j ≡ nextPlace i (length (st .addresses)) (length ((expireTurn allowance now i st) .state .addresses))
       → Like (expire allowance now st) (also (expireTurn allowance now i st) (expire allowance now)) × Quiet allowance now j ((expireTurn allowance now i st) .state)
   unfolding expireTurn
-  expire-turn j q =
+  expire-iteration j q =
       test-case (due allowance now here)
       (λ d.
       let fewer = removed-fewer here st (any-here (eqRow here) (st .addresses) i [] b (eqRow-refl here)) in
@@ -279,9 +279,9 @@ live-lighter allowance now st i b f e =
     let two : count live (set l i (deprecate a)) ≡ count live (take i l) + count live (deprecate a ∷ rest) = ap (count live) (set-split l i (deprecate a) b) ∙ count-append live (take i l) (deprecate a ∷ rest) in
     omega (arith, one, two, tick-one (live a) alive, tick-none (live (deprecate a)) dead, length-set l i (deprecate a))
 
-pub turn-fewer : (allowance now i : ℕ) (st : State) → i < length (st .addresses) → length ((expireTurn allowance now i st) .state .addresses) ≤ length (st .addresses)
+pub iteration-fewer : (allowance now i : ℕ) (st : State) → i < length (st .addresses) → length ((expireTurn allowance now i st) .state .addresses) ≤ length (st .addresses)
 unfolding expireTurn
-turn-fewer allowance now i st b =
+iteration-fewer allowance now i st b =
     let a = getD (st .addresses) i [] in
     cond-case (λ (o : Out). length (o .state .addresses) ≤ length (st .addresses)) (due allowance now a)
     (λ d. omega (arith, removed-fewer a st (any-here (eqRow a) (st .addresses) i [] b (eqRow-refl a))))

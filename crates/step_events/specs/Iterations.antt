@@ -1,4 +1,4 @@
--- A step that a loop makes turn by turn: what is done so far, and what remains to be done from there.
+-- A step that a loop makes iteration by iteration: what is done so far, and what remains to be done from there.
 -- Assumes nothing.
 use Prim.Native.Nat.{ℕ, _+_, _-_, _*_}
 use mathlib.Core.Path.{_≡_, refl, sym, ap, _∙_}
@@ -7,7 +7,7 @@ use lib.ListN.{length, take, drop}
 use Rattle.lists.specs.Lists.{Row}
 use Rattle.definition.specs.State.{State, Out, stays, also, through}
 use Rattle.state.specs.Represents.{Represents}
-use Rattle.step_events.specs.EmitsWithin.{Fits, Ready, EmitsWithin, step-same, step-none, rest-fits, step-also}
+use Rattle.step_events.specs.EmitsWithin.{RoomFor, SomeRoom, EmitsWithin, step-same, step-none, rest-fits, step-also}
 use Rattle.step_events.specs.Emits.{rest}
 
 -- ---- steps that show the same: the state that they leave and the rows that they emit
@@ -61,7 +61,7 @@ through-append f (x ∷ l) m st =
     (like-sym (also-assoc (f x st) (through f l) (through f m)))
 
 -- ---- turns
--- k rows are emitted of a step to goal: what remains is next, and what a turn needs of the state is held
+-- k rows are emitted of a step to goal: what remains is next, and what an iteration needs of the state is held
 pub record Going (potential : State → ℕ) (st : State) (goal : Out) (next : State → Out) (held : State → Type 0) (s ev₀ ev : List ℕ) (k : ℕ) : Type 0 where
   pub sofar : Out
   pub step : EmitsWithin potential st sofar s ev₀ ev k
@@ -69,7 +69,7 @@ pub record Going (potential : State → ℕ) (st : State) (goal : Out) (next : S
   pub holding : held (sofar .state)
 
 module _ (potential : State → ℕ) {st : State} {goal : Out} where
-  pub going-start : {s ev : List ℕ} (next : State → Out) (held : State → Type 0) → Fits potential st s ev → Like (next st) goal → held st
+  pub going-start : {s ev : List ℕ} (next : State → Out) (held : State → Type 0) → RoomFor potential st s ev → Like (next st) goal → held st
       → Going potential st goal next held s ev ev 0
   going-start next held f h k =
       record {
@@ -80,17 +80,17 @@ module _ (potential : State → ℕ) {st : State} {goal : Out} where
       }
 
   module _ {next : State → Out} {held : State → Type 0} {s ev₀ ev : List ℕ} {k : ℕ} (g : Going potential st goal next held s ev₀ ev k) where
-    pub going-fits : Fits potential (g .sofar .state) s (rest k ev)
+    pub going-fits : RoomFor potential (g .sofar .state) s (rest k ev)
     going-fits = rest-fits potential (g .step)
 
-    pub going-ready : Ready potential s (rest k ev)
+    pub going-ready : SomeRoom potential s (rest k ev)
     going-ready = record { state = g .sofar .state; fits = going-fits }
 
-    pub going-turn : (turn next′ : State → Out) (held′ : State → Type 0) {s′ x : List ℕ} {r : ℕ}
-        → ((m : State) → held m → Fits potential m s (rest k ev) → EmitsWithin potential m (turn m) s′ (rest k ev) x r)
+    pub going-iteration : (turn next′ : State → Out) (held′ : State → Type 0) {s′ x : List ℕ} {r : ℕ}
+        → ((m : State) → held m → RoomFor potential m s (rest k ev) → EmitsWithin potential m (turn m) s′ (rest k ev) x r)
         → ((m : State) → held m → Represents s m → r ≡ length ((turn m) .emitted) → Like (next m) (also (turn m) next′) × held′ ((turn m) .state))
         → Going potential st goal next′ held′ s′ ev₀ (take (34 * k) ev ++ (x ++ drop (length ev - 34 * k) (drop (34 * k) ev))) (k + r)
-    going-turn turn next′ held′ made on =
+    going-iteration turn next′ held′ made on =
         let o = g .sofar in
         let m = o .state in
         let done = made m (g .holding) going-fits in

@@ -1,4 +1,4 @@
-use Rattle.definition.specs.Reference.Insert.{named}
+use Rattle.definition.specs.Reference.Insert.{matches}
 use Rattle.layout.specs.Route.{fitRoute}
 use Rattle.lists.specs.Pass.{find-here, find-past, find-end}
 use Rattle.lists.specs.Place.{placeOf}
@@ -12,18 +12,18 @@ use mathlib.Core.Path.{_≡_, sym, _∙_}
 use mathlib.Core.List.{List}
 use Prim.Native.Nat.{_+_, _-_, _≤_}
 use borrow.Author.Needs.{needs}
-use Rattle.step_kernel_del.proofs.find_named.Statement.{statement}
-use Rattle.step_kernel_del.proofs.find_named.Tie as tie
+use Rattle.step_kernel_del.proofs.find_match.Statement.{statement}
+use Rattle.step_kernel_del.proofs.find_match.Tie as tie
 
 abbrev Inv-loop : tie.InvT-loop
 Inv-loop rows n p i₀ i =
-    (i ≤ n) × ((l : List Row) → Laid 32 fitRoute rows l → placeOf (named p) l ≡ i + placeOf (named p) (drop i l))
+    (i ≤ n) × ((l : List Row) → Laid 32 fitRoute rows l → placeOf (matches p) l ≡ i + placeOf (matches p) (drop i l))
 
 abbrev μ-loop : tie.MeasureT-loop
 μ-loop rows n p i₀ i = n - i
 
 loop-holds : tie.Need-loop-holds Inv-loop μ-loop
-loop-holds c = (search needs, λ l h. sym (zero-add (placeOf (named (c .before .before .args .p .now)) l)))
+loop-holds c = (search needs, λ l h. sym (zero-add (placeOf (matches (c .before .before .args .p .now)) l)))
 
 mul-at : tie.Need-mul-at Inv-loop μ-loop
 mul-at c = search needs
@@ -43,15 +43,15 @@ part-r-start c = search needs
 part-r-end : tie.Need-part-r-end Inv-loop μ-loop
 part-r-end c = search needs
 
-named-requires : tie.Need-named-requires Inv-loop μ-loop
-named-requires c κs = search needs
+matches-requires : tie.Need-matches-requires Inv-loop μ-loop
+matches-requires c κs = search needs
 
 returns : tie.Need-returns Inv-loop μ-loop
 returns c =
     let k = c .before .before .before .before in
     let s = k .before .before .before in
     let a = s .args in
-    λ l h. find-here (a .rows .now) (a .n) (lit< tt) (s .pre .0 .0) (named (a .p .now)) l h (k .loop .i) (k .loop .inv .1 l h) (c .before .before .before .loop-test .taken) (sym (c .before .named .ensures) ∙ c .if1 .taken)
+    λ l h. find-here (a .rows .now) (a .n) (lit< tt) (s .pre .0 .0) (matches (a .p .now)) l h (k .loop .i) (k .loop .inv .1 l h) (c .before .before .before .loop-test .taken) (sym (c .before .matches .ensures) ∙ c .if1 .taken)
 
 add-i : tie.Need-add-i Inv-loop μ-loop
 add-i c = search needs
@@ -65,7 +65,7 @@ loop-again c =
     let s = k .before .before .before in
     let a = s .args in (
       omega arith,
-      λ l h. find-past (a .rows .now) (a .n) (lit< tt) (s .pre .0 .0) (named (a .p .now)) l h (k .loop .i) (k .loop .inv .1 l h) (c .before .before .before .loop-test .taken) (sym (c .before .named .ensures) ∙ c .if1 .left),
+      λ l h. find-past (a .rows .now) (a .n) (lit< tt) (s .pre .0 .0) (matches (a .p .now)) l h (k .loop .i) (k .loop .inv .1 l h) (c .before .before .before .loop-test .taken) (sym (c .before .matches .ensures) ∙ c .if1 .left),
     )
 
 returns-2 : tie.Need-returns-2 Inv-loop μ-loop
@@ -73,10 +73,10 @@ returns-2 c =
     let k = c .before in
     let s = k .before .before .before in
     let a = s .args in
-    λ l h. find-end (a .rows .now) (a .n) (lit< tt) (s .pre .0 .0) (named (a .p .now)) l h (k .loop .i) (k .loop .inv .1 l h) (k .loop .inv .0) (c .loop-test .left)
+    λ l h. find-end (a .rows .now) (a .n) (lit< tt) (s .pre .0 .0) (matches (a .p .now)) l h (k .loop .i) (k .loop .inv .1 l h) (k .loop .inv .0) (c .loop-test .left)
 
-pub find-named-spec : {M : Type 1} → statement M
-find-named-spec =
+pub find-match-spec : {M : Type 1} → statement M
+find-match-spec =
     tie.close
     (tie.spec
     Inv-loop
@@ -88,7 +88,7 @@ find-named-spec =
     sub-r
     part-r-start
     part-r-end
-    named-requires
+    matches-requires
     returns
     add-i
     loop-less

@@ -1,4 +1,4 @@
-use Rattle.step_expire.specs.Loop.{some-room, turn-there, turn-due, turn-stays, turn-deprecates}
+use Rattle.step_expire.specs.Loop.{some-room, iteration-there, iteration-due, iteration-stays, iteration-deprecates}
 use Rattle.step_remove_v4.specs.One.{addressRow, address-end, put-row, row-present}
 use Rattle.step_drop_prefsrc.specs.Delete.{ready-valid}
 use Rattle.layout.specs.Address.{fitAddress}
@@ -6,8 +6,8 @@ use native.Mathlib.Omega.{arith}
 use Prim.Native.Nat.{_-_}
 use mathlib.Core.Path.{refl, sym, ap, _∙_}
 use borrow.Author.Needs.{needs}
-use Rattle.step_expire.proofs.turn.Statement.{statement}
-use Rattle.step_expire.proofs.turn.Tie as tie
+use Rattle.step_expire.proofs.iteration.Statement.{statement}
+use Rattle.step_expire.proofs.iteration.Tie as tie
 
 mul-at : tie.Need-mul-at
 mul-at c = record { fits = omega (arith, (address-end (c .before .before .pre .0) (c .before .before .args .i) (c .before .before .pre .1)) .1) }
@@ -68,8 +68,8 @@ returns c =
     let q = w .store .ensures ∙ put-row (addressRow (s .args .s .now) (s .args .i)) _ (z .3) refl in
     let row = w .store .last .0 in
     λ st f.
-    turn-due (s .args .allowance .0) (s .args .clock .0) row (s .args .i) (s .pre .1) f q (sym (c .before .before .before .before .before .before .before .before .before .due .ensures) ∙ c .before .before .before .before .before .before .before .before .if1 .taken)
-    (c .before .before .before .before .remove-v4 .ensures st f (turn-there (s .args .allowance .0) (s .args .clock .0) row (s .args .i) (s .pre .1) f q))
+    iteration-due (s .args .allowance .0) (s .args .clock .0) row (s .args .i) (s .pre .1) f q (sym (c .before .before .before .before .before .before .before .before .before .due .ensures) ∙ c .before .before .before .before .before .before .before .before .if1 .taken)
+    (c .before .before .before .before .remove-v4 .ensures st f (iteration-there (s .args .allowance .0) (s .args .clock .0) row (s .args .i) (s .pre .1) f q))
 
 slice-aggregate-deprecates : tie.Need-slice-aggregate-deprecates
 slice-aggregate-deprecates c = search needs
@@ -102,7 +102,7 @@ returns-2 c =
     let q = w .store .ensures ∙ put-row (addressRow (s .args .s .now) (s .args .i)) _ (z .3) refl in
     let row = w .store .last .0 in
     λ st f.
-    turn-deprecates (s .args .allowance .0) (s .args .clock .0) row (s .args .i) (s .pre .1) f q (sym (c .before .before .before .before .before .before .before .before .before .before .before .before .due .ensures) ∙ c .before .before .before .before .before .before .before .before .before .before .before .if1 .left)
+    iteration-deprecates (s .args .allowance .0) (s .args .clock .0) row (s .args .i) (s .pre .1) f q (sym (c .before .before .before .before .before .before .before .before .before .before .before .before .due .ensures) ∙ c .before .before .before .before .before .before .before .before .before .before .before .if1 .left)
     (sym (c .before .before .before .before .before .before .before .before .before .deprecates .ensures) ∙ c .before .before .before .before .before .before .before .before .if2 .taken) (c .before .before .before .before .mark .ensures .1 st (f .holds)) (c .before .before .before .before .mark .ensures .0)
 
 same-length-5 : tie.Need-same-length-5
@@ -116,11 +116,11 @@ returns-3 c =
     let q = w .store .ensures ∙ put-row (addressRow (s .args .s .now) (s .args .i)) _ (z .3) refl in
     let row = w .store .last .0 in
     λ st f.
-    turn-stays (s .args .allowance .0) (s .args .clock .0) row (s .args .i) (s .pre .1) f q (sym (c .before .before .before .before .due .ensures) ∙ c .before .before .before .if1 .left)
+    iteration-stays (s .args .allowance .0) (s .args .clock .0) row (s .args .i) (s .pre .1) f q (sym (c .before .before .before .before .due .ensures) ∙ c .before .before .before .if1 .left)
     (sym (c .before .deprecates .ensures) ∙ c .if2 .left)
 
-pub turn-spec : {M : Type 1} → statement M
-turn-spec =
+pub iteration-spec : {M : Type 1} → statement M
+iteration-spec =
     tie.close
     (tie.spec
     mul-at

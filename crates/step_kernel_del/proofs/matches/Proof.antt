@@ -1,9 +1,9 @@
 use mathlib.Core.Path.{refl}
-use Rattle.definition.specs.Reference.Insert.{named}
-use Rattle.step_kernel_del.specs.Delete.{named-far}
+use Rattle.definition.specs.Reference.Insert.{matches}
+use Rattle.step_kernel_del.specs.Delete.{matches-far}
 use borrow.Author.Needs.{needs}
-use Rattle.step_kernel_del.proofs.named.Statement.{statement}
-use Rattle.step_kernel_del.proofs.named.Tie as tie
+use Rattle.step_kernel_del.proofs.matches.Statement.{statement}
+use Rattle.step_kernel_del.proofs.matches.Tie as tie
 
 shared-slice-read-if1 : tie.Need-shared-slice-read-if1
 shared-slice-read-if1 c = search needs
@@ -12,7 +12,7 @@ shared-slice-read-if1-2 : tie.Need-shared-slice-read-if1-2
 shared-slice-read-if1-2 c = search needs
 
 returns : tie.Need-returns
-returns c = named-far (c .before .before .before .args .p .now) (c .before .before .before .args .r .now) (c .if1 .taken)
+returns c = matches-far (c .before .before .before .args .p .now) (c .before .before .before .args .r .now) (c .if1 .taken)
 
 shared-slice-read-result : tie.Need-shared-slice-read-result
 shared-slice-read-result c = search needs
@@ -84,11 +84,11 @@ shared-slice-read-result-23 : tie.Need-shared-slice-read-result-23
 shared-slice-read-result-23 c = search needs
 
 returns-2 : tie.Need-returns-2
-unfolding named
+unfolding matches
 returns-2 c = refl
 
-pub named-spec : {M : Type 1} → statement M
-named-spec =
+pub matches-spec : {M : Type 1} → statement M
+matches-spec =
     tie.close
     (tie.spec
     shared-slice-read-if1

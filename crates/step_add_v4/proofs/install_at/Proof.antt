@@ -1,11 +1,11 @@
 use native.Mathlib.Omega.{arith}
-use Rattle.state.specs.Represents.{sound-valid, sound-long, sound-few}
+use Rattle.state.specs.Represents.{fit-some, sound-long, sound-few}
 use Rattle.state_read.specs.Parts.{ready-addresses, of-addresses}
 use Rattle.row_subnet.specs.Laws.{part-short}
-use Rattle.step_add_v4.specs.Every.{turn-ready, turn-done}
+use Rattle.step_add_v4.specs.Every.{iteration-ready, iteration-done}
 use borrow.Author.Needs.{needs}
-use Rattle.step_add_v4.proofs.bring_at.Statement.{statement}
-use Rattle.step_add_v4.proofs.bring_at.Tie as tie
+use Rattle.step_add_v4.proofs.install_at.Statement.{statement}
+use Rattle.step_add_v4.proofs.install_at.Tie as tie
 
 address-count-requires : tie.Need-address-count-requires
 address-count-requires c κs =
@@ -39,7 +39,7 @@ part-candidates-end : tie.Need-part-candidates-end
 part-candidates-end c =
     let n = c .before .before in
     let s = n .before .before .before .before in
-    omega (arith, ready-addresses _ (n .address-count .result) (sound-valid (s .pre .0)) (c .addresses .ensures) (n .address-count .ensures) .0, n .address-count .ensures, s .pre .1 .0)
+    omega (arith, ready-addresses _ (n .address-count .result) (fit-some (s .pre .0)) (c .addresses .ensures) (n .address-count .ensures) .0, n .address-count .ensures, s .pre .1 .0)
 
 slice-aggregate-candidates : tie.Need-slice-aggregate-candidates
 slice-aggregate-candidates c = search needs
@@ -48,23 +48,23 @@ candidates-requires : tie.Need-candidates-requires
 candidates-requires c κs =
     let n = c .before .before .before .before in
     let s = n .before .before .before .before in
-    let y = ready-addresses _ (n .address-count .result) (sound-valid (s .pre .0)) (c .before .before .addresses .ensures) (n .address-count .ensures) in
+    let y = ready-addresses _ (n .address-count .result) (fit-some (s .pre .0)) (c .before .before .addresses .ensures) (n .address-count .ensures) in
     (y, (part-short (c .before .before .addresses .result .now) (n .address-count .result) (y .0) (y .1) (s .args .i) (omega (arith, n .address-count .ensures, s .pre .1 .0)), omega arith))
 
 mul-end : tie.Need-mul-end
 mul-end c = search needs
 
-sub-bring : tie.Need-sub-bring
-sub-bring c = search needs
+sub-install : tie.Need-sub-install
+sub-install c = search needs
 
-part-bring-start : tie.Need-part-bring-start
-part-bring-start c = search needs
+part-install-start : tie.Need-part-install-start
+part-install-start c = search needs
 
-part-bring-end : tie.Need-part-bring-end
-part-bring-end c = search needs
+part-install-end : tie.Need-part-install-end
+part-install-end c = search needs
 
-bring-requires : tie.Need-bring-requires
-bring-requires c κs =
+install-requires : tie.Need-install-requires
+install-requires c κs =
     let d = c .before .before .before .before .before in
     let l = c .before .before .before .before .before .before .before .before in
     let s = c .before .before .before .before .before .before .before .before .before .before .before .before .before .before in
@@ -72,7 +72,7 @@ bring-requires c κs =
     let few = d .candidates .ensures .0 .1 in (
       v,
       (
-        turn-ready (s .args .i) (s .pre .1 .0) (v .state) (v .holds) (l .addresses .result .now) (l .addresses .ensures) (d .candidates .result) _ _ (d .candidates .ensures .1 (v .state .addresses) (of-addresses _ (v .holds) (l .addresses .ensures))),
+        iteration-ready (s .args .i) (s .pre .1 .0) (v .state) (v .holds) (l .addresses .result .now) (l .addresses .ensures) (d .candidates .result) _ _ (d .candidates .ensures .1 (v .state .addresses) (of-addresses _ (v .holds) (l .addresses .ensures))),
         (omega (arith, few, s .pre .1 .1), omega (arith, few)),
       ),
     )
@@ -89,12 +89,12 @@ returns c =
     let d = c .before .before .before .before .before .before .before .before .before .before in
     let l = c .before .before .before .before .before .before .before .before .before .before .before .before .before in
     let s = c .before .before .before .before .before .before .before .before .before .before .before .before .before .before .before .before .before .before .before in (
-      omega (arith, b .bring .ensures .0, d .candidates .ensures .0 .1),
-      λ st h g. turn-done (s .args .i) (s .pre .1 .0) st h (l .addresses .result .now) (l .addresses .ensures) (d .candidates .result) _ _ (d .candidates .ensures .1 (st .addresses) (of-addresses _ h (l .addresses .ensures))) g (b .bring .ensures .1),
+      omega (arith, b .install .ensures .0, d .candidates .ensures .0 .1),
+      λ st h g. iteration-done (s .args .i) (s .pre .1 .0) st h (l .addresses .result .now) (l .addresses .ensures) (d .candidates .result) _ _ (d .candidates .ensures .1 (st .addresses) (of-addresses _ h (l .addresses .ensures))) g (b .install .ensures .1),
     )
 
-pub bring-at-spec : {M : Type 1} → statement M
-bring-at-spec =
+pub install-at-spec : {M : Type 1} → statement M
+install-at-spec =
     tie.close
     (tie.spec
     address-count-requires
@@ -108,10 +108,10 @@ bring-at-spec =
     slice-aggregate-candidates
     candidates-requires
     mul-end
-    sub-bring
-    part-bring-start
-    part-bring-end
-    bring-requires
+    sub-install
+    part-install-start
+    part-install-end
+    install-requires
     same-length
     same-length-2
     returns)

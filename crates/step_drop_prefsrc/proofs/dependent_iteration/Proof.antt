@@ -1,12 +1,12 @@
--- `step_drop_prefsrc::dependent_turn` meets its contract: the row is told where it strays, and settles where it does not.
+-- `step_drop_prefsrc::dependent_iteration` meets its contract: the row is emitted where it depends on that source, and settles where it does not.
 -- Assumes nothing.
 use mathlib.Core.Path.{sym, _∙_}
 use denote.Ref.{now}
 use Rattle.definition.specs.Reference.Removal.{dependentOn}
 use Rattle.step_drop_prefsrc.specs.Sweep.{swept-goes, swept-stays}
 use borrow.Author.Needs.{needs}
-use Rattle.step_drop_prefsrc.proofs.dependent_turn.Statement.{statement}
-use Rattle.step_drop_prefsrc.proofs.dependent_turn.Tie as tie
+use Rattle.step_drop_prefsrc.proofs.dependent_iteration.Statement.{statement}
+use Rattle.step_drop_prefsrc.proofs.dependent_iteration.Tie as tie
 
 mul-at : tie.Need-mul-at
 mul-at c = search needs
@@ -76,8 +76,8 @@ returns-2 c =
     let a = start .args in
     swept-stays (dependentOn (a .ip)) (a .i) (a .j) (now (a .s)) (now (a .ev)) (sym (at-test .ensures) ∙ at-if1 .left) (at-settle .ensures .0) (at-settle .ensures .1)
 
-pub dependent-turn-spec : {M : Type 1} → statement M
-dependent-turn-spec =
+pub dependent-iteration-spec : {M : Type 1} → statement M
+dependent-iteration-spec =
     tie.close
     (tie.spec
     mul-at

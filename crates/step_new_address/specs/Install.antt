@@ -15,11 +15,11 @@ use Rattle.lists.specs.Block.{block-laid}
 use Rattle.layout.specs.Route.{fitRoute}
 use Rattle.definition.specs.State.{through}
 use Rattle.definition.specs.Reference.Insert.{kernelAdd4}
-use Rattle.definition.specs.Reference.Addresses.{goes, bring}
+use Rattle.definition.specs.Reference.Addresses.{goes, install}
 use Rattle.definition.specs.Preservation.Fit.{sized-routes}
 use Rattle.definition.specs.Preservation.Keeps.{Keeps, through-keeps, keeps-fit}
 use Rattle.definition.specs.Preservation.Addresses.{kernelAdd4-keeps}
-use Rattle.state.specs.Represents.{Valid, Sound, sound-valid}
+use Rattle.state.specs.Represents.{RepresentsSome, RepresentsFit, fit-some}
 use Rattle.step_events.specs.Emits.{does-length, rest}
 use Rattle.step_events.specs.Comes.{Comes, NoRows, joined, joined-other, holds-within, comes-rows}
 use Rattle.step_events.specs.Through.{adds-start, adds-next, adds-other-end, adds-end}
@@ -48,14 +48,14 @@ first-keep : (rows : List Row) (i : ℕ) → all fitRoute rows ≡ true → Keep
 first-keep rows i f = through-keeps kernelAdd4 fitRoute (take i rows) kernelAdd4-keeps (all-take fitRoute i rows f)
 
 module _ {block s₀ ev₀ s ev : List ℕ} {i t : ℕ} (a : LoopInvariant block s₀ ev₀ i s ev t) where
-  pub sofar-sound : Sound s₀ → Lays 32 fitRoute block → Sound s
+  pub sofar-sound : RepresentsFit s₀ → Lays 32 fitRoute block → RepresentsFit s
   sofar-sound v y =
       adds-sound (through kernelAdd4 (take i (y .list))) (first-keep (y .list) i (y .laid .fitting)) (a .adds (y .list) (y .laid)) v
 
-  pub sofar-valid : Sound s₀ → Lays 32 fitRoute block → Valid s
-  sofar-valid v y = sound-valid (sofar-sound v y)
+  pub sofar-valid : RepresentsFit s₀ → Lays 32 fitRoute block → RepresentsSome s
+  sofar-valid v y = fit-some (sofar-sound v y)
 
-  pub sofar-length : Sound s₀ → Lays 32 fitRoute block → length ev ≡ length ev₀
+  pub sofar-length : RepresentsFit s₀ → Lays 32 fitRoute block → length ev ≡ length ev₀
   sofar-length v y = does-length ((comes-rows (a .adds (y .list) (y .laid) (v .state) (v .holds) (v .fits))) .1)
 
   module _ (k : ℕ) (long : length block ≡ 32 * k) where
@@ -77,11 +77,11 @@ module _ {block s₀ ev₀ s ev : List ℕ} {i t : ℕ} (a : LoopInvariant block
                 subst (λ (q : Done). Comes (goes (through kernelAdd4 (take (i + 1) rows) st)) w ev₀ (take (34 * t) ev ++ (x ++ drop (length ev - 34 * t) (drop (34 * t) ev))) (joined t q)) e (one-more rows h st hs f);
           }
 
-      pub sofar-other : NoRows r → {w′ ev′ : List ℕ} (rows : List Row) → Laid 32 fitRoute block rows → AddsFrom (bring rows) s₀ w′ ev₀ ev′ r
-      unfolding bring
+      pub sofar-other : NoRows r → {w′ ev′ : List ℕ} (rows : List Row) → Laid 32 fitRoute block rows → AddsFrom (install rows) s₀ w′ ev₀ ev′ r
+      unfolding install
       sofar-other other rows h st hs f =
           adds-other-end kernelAdd4 rows st kernelAdd4-covered (holds-within hs) (i + 1) other (rw (← (joined-other t r other)) at (one-more rows h st hs f))
 
-    pub sofar-end : k ≤ i → (rows : List Row) → Laid 32 fitRoute block rows → AddsFrom (bring rows) s₀ s ev₀ ev (Rows t)
-    unfolding bring
+    pub sofar-end : k ≤ i → (rows : List Row) → Laid 32 fitRoute block rows → AddsFrom (install rows) s₀ s ev₀ ev (Rows t)
+    unfolding install
     sofar-end b rows h st hs f = adds-end kernelAdd4 rows st i (omega (arith, laid-rows block k (lit< tt) long rows h)) (a .adds rows h st hs f)

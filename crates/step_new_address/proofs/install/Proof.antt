@@ -7,10 +7,10 @@ use Prim.Native.Nat.{_-_, _≤_}
 use mathlib.Core.Path.{_≡_, refl, sym, _∙_}
 use native.Mathlib.Omega.{arith}
 use lib.ListN.{length}
-use Rattle.step_new_address.specs.Bring.{LoopInvariant, sofar-start, sofar-sound, sofar-valid, sofar-length, sofar-next, sofar-other, sofar-end}
+use Rattle.step_new_address.specs.Install.{LoopInvariant, sofar-start, sofar-sound, sofar-valid, sofar-length, sofar-next, sofar-other, sofar-end}
 use borrow.Author.Needs.{needs}
-use Rattle.step_new_address.proofs.bring.Statement.{statement}
-use Rattle.step_new_address.proofs.bring.Tie as tie
+use Rattle.step_new_address.proofs.install.Statement.{statement}
+use Rattle.step_new_address.proofs.install.Tie as tie
 
 abbrev Inv-loop : tie.InvT-loop
 Inv-loop s₀ ev₀ block k emitted₀ i₀ s ev emitted i =
@@ -136,8 +136,8 @@ returns-2 c =
     let inv = k .loop .inv in
     (omega (arith, inv .0, inv .1 .0), λ rows h. sofar-end (inv .1 .1 .1 .1) (s .args .k) (y .0) (c .loop-test .left) rows h)
 
-pub bring-spec : {M : Type 1} → statement M
-bring-spec =
+pub install-spec : {M : Type 1} → statement M
+install-spec =
     tie.close
     (tie.spec
     Inv-loop

@@ -1,6 +1,6 @@
 use borrow.Author.Needs.{needs}
-use Rattle.row_subnet.proofs.brings_prefix.Statement.{statement}
-use Rattle.row_subnet.proofs.brings_prefix.Tie as tie
+use Rattle.row_subnet.proofs.has_prefix_route.Statement.{statement}
+use Rattle.row_subnet.proofs.has_prefix_route.Tie as tie
 
 own-network-requires : tie.Need-own-network-requires
 own-network-requires c κs = search needs
@@ -14,6 +14,6 @@ no-prefix-route-requires c κs = search needs
 returns : tie.Need-returns
 returns c = rw (c .no-prefix-route .ensures, c .before .secondary .ensures, c .before .before .own-network .ensures)
 
-pub brings-prefix-spec : {M : Type 1} → statement M
-brings-prefix-spec =
+pub has-prefix-route-spec : {M : Type 1} → statement M
+has-prefix-route-spec =
     tie.close (tie.spec own-network-requires secondary-requires no-prefix-route-requires returns)

@@ -7,12 +7,12 @@ use Rattle.layout.specs.Address.{prefix, secondary, noPrefixRoute}
 use Rattle.definition.specs.Reference.Addresses.{sameSubnet, ownNetwork}
 
 -- a prefix route
-abbrev pub bringsPrefix : Row → Bool
-bringsPrefix a = ownNetwork a && not (secondary a) && not (noPrefixRoute a)
+abbrev pub hasPrefixRoute : Row → Bool
+hasPrefixRoute a = ownNetwork a && not (secondary a) && not (noPrefixRoute a)
 
 -- its subnet's broadcast route
-abbrev pub bringsBroadcast : Row → Bool
-bringsBroadcast a = ownNetwork a && not (secondary a) && ltb (prefix a) 31
+abbrev pub hasBroadcastRoutes : Row → Bool
+hasBroadcastRoutes a = ownNetwork a && not (secondary a) && ltb (prefix a) 31
 
 -- b is a primary whose subnet a is in
 abbrev pub primaryFor : Row → Row → Bool

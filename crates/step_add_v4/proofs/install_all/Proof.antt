@@ -7,8 +7,8 @@ use Rattle.step_new_address.specs.Sound.{rest-room, rows-are}
 use Rattle.step_add_v4.specs.Every.{LoopInvariant, sofar-start, sofar-sound, sofar-few, sofar-length, sofar-count, sofar-next, sofar-other, sofar-end}
 use Rattle.step_events.specs.Comes.{not-first}
 use borrow.Author.Needs.{needs}
-use Rattle.step_add_v4.proofs.bring_all.Statement.{statement}
-use Rattle.step_add_v4.proofs.bring_all.Tie as tie
+use Rattle.step_add_v4.proofs.install_all.Statement.{statement}
+use Rattle.step_add_v4.proofs.install_all.Tie as tie
 
 abbrev Inv-loop : tie.InvT-loop
 Inv-loop s₀ ev₀ n emitted₀ i₀ s ev emitted i =
@@ -33,25 +33,25 @@ mul-from c =
     let inv = k .loop .inv in
     omega (arith, inv .1 .0)
 
-mul-bring-at : tie.Need-mul-bring-at Inv-loop μ-loop
-mul-bring-at c = search needs
+mul-install-at : tie.Need-mul-install-at Inv-loop μ-loop
+mul-install-at c = search needs
 
-sub-bring-at : tie.Need-sub-bring-at Inv-loop μ-loop
-sub-bring-at c = search needs
+sub-install-at : tie.Need-sub-install-at Inv-loop μ-loop
+sub-install-at c = search needs
 
-part-bring-at-start : tie.Need-part-bring-at-start Inv-loop μ-loop
-part-bring-at-start c =
+part-install-at-start : tie.Need-part-install-at-start Inv-loop μ-loop
+part-install-at-start c =
     let k = c .before .before in
     let n = k .before in
     let s = n .before .before .before .before in
     let inv = k .loop .inv in
     omega (arith, inv .1 .0, inv .1 .1 .1 .0, s .pre .1)
 
-part-bring-at-end : tie.Need-part-bring-at-end Inv-loop μ-loop
-part-bring-at-end c = search needs
+part-install-at-end : tie.Need-part-install-at-end Inv-loop μ-loop
+part-install-at-end c = search needs
 
-bring-at-requires : tie.Need-bring-at-requires Inv-loop μ-loop
-bring-at-requires c κs =
+install-at-requires : tie.Need-install-at-requires Inv-loop μ-loop
+install-at-requires c κs =
     let k = c .before .before .before in
     let n = k .before in
     let s = n .before .before .before .before in
@@ -79,7 +79,7 @@ returns c =
     let k = w .before .before .before .before in
     let n = k .before in
     let inv = k .loop .inv in
-    (omega (arith, w .bring-at .ensures .0), sofar-other (inv .1 .1 .1 .1) (omega (arith, n .address-count .ensures, w .before .before .before .loop-test .taken)) (w .bring-at .ensures .1) (λ k e. not-first (rw e at (c .match .keys2))))
+    (omega (arith, w .install-at .ensures .0), sofar-other (inv .1 .1 .1 .1) (omega (arith, n .address-count .ensures, w .before .before .before .loop-test .taken)) (w .install-at .ensures .1) (λ k e. not-first (rw e at (c .match .keys2))))
 
 add-emitted : tie.Need-add-emitted Inv-loop μ-loop
 add-emitted c =
@@ -87,7 +87,7 @@ add-emitted c =
     let w = t .before .before .before .before .before .before in
     let k = w .before .before .before .before in
     let inv = k .loop .inv in
-    omega (arith, inv .1 .0, rows-are 4 (w .bring-at .result) (t .came .given .0 .0) (t .came .given .1) (w .bring-at .ensures .0))
+    omega (arith, inv .1 .0, rows-are 4 (w .install-at .result) (t .came .given .0 .0) (t .came .given .1) (w .install-at .ensures .0))
 
 add-i : tie.Need-add-i Inv-loop μ-loop
 add-i c = search needs
@@ -104,7 +104,7 @@ loop-again c =
     let s = n .before .before .before .before in
     let v = s .pre .0 in
     let inv = k .loop .inv in
-    let next = sofar-next (inv .1 .1 .1 .1) (omega (arith, n .address-count .ensures, w .before .before .before .loop-test .taken)) (w .bring-at .ensures .1) (t .came .given .0 .0) (t .came .given .1) in
+    let next = sofar-next (inv .1 .1 .1 .1) (omega (arith, n .address-count .ensures, w .before .before .before .loop-test .taken)) (w .install-at .ensures .1) (t .came .given .0 .0) (t .came .given .1) in
     (omega arith, (sofar-few next v, (sound-long (sofar-sound next v) ∙ sym (sound-long v), (sofar-length next v, next))))
 
 same-length-3 : tie.Need-same-length-3 Inv-loop μ-loop
@@ -120,8 +120,8 @@ returns-2 c =
     let inv = k .loop .inv in
     (inv .1 .0, sofar-end (inv .1 .1 .1 .1) (omega (arith, n .address-count .ensures, c .loop-test .left)))
 
-pub bring-all-spec : {M : Type 1} → statement M
-bring-all-spec =
+pub install-all-spec : {M : Type 1} → statement M
+install-all-spec =
     tie.close
     (tie.spec
     Inv-loop
@@ -129,11 +129,11 @@ bring-all-spec =
     address-count-requires
     loop-holds
     mul-from
-    mul-bring-at
-    sub-bring-at
-    part-bring-at-start
-    part-bring-at-end
-    bring-at-requires
+    mul-install-at
+    sub-install-at
+    part-install-at-start
+    part-install-at-end
+    install-at-requires
     enum-known-came
     same-length
     same-length-2

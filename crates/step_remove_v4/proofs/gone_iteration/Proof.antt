@@ -4,8 +4,8 @@ use native.Mathlib.Omega.{arith}
 use mathlib.Core.Path.{refl, sym, _∙_}
 use Prim.Native.Nat.{_-_}
 use borrow.Author.Needs.{needs}
-use Rattle.step_remove_v4.proofs.gone_turn.Statement.{statement}
-use Rattle.step_remove_v4.proofs.gone_turn.Tie as tie
+use Rattle.step_remove_v4.proofs.gone_iteration.Statement.{statement}
+use Rattle.step_remove_v4.proofs.gone_iteration.Tie as tie
 
 mul-at : tie.Need-mul-at
 mul-at c = let s = c .before .before .before in record { fits = omega (arith, (address-end (s .pre .0) (s .args .i) (s .pre .1 .0)) .1) }
@@ -77,8 +77,8 @@ returns-2 c =
     let q = w .store .ensures ∙ put-row (addressRow (s .args .s .now) (s .args .i)) _ (z .3) refl in
     λ st f. other-stays (s .args .a .now) (w .store .last .0) (s .args .i) (s .pre .1 .0) f q (sym (c .before .goes-with .ensures) ∙ c .if1 .left)
 
-pub gone-turn-spec : {M : Type 1} → statement M
-gone-turn-spec =
+pub gone-iteration-spec : {M : Type 1} → statement M
+gone-iteration-spec =
     tie.close
     (tie.spec
     mul-at

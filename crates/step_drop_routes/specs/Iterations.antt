@@ -18,13 +18,13 @@ use Rattle.definition.specs.Reference.Lookup.{mainTable, listed, local4}
 use Rattle.definition.specs.Reference.Insert.{kernelDel4}
 use Rattle.definition.specs.Reference.Removal.{wanted, dependentOn, disable}
 use Rattle.definition.specs.Preservation.Shrinking.{potential, live, kernelDel4-away, through-away, stays-away, Away}
-use Rattle.state.specs.Represents.{Represents, Valid, holds-long}
+use Rattle.state.specs.Represents.{Represents, RepresentsSome, holds-long}
 use Rattle.step_events.specs.Emits.{rest}
-use Rattle.step_events.specs.EmitsWithin.{Fits, Ready, EmitsWithin, rest-fits, step-none, step-length, step-rows, step-also}
-use Rattle.step_events.specs.Turns.{Going, like-eq, going-start, going-turn, going-end}
+use Rattle.step_events.specs.EmitsWithin.{RoomFor, SomeRoom, EmitsWithin, rest-fits, step-none, step-length, step-rows, step-also}
+use Rattle.step_events.specs.Iterations.{Going, like-eq, going-start, going-iteration, going-end}
 use Rattle.step_drop_prefsrc.specs.Dependents.{dependentsGo}
 use Rattle.step_drop_prefsrc.specs.Delete.{step-eq}
-use Rattle.step_drop_routes.specs.One.{unlessWanted, from, from-start, from-turn, from-end, loses, fallFrom, step-quiet, disable-quiet}
+use Rattle.step_drop_routes.specs.One.{unlessWanted, from, from-start, from-iteration, from-end, loses, fallFrom, step-quiet, disable-quiet}
 use Rattle.definition.specs.Words.{baseSize}
 
 -- any row at all
@@ -32,7 +32,7 @@ abbrev pub anyRow : Row → Bool
 anyRow r = true
 
 -- ---- one route
-pub wanted-stays : {st : State} {s ev : List ℕ} (r : Row) → Fits potential st s ev → wanted (st .addresses) r ≡ true → EmitsWithin potential st (unlessWanted r st) s ev ev 0
+pub wanted-stays : {st : State} {s ev : List ℕ} (r : Row) → RoomFor potential st s ev → wanted (st .addresses) r ≡ true → EmitsWithin potential st (unlessWanted r st) s ev ev 0
 unfolding unlessWanted
 wanted-stays {st} r f e = step-eq (cond-true (wanted (st .addresses) r) (stays st) (kernelDel4 r st) e) (step-none potential f)
 
@@ -45,15 +45,15 @@ unwanted-goes {st} r e t = step-eq (cond-false (wanted (st .addresses) r) (stays
 pub potential-most : {st : State} {s : List ℕ} → Represents s st → potential st ≤ 384
 potential-most {st} h = omega (arith, h .routesWithin, h .addressesWithin, count-most live (st .addresses))
 
-pub step-facts : {st : State} {o : Out} {s₀ s ev₀ ev : List ℕ} {r : ℕ} → Fits potential st s₀ ev₀ → EmitsWithin potential st o s ev₀ ev r
+pub step-facts : {st : State} {o : Out} {s₀ s ev₀ ev : List ℕ} {r : ℕ} → RoomFor potential st s₀ ev₀ → EmitsWithin potential st o s ev₀ ev r
     → (34 * r ≤ length ev) × (length s ≡ baseSize) × (length ev ≡ length ev₀) × (r ≤ 384)
 step-facts f t =
     (omega (arith, step-rows potential t, step-length potential t), holds-long (t .holds), step-length potential t, omega (arith, t .less, potential-most (f .holds)))
 
-pub step-valid : {st : State} {o : Out} {s ev₀ ev : List ℕ} {r : ℕ} → EmitsWithin potential st o s ev₀ ev r → Valid s
+pub step-valid : {st : State} {o : Out} {s ev₀ ev : List ℕ} {r : ℕ} → EmitsWithin potential st o s ev₀ ev r → RepresentsSome s
 step-valid {o = o} t = record { state = o .state; holds = t .holds }
 
-pub step-ready : {st : State} {o : Out} {s ev₀ ev : List ℕ} {r : ℕ} → EmitsWithin potential st o s ev₀ ev r → Ready potential s (rest r ev)
+pub step-ready : {st : State} {o : Out} {s ev₀ ev : List ℕ} {r : ℕ} → EmitsWithin potential st o s ev₀ ev r → SomeRoom potential s (rest r ev)
 step-ready {o = o} t = record { state = o .state; fits = rest-fits potential t }
 
 -- ---- the routes, one after the other
@@ -62,27 +62,27 @@ pub record Any (st : State) : Type 0 where
 abbrev pub Leaving : State → List Row → ℕ → ℕ → List ℕ → List ℕ → List ℕ → Type 0
 Leaving st l j k s ev₀ ev = Going potential st (through unlessWanted l st) (from l j) Any s ev₀ ev k
 
-pub leaving-start : {st : State} {s ev : List ℕ} (l : List Row) → Fits potential st s ev → Leaving st l 0 0 s ev ev
+pub leaving-start : {st : State} {s ev : List ℕ} (l : List Row) → RoomFor potential st s ev → Leaving st l 0 0 s ev ev
 leaving-start {st} l f = going-start potential (from l 0) Any f (like-eq (from-start l st)) (record {})
 
 module _ {st : State} (l : List Row) (j : ℕ) {k : ℕ} {s ev₀ ev : List ℕ} (g : Leaving st l j k s ev₀ ev) where
-  pub leaving-facts : {s₀ : List ℕ} → Fits potential st s₀ ev₀ → (34 * k ≤ length ev) × (length s ≡ baseSize) × (length ev ≡ length ev₀) × (k ≤ 384)
+  pub leaving-facts : {s₀ : List ℕ} → RoomFor potential st s₀ ev₀ → (34 * k ≤ length ev) × (length s ≡ baseSize) × (length ev ≡ length ev₀) × (k ≤ 384)
   leaving-facts f = step-facts f (g .step)
 
-  pub leaving-turn : j < length l → {s′ x : List ℕ} {r : ℕ} (row : Row) → row ≡ getD l j []
-      → ((m : State) → Fits potential m s (rest k ev) → EmitsWithin potential m (unlessWanted row m) s′ (rest k ev) x r)
+  pub leaving-iteration : j < length l → {s′ x : List ℕ} {r : ℕ} (row : Row) → row ≡ getD l j []
+      → ((m : State) → RoomFor potential m s (rest k ev) → EmitsWithin potential m (unlessWanted row m) s′ (rest k ev) x r)
       → Leaving st l (j + 1) (k + r) s′ ev₀ (take (34 * k) ev ++ (x ++ drop (length ev - 34 * k) (drop (34 * k) ev)))
-  leaving-turn b row e t =
-      going-turn potential g (unlessWanted (getD l j [])) (from l (j + 1)) Any (λ m h f. step-eq (ap (λ (r : Row). unlessWanted r m) (sym e)) (t m f))
-      (λ m h w q. (from-turn l j b m, record {}))
+  leaving-iteration b row e t =
+      going-iteration potential g (unlessWanted (getD l j [])) (from l (j + 1)) Any (λ m h f. step-eq (ap (λ (r : Row). unlessWanted r m) (sym e)) (t m f))
+      (λ m h w q. (from-iteration l j b m, record {}))
 
   -- the routes lie in words
   module _ (w : List ℕ) (m : ℕ) (long : length w ≡ 32 * m) (h : Laid 32 anyRow w l) where
-    pub leaving-next : j < m → {s′ x : List ℕ} {r : ℕ} → ((y : State) → Fits potential y s (rest k ev) → EmitsWithin potential y (unlessWanted (part 32 w j) y) s′ (rest k ev) x r)
+    pub leaving-next : j < m → {s′ x : List ℕ} {r : ℕ} → ((y : State) → RoomFor potential y s (rest k ev) → EmitsWithin potential y (unlessWanted (part 32 w j) y) s′ (rest k ev) x r)
         → Leaving st l (j + 1) (k + r) s′ ev₀ (take (34 * k) ev ++ (x ++ drop (length ev - 34 * k) (drop (34 * k) ev)))
     leaving-next b t =
         let b′ : j < length l = omega (arith, laid-rows w m (lit< tt) long l h) in
-        leaving-turn b′ (part 32 w j) (laid-part h j b′) t
+        leaving-iteration b′ (part 32 w j) (laid-part h j b′) t
 
     pub leaving-last : m ≤ j → EmitsWithin potential st (through unlessWanted l st) s ev₀ ev k
     leaving-last b = going-end potential g (λ y q z. from-end l j (omega (arith, laid-rows w m (lit< tt) long l h)) y)
@@ -95,7 +95,7 @@ pub lost-so : (left : List Row) (r : Row) (w b : Bool) → w ≡ wanted left r �
 lost-so left r w b q e = rw (q, e) (sym (and-true (not (wanted left r))))
 
 -- ---- what falls
-module _ {st : State} {s ev : List ℕ} (ip : ℕ) (f : Fits potential st s ev) where
+module _ {st : State} {s ev : List ℕ} (ip : ℕ) (f : RoomFor potential st s ev) where
   fall-none : (lost : Bool) → lost && not (local4 st ip) ≡ false → EmitsWithin potential st (fallFrom ip lost st) s ev ev 0
   unfolding fallFrom
   fall-none lost e = step-eq (cond-false (lost && not (local4 st ip)) _ (stays st) e) (step-none potential f)

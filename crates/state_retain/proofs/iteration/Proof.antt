@@ -1,11 +1,11 @@
--- `state_retain::turn` meets its contract: the row settles where it remains.
+-- `state_retain::iteration` meets its contract: the row settles where it remains.
 -- Assumes nothing.
 use mathlib.Core.Path.{sym, _∙_}
 use denote.Ref.{now}
 use Rattle.state_retain.specs.Retain.{remains, turned-stays, turned-goes}
 use borrow.Author.Needs.{needs}
-use Rattle.state_retain.proofs.turn.Statement.{statement}
-use Rattle.state_retain.proofs.turn.Tie as tie
+use Rattle.state_retain.proofs.iteration.Statement.{statement}
+use Rattle.state_retain.proofs.iteration.Tie as tie
 
 mul-at : tie.Need-mul-at
 mul-at c = search needs
@@ -54,8 +54,8 @@ returns-2 c =
     let a = c .before .before .before .before .before .args in
     turned-goes (remains (a .host)) (a .i) (a .j) (now (a .s)) (sym (c .before .remains .ensures) ∙ c .if1 .left)
 
-pub turn-spec : {M : Type 1} → statement M
-turn-spec =
+pub iteration-spec : {M : Type 1} → statement M
+iteration-spec =
     tie.close
     (tie.spec
     mul-at
