@@ -1,4 +1,4 @@
--- What a changing call tells: its case and its numbers say the same, and its rows are few, of 34 words, as many as its value says.
+-- What a changing call emits: its case and its numbers say the same, and its rows are few, of 34 words, as many as its value says.
 -- Assumes nothing.
 use Prim.Native.Nat.{ℕ, _≤_, _<_}
 use native.Mathlib.Omega.{arith}
@@ -23,7 +23,7 @@ use Rattle.call_change.specs.Answer.{doneBy, doneOf}
 use Rattle.call_change.specs.declared.Done.{Done}
 use Rattle.call_change.specs.declared.Done.the-variants.{Rows}
 
--- what holds of a refusal and of rows told holds of a call's reply
+-- what holds of a refusal and of rows emitted holds of a call's reply
 comes : (P : Reply → Type 0) (o : Outcome) (w : List ℕ) → ((n : ℕ) → P (refusal n)) → ((l : List Row) → P (written l)) → P (outcome o w .reply)
 comes P (Outcome.goes o) w refuses answers = cond-case (λ (r : Result). P (r .reply)) (within (o .peak)) (λ e. answers (o .emitted)) (λ e. refuses 203)
 comes P (Outcome.refused n st) w refuses answers = cond-case (λ (r : Result). P (r .reply)) (within (sizes st)) (λ e. refuses n) (λ e. refuses 203)
@@ -43,49 +43,49 @@ tells c w t = perform-case (λ (r : Result). Tells (r .reply)) w (semantics c) (
     go (replies f) t = absurd (false≢true t)
     go (lists f) t = absurd (false≢true t)
 
-pub record Told (r : Reply) : Type 0 where
+pub record Emitted (r : Reply) : Type 0 where
   pub says : doneBy (doneOf r) ≡ numbers r
   pub counts : r .value ≡ length (r .rows)
   pub few : length (r .rows) ≤ 384
   pub size : sized 34 (r .rows) ≡ true
 
-pub emitted : (c : Call.Call) (w : List ℕ) → alters (semantics c .action) ≡ true → Told (step c w .reply)
+pub emitted : (c : Call.Call) (w : List ℕ) → alters (semantics c .action) ≡ true → Emitted (step c w .reply)
 emitted c w e =
     let t = tells c w e in
     let b = emitted-bound c w e in
     record { says = t .says; counts = t .counts; few = b .few; size = b .size }
 
 module _ (w : List ℕ) (events : ℕ) where
-  pub up-emitted : (now : ℕ) → Told (upCall events now w .reply)
+  pub up-emitted : (now : ℕ) → Emitted (upCall events now w .reply)
   unfolding upCall
   up-emitted now = emitted (Call.up events now) w refl
 
-  pub down-emitted : Told (downCall events w .reply)
+  pub down-emitted : Emitted (downCall events w .reply)
   unfolding downCall
   down-emitted = emitted (Call.down events) w refl
 
-  pub add-v4-emitted : (q : Row) (now : ℕ) → Told (addV4Call q events now w .reply)
+  pub add-v4-emitted : (q : Row) (now : ℕ) → Emitted (addV4Call q events now w .reply)
   unfolding addV4Call
   add-v4-emitted q now = emitted (Call.addV4 q events now) w refl
 
-  pub del-v4-emitted : (q : Row) → Told (delV4Call q events w .reply)
+  pub del-v4-emitted : (q : Row) → Emitted (delV4Call q events w .reply)
   unfolding delV4Call
   del-v4-emitted q = emitted (Call.delV4 q events) w refl
 
-  pub expire-emitted : (now : ℕ) → Told (expireCall events now w .reply)
+  pub expire-emitted : (now : ℕ) → Emitted (expireCall events now w .reply)
   unfolding expireCall
   expire-emitted now = emitted (Call.expire events now) w refl
 
-  pub add-route4-emitted : (q : Row) → Told (addRoute4Call q events w .reply)
+  pub add-route4-emitted : (q : Row) → Emitted (addRoute4Call q events w .reply)
   unfolding addRoute4Call
   add-route4-emitted q = emitted (Call.addRoute4 q events) w refl
 
-  pub del-route4-emitted : (q : Row) → Told (delRoute4Call q events w .reply)
+  pub del-route4-emitted : (q : Row) → Emitted (delRoute4Call q events w .reply)
   unfolding delRoute4Call
   del-route4-emitted q = emitted (Call.delRoute4 q events) w refl
 
 -- the count fits a word
-pub small : (d : Done) (r : Reply) → d ≡ doneOf r → Told r → doneBy d .value < 4294967296
+pub small : (d : Done) (r : Reply) → d ≡ doneOf r → Emitted r → doneBy d .value < 4294967296
 small d r e t =
     let s : doneBy d .value ≡ r .value = ap (λ (x : Done). doneBy x .value) e ∙ ap (λ (x : Numbers). x .value) (t .says) in
     omega (arith, t .counts, t .few)
