@@ -29,7 +29,7 @@ use Rattle.step_events.specs.Through.{Covered, covered-through, adds-start, add
 use Rattle.step_events.specs.declared.Done.{Done}
 use Rattle.step_events.specs.declared.Done.the-variants.{Rows}
 use Rattle.step_kernel_add.specs.Add.{kernelAdd4-covered}
-use Rattle.step_new_address.specs.Sound.{AddsFrom, Leaves, adds-sound, through-leaves, kernelAdd4-leaves}
+use Rattle.step_new_address.specs.Adding.{AddsFrom, Leaves, adds-sound, through-leaves, kernelAdd4-leaves}
 use Rattle.step_new_address.specs.Install.{block-rows, block-ready}
 use Rattle.step_add_v4.specs.Added.{loopback-keeps}
 
@@ -57,7 +57,7 @@ iteration-fit l a h = candidates-fit l true a ((fields-address a h) .short)
 turns-keep : (l m : List Row) → all fitAddress m ≡ true → Keeps (through (iteration l) m)
 turns-keep l m h = through-keeps (iteration l) fitAddress m (λ a f. install-keeps (candidates l true a) (iteration-fit l a f)) h
 
--- ---- address i's routes, as candidates writes them and bring takes them
+-- ---- address i's routes, as candidates writes them and install takes them
 module _ {w : List ℕ} (i : ℕ) (b : i < addressCount w) (st : State) (h : Represents w st) (p : List ℕ) (l : p ≡ addressPart w)
     (k : ℕ) (o x : List ℕ) (c : (k ≡ length (candidates (st .addresses) true (part 20 p i))) × (x ≡ put 0 (flat (candidates (st .addresses) true (part 20 p i))) o)) where
   e : part 20 p i ≡ getD (st .addresses) i []

@@ -16,7 +16,7 @@ ghost use Rattle.definition.specs.Words.{fitState, addressCount};
 ghost use Rattle.definition.specs.Reference.Addresses.{addV4, up};
 ghost use Rattle.state.specs.Represents.{Represents, RepresentsFit};
 ghost use Rattle.step_events.specs.Comes.{Comes, rowsOf};
-ghost use Rattle.step_new_address.specs.Sound.{AddsFrom};
+ghost use Rattle.step_new_address.specs.Adding.{AddsFrom};
 ghost use Rattle.step_add_v4.specs.Added.{stepOf};
 ghost use Rattle.step_add_v4.specs.Every.{every, turnAt};
 ghost use Rattle.definition.specs.Step.{eventRoom};

@@ -26,7 +26,7 @@ use Rattle.definition.specs.Words.{within, addressCount, routeCount, tableCount
 use Rattle.definition.specs.Reference.Lookup.{broadcastKind}
 use Rattle.definition.specs.Reference.Insert as Insert
 use Rattle.definition.specs.Reference.Insert.{addTable, listTable, create4, insert4, inserted, kernelAdd4, kernelDel4}
-use Rattle.definition.specs.Reference.Addresses.{Outcome, refused, outOf, only, kernelRoute, localRoute, prefixRoute, upRoutes, candidates, primaryOf, install, place4, newAddress, changedTo, reroutes, moved, changeV4, addedOver, addV4, sameAddress, loopback, up, namesBroadcast, ownNetwork}
+use Rattle.definition.specs.Reference.Addresses.{Outcome, outOf, only, kernelRoute, localRoute, prefixRoute, upRoutes, candidates, primaryOf, install, place4, newAddress, changedTo, reroutes, moved, changeV4, addedOver, addV4, sameAddress, loopback, up, namesBroadcast, ownNetwork}
 use Rattle.definition.specs.Preservation.Growing.{Grows, insert-grows, no-replacing, length-place4}
 use Rattle.definition.specs.Preservation.Peaks.{kernelAdd4-rises, newAddress-rises, up-rises, rises-within, kernelDel4-under}
 use Rattle.definition.specs.Preservation.Step.{covered}

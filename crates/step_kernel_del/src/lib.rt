@@ -1,4 +1,4 @@
-// The route that a deletion names, taken out and emitted at the start of what is lent of the events.
+// The route that a deletion names, taken out, with its event at the start of what is lent of the events.
 use layout::ROUTE_WORDS;
 use layout::ROUTES_AT;
 use layout::route;

@@ -33,7 +33,7 @@ use Rattle.step_events.specs.Emits.{Emits, does-one, rest}
 use Rattle.step_events.specs.Comes.{Comes, NoRows, holds-within, goes-made, adds-none, adds-also, adds-stop, comes-rows}
 use Rattle.step_events.specs.declared.Done.{Done}
 use Rattle.step_events.specs.declared.Done.the-variants.{Rows}
-use Rattle.step_new_address.specs.Sound.{AddsFrom, adds-holds, adds-sound, also-leaves, kernelAdd4-leaves}
+use Rattle.step_new_address.specs.Adding.{AddsFrom, adds-holds, adds-sound, also-leaves, kernelAdd4-leaves}
 use Rattle.step_new_address.specs.New.{length-emitted}
 
 -- ---- the prefix route that an address gets, as it is written into a block of its size

@@ -26,7 +26,7 @@ use Rattle.step_events.specs.Through.{adds-start, adds-next, adds-other-end, ad
 use Rattle.step_events.specs.declared.Done.{Done}
 use Rattle.step_events.specs.declared.Done.the-variants.{Rows}
 use Rattle.step_kernel_add.specs.Add.{kernelAdd4-covered}
-use Rattle.step_new_address.specs.Sound.{AddsFrom, adds-holds, adds-sound}
+use Rattle.step_new_address.specs.Adding.{AddsFrom, adds-holds, adds-sound}
 
 -- ---- rows written from the start of a block on, as they are lent
 module _ (rows : List Row) (f : all fitRoute rows ≡ true) (k : ℕ) (e : k ≡ length rows) (o : List ℕ) {x : List ℕ} (h : x ≡ put 0 (flat rows) o) where

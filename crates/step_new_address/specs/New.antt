@@ -28,7 +28,7 @@ use Rattle.step_events.specs.Emits.{does-one, rest}
 use Rattle.step_events.specs.Comes.{Comes, joined, holds-within, goes-made, comes-full, full-no-rows, adds-also, adds-stop}
 use Rattle.step_events.specs.declared.Done.{Done}
 use Rattle.step_events.specs.declared.Done.the-variants.{Rows, Full}
-use Rattle.step_new_address.specs.Sound.{AddsFrom}
+use Rattle.step_new_address.specs.Adding.{AddsFrom}
 use Rattle.step_new_address.specs.Install.{block-rows, block-ready}
 
 pub length-emitted : (a : Row) → length a ≡ 20 → length (newAddr4 a) ≡ 34
@@ -69,7 +69,7 @@ module _ (new : Row) (up : Bool) (st : State) where
     pub placed-count : addressCount w ≡ length (st .addresses) + 1
     placed-count = count-addresses placed-holds ∙ omega (arith, length-place4 new (st .addresses))
 
-    -- what candidates wrote is what bring takes
+    -- what candidates wrote is what install takes
     module _ (fit : fitAddress new ≡ true) (k : ℕ) (o x : List ℕ) (c : (k ≡ length (candidates (place4 new (st .addresses)) up new)) × (x ≡ put 0 (flat (candidates (place4 new (st .addresses)) up new)) o)) where
       routes-fit : all fitRoute (candidates (place4 new (st .addresses)) up new) ≡ true
       routes-fit = candidates-fit (place4 new (st .addresses)) up new ((fields-address new fit) .short)

@@ -23,7 +23,7 @@ ghost use Rattle.definition.specs.Words.{fitState, addressCount};
 ghost use Rattle.definition.specs.Reference.Addresses.{goes, install, newAddress, moved, changeV4, sameAddress};
 ghost use Rattle.state.specs.Represents.{Represents, RepresentsFit};
 ghost use Rattle.step_events.specs.Comes.{Comes, rowsOf, joined};
-ghost use Rattle.step_new_address.specs.Sound.{AddsFrom};
+ghost use Rattle.step_new_address.specs.Adding.{AddsFrom};
 
 // The answer of one step after another that emitted k rows.
 pub fn joined(k: usize, came: Done) -> Done

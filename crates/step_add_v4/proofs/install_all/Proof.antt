@@ -3,7 +3,7 @@ use mathlib.Core.Path.{_≡_, refl, sym, _∙_}
 use native.Mathlib.Omega.{arith}
 use lib.ListN.{length}
 use Rattle.state.specs.Represents.{sound-long}
-use Rattle.step_new_address.specs.Sound.{rest-room, rows-are}
+use Rattle.step_new_address.specs.Adding.{rest-room, rows-are}
 use Rattle.step_add_v4.specs.Every.{LoopInvariant, sofar-start, sofar-sound, sofar-few, sofar-length, sofar-count, sofar-next, sofar-other, sofar-end}
 use Rattle.step_events.specs.Comes.{not-first}
 use borrow.Author.Needs.{needs}

@@ -2,7 +2,7 @@ use mathlib.Core.Path.{refl}
 use native.Mathlib.Omega.{arith}
 use Rattle.definition.specs.Reference.Addresses.{addV4, loopback}
 use Rattle.definition.specs.Preservation.Addresses.{loopback-fit}
-use Rattle.step_new_address.specs.Sound.{rest-room, rows-are, joined-few}
+use Rattle.step_new_address.specs.Adding.{rest-room, rows-are, joined-few}
 use Rattle.step_events.specs.Comes.{not-first}
 use Rattle.step_add_v4.specs.Added.{step-few, added-step}
 use Rattle.step_add_v4.specs.Every.{up-other, up-sound, up-length, up-done}

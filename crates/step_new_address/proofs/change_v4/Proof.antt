@@ -4,7 +4,7 @@ use native.Mathlib.Omega.{arith}
 use lib.ListN.{getD}
 use mathlib.Core.List.{[]}
 use Rattle.state.specs.Represents.{fit-some, sound-few, sound-long}
-use Rattle.step_new_address.specs.Sound.{rest-room, rows-are}
+use Rattle.step_new_address.specs.Adding.{rest-room, rows-are}
 use Rattle.step_new_address.specs.Change.{old-row, old-fit, old-long, row-room, changed-fit, change-other, change-sound, change-count, change-done}
 use Rattle.definition.specs.Preservation.Fit.{length-address}
 use Rattle.step_events.specs.Comes.{not-first}

@@ -1,7 +1,7 @@
 use lib.Dec.{lit<}
 use Rattle.lists.specs.Pass.{part-fit}
 use Rattle.state.specs.Represents.{sound-long}
-use Rattle.step_new_address.specs.Sound.{rest-room, rows-are}
+use Rattle.step_new_address.specs.Adding.{rest-room, rows-are}
 use Rattle.step_events.specs.Comes.{not-first}
 use Prim.Native.Nat.{_-_, _≤_}
 use mathlib.Core.Path.{_≡_, refl, sym, _∙_}

@@ -1,6 +1,6 @@
 use native.Mathlib.Omega.{arith}
 use Rattle.step_events.specs.Comes.{not-first, joined-other}
-use Rattle.step_new_address.specs.Sound.{joined-room, joined-rows}
+use Rattle.step_new_address.specs.Adding.{joined-room, joined-rows}
 use borrow.Author.Needs.{needs}
 use Rattle.step_new_address.proofs.joined.Statement.{statement}
 use Rattle.step_new_address.proofs.joined.Tie as tie

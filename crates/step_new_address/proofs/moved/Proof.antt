@@ -5,7 +5,7 @@ use Rattle.step_events.specs.Comes.{not-first}
 use lib.ListN.{getD}
 use Rattle.row_subnet.specs.Laws.{fit-short}
 use Rattle.state.specs.Represents.{fit-some}
-use Rattle.step_new_address.specs.Sound.{rest-room, rows-are}
+use Rattle.step_new_address.specs.Adding.{rest-room, rows-are}
 use Rattle.step_new_address.specs.Change.{moved-none, moved-other, moved-both, route-row, row-fits, row-wide}
 use borrow.Author.Needs.{needs}
 use Rattle.step_new_address.proofs.moved.Statement.{statement}

@@ -4,7 +4,7 @@ use Rattle.state_read.specs.Parts.{ready-addresses, of-addresses}
 use Rattle.definition.specs.Preservation.Fit.{length-address}
 use Prim.Native.Nat.{_+_, _*_}
 use Rattle.row_subnet.specs.Laws.{fit-short}
-use Rattle.step_new_address.specs.Sound.{rest-room, joined-few}
+use Rattle.step_new_address.specs.Adding.{rest-room, joined-few}
 use Rattle.step_new_address.specs.New.{placed, emitted-length, new-full, placed-fit, placed-holds, placed-count, new-ready, new-done}
 use borrow.Author.Needs.{needs}
 use Rattle.step_new_address.proofs.new_address.Statement.{statement}
