@@ -110,7 +110,7 @@ pub fn remaining(l: LeftReply) -> Reply
     }
 }
 
-// A changing call tells of at most 384 events.
+// A changing call emits at most 384 events.
 pub fn done(d: Done) -> Reply
     requires { ⌜ doneBy d .value < 4294967296 ⌝ }
     ensures { λ r. ⌜ r ≡ replyFrom (doneBy d) ⌝ }

@@ -15,9 +15,9 @@ use Rattle.endian.specs.Endian.{wordsOf, bytesOf}
 use Rattle.endian.specs.Laws.{Below, length-wordsOf, bytes-none}
 use Rattle.definition.specs.Call.{Call, Reply, Numbers, numbers, refusal}
 use Rattle.definition.specs.Step.{Buffer, alters, semantics, step}
+use Rattle.definition.specs.Preservation.Shape.{Shaped}
 use Rattle.definition.specs.Noninterference.Public as Words
-use Rattle.definition.specs.Noninterference.Public.{Lent, width, many}
-use Rattle.definition.specs.Noninterference.ReadBack.{Shaped, roomOf}
+use Rattle.definition.specs.Noninterference.Public.{Lent, roomOf, width, many}
 use Rattle.definition_bytes.specs.Bytes.{onBytes, stateOn, suffices, inner, Made}
 
 -- ---- the rows that a call writes: how many words, and that they are of 32 bits
