@@ -29,9 +29,10 @@ refused-requires c κs = search needs
 returns : tie.Need-returns
 returns c =
     let a = c .before .before .before .before .args in
-    let room = c .before .if1 .taken in
-    (c .refused .ensures ∙ ap replyOf (sym (unread (length (a .request .now)) (a .up) (a .message .now) room)),
-    unread-rows (length (a .request .now)) (a .up) (a .message .now) room (a .request .now))
+    let room = c .before .if1 .taken in (
+      c .refused .ensures ∙ ap replyOf (sym (unread (length (a .request .now)) (a .up) (a .message .now) room)),
+      unread-rows (length (a .request .now)) (a .up) (a .message .now) room (a .request .now),
+    )
 
 slice-aggregate-interface4w-read : tie.Need-slice-aggregate-interface4w-read
 slice-aggregate-interface4w-read c = search needs
@@ -58,10 +59,11 @@ returns-2 c =
     let a = start at-test .args in
     let room : 4 * delRoute4Size ≤ length (a .request .now) = omega (arith, at-test .if1 .left) in
     let on-words-reply = ap replyOf (sym (on-words (length (a .request .now)) (a .up) (a .message .now) room)) in
-    let read = at-call .interface4w-read .ensures in
-    (read .0 ∙ on-words-reply,
-    on-words-rows (length (a .request .now)) (a .up) (a .message .now) room _ _ (a .request .now) _ _ (ap (λ (r : Reply). r .second) (read .0)) (read .1)
-    (at-rows .give-rows .ensures .0))
+    let read = at-call .interface4w-read .ensures in (
+      read .0 ∙ on-words-reply,
+      on-words-rows (length (a .request .now)) (a .up) (a .message .now) room _ _ (a .request .now) _ _ (ap (λ (r : Reply). r .second) (read .0)) (read .1)
+          (at-rows .give-rows .ensures .0),
+    )
 
 pub interface4-read-spec : {M : Type 1} → statement M
 interface4-read-spec =
