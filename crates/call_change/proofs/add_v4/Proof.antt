@@ -10,10 +10,9 @@ use Rattle.definition.specs.Step.{addV4Refusal, eventsFit, semantics, addV4Call
 use Rattle.definition.specs.Reference.Addresses.{addV4}
 use Rattle.definition.specs.Preservation.Change.{addV4-refusal-passed}
 use Rattle.definition.specs.Preservation.Numbers.{addV4-number}
-use Rattle.definition.specs.Laws.Refusals.{addV4-leaves}
 use Rattle.call_read.specs.Laws.{passed, lent}
 use Rattle.call_change.specs.Laws.{request-checked, sizes, sound, answers-refused, answers-passed}
-use Rattle.call_change.specs.Steps.{added-answers}
+use Rattle.call_change.specs.Steps.{whole-answers}
 use borrow.Author.Needs.{needs}
 use Rattle.call_change.proofs.add_v4.Statement.{statement}
 use Rattle.call_change.proofs.add_v4.Tie as tie
@@ -103,8 +102,8 @@ returns-2 c =
     let n-is = request-checked addV4Size q (eventsFit (length ev)) (addV4Refusal q) w (at-check .checked .ensures) (at-fit .fit-add-v4 .ensures) in
     let p = passed (call .checks) w n-is (at-step .before .before .before .if1 .left) in
     answers-passed call w p
-    (added-answers w (addV4 q (a .clock) (stateOf w)) (at-step .add-v4 .result) p (addV4-number q (a .clock) (stateOf w)) (addV4-leaves q (a .clock) (stateOf w))
-    (at-step .add-v4 .ensures .1 .1 (stateOf w) (p .holds) (p .good .fits)) (at-step .add-v4 .ensures .1 .0) (c .of-done .ensures))
+    (whole-answers p (addV4 q (a .clock) (stateOf w)) (addV4-number q (a .clock) (stateOf w))
+    (at-step .add-v4 .ensures .1 (stateOf w) (p .holds) (p .good .fits)) (c .of-done .ensures))
 
 pub add-v4-spec : {M : Type 1} → statement M
 add-v4-spec =
