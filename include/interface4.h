@@ -89,7 +89,8 @@ extern "C" {
  * Requests, in words. An absent value has 0 in its word; where both stand
  * beside each other, the presence word is 0 or 1.
  *
- * add_v4: the first 14 of an address row, valid, preferred, replace, up.
+ * add_v4: the first 14 of an address row, valid (not 0), preferred (at most
+ *   valid), replace, up.
  * del_v4: local present, local, address present, address, prefix, label
  *   present, label length, label (4).
  * add_route4: the first 12 of a route row (any kind), oif, flags, request,
@@ -128,7 +129,7 @@ extern "C" {
 #define INTERFACE4_RTM_DELROUTE 25
 
 /* The last of document 02's papers that this header knows: see interface4_sizes. */
-#define INTERFACE4_PAPER 1
+#define INTERFACE4_PAPER 2
 
 /* A lifetime that never ends. */
 #define INTERFACE4_FOREVER UINT32_MAX
@@ -143,7 +144,8 @@ extern "C" {
 #define INTERFACE4_PROHIBITED 13           /* a route prohibits it */
 #define INTERFACE4_THERE_ALREADY 17        /* the address or the route */
 #define INTERFACE4_WRONG_DEVICE 19         /* not the loopback */
-#define INTERFACE4_INVALID 22              /* a bad request; a blackhole */
+/* a bad request for a route; valid 0 or preferred above it; a blackhole */
+#define INTERFACE4_INVALID 22
 #define INTERFACE4_NOT_SUPPORTED 95        /* a kind of route */
 #define INTERFACE4_NO_SUCH_ADDRESS 99
 #define INTERFACE4_DOWN 100                /* the device */

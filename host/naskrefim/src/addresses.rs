@@ -120,8 +120,23 @@ impl Addresses {
     /// there if `replace`. `new.life` isn't looked at.
     ///
     /// # Errors
-    /// [`Refused::THERE_ALREADY`]; [`Refused::UNFIT_REQUEST`] for a prefix
-    /// over 32 or a label over 15; [`Refused::NO_SPACE`].
+    /// [`Refused::UNFIT_REQUEST`] for a prefix over 32 or a label over 15;
+    /// [`Refused::INVALID`] for lifetimes that Linux turns down, valid 0 or
+    /// preferred above valid, whether the address is there or not;
+    /// [`Refused::NO_SPACE`]; [`Refused::THERE_ALREADY`].
+    ///
+    /// ```
+    /// use core::net::Ipv4Addr;
+    /// use naskrefim::{Addresses, Lifetimes, Refused, SCOPE_UNIVERSE, V4};
+    /// let mut lo = Addresses::new();
+    /// let own = Ipv4Addr::new(10, 1, 0, 5);
+    /// let new = V4::new(own, own, 24, SCOPE_UNIVERSE);
+    /// let lifetimes = Lifetimes { valid: 10, preferred: 20 };
+    /// let told = lo.add_v4(new.clone(), lifetimes, false, false, 0);
+    /// assert_eq!(told, Err(Refused::INVALID));
+    /// let lifetimes = Lifetimes { valid: 10, preferred: 10 };
+    /// assert!(lo.add_v4(new, lifetimes, false, false, 0).is_ok());
+    /// ```
     pub fn add_v4(
         &mut self,
         new: V4,

@@ -45,8 +45,9 @@ numbers! {
     THERE_ALREADY = 17, "an address or a route that is there already";
     /// ENODEV: the device isn't the loopback.
     WRONG_DEVICE = 19, "wrong device";
-    /// EINVAL: a bad route request; or a blackhole that a lookup meets.
-    INVALID = 22, "a bad route request, or a blackhole";
+    /// EINVAL: a bad route request; lifetimes that Linux turns down; or a
+    /// blackhole that a lookup meets.
+    INVALID = 22, "a bad route request, bad lifetimes, or a blackhole";
     /// EOPNOTSUPP: a kind of route that isn't supported.
     NOT_SUPPORTED = 95, "a kind of route that is not supported";
     /// EADDRNOTAVAIL: a deletion finds no such address.

@@ -78,7 +78,7 @@ fn sayable(call: &Call, state: usize, buffer: usize) -> bool {
         _ => call.request_whole(),
     };
     let state = state == STATE_WORDS || matches!(call, Call::Left { .. });
-    row && state && buffer >= call.buffer().least() && fit::request(call).is_some()
+    row && state && buffer >= call.buffer().least() && fit::fits(call)
 }
 
 /// Whether the rows and tables that `lo` shows are those of `state`.

@@ -2,7 +2,7 @@
 -- Assumes nothing.
 use Prim.Native.Nat.{ℕ}
 use mathlib.Core.Path.{_≡_, refl}
-use mathlib.Core.Bool.{Bool, true, false, _&&_}
+use mathlib.Core.Bool.{Bool, true, false, cond, _&&_}
 use mathlib.Core.Logic.{_≢_}
 use mathlib.Core.Option.{Option, none, some}
 use native.Mathlib.Omega.{arith}
@@ -14,7 +14,7 @@ use Rattle.lists.specs.Bools.{and-left, and-right}
 use Rattle.life.specs.Life.{allowance}
 use Rattle.layout.specs.Address.{optional}
 use Rattle.layout.specs.Route.{fitRoute}
-use Rattle.layout.specs.Request.{addRoute4Size, fitAddV4, fitDelV4, fitAddRoute4, fitDelRoute4}
+use Rattle.layout.specs.Request.{addRoute4Size, fitAddV4, validLifetimes, fitDelV4, fitAddRoute4, fitDelRoute4}
 use Rattle.definition.specs.State.{State, Out}
 use Rattle.definition.specs.Call.{Call, Reply, refusal, valued, written, optionally, foundRow}
 use Rattle.definition.specs.Reference.Lookup.{Flow, Found, lookup4, lookup4Flow, flowTo, lookupIn}
@@ -23,7 +23,7 @@ use Rattle.definition.specs.Reference.Addresses.{Outcome, up, down}
 use Rattle.definition.specs.Reference.Removal.{expire}
 use Rattle.definition.specs.Reference.Insert.{create4, Insertion, insert4}
 use Rattle.definition.specs.Reference.Routes.{tableNamed, addedBy}
-use Rattle.definition.specs.Step.{Checks, Action, changes, replies, lists, Buffer, unlent, forEvents, forListing, forRow, Semantics, going, query, finding, unless, eventsFit, requestIs, clockLimit, semantics, routed}
+use Rattle.definition.specs.Step.{Checks, Action, changes, replies, lists, Buffer, unlent, forEvents, forListing, forRow, Semantics, going, query, finding, unless, invalid, addV4Refusal, eventsFit, requestIs, clockLimit, semantics, routed}
 use Rattle.definition.specs.Preservation.Fit.{Invariant, fit-state}
 use Rattle.definition.specs.Preservation.Routes.{insert-fit}
 use Rattle.definition.specs.Preservation.Encode.{Admissible}
@@ -100,6 +100,22 @@ unless-202 false e = omega arith
 pub unless-passed : (b : Bool) → unless b 202 ≡ 0 → b ≡ true
 unless-passed true e = refl
 unless-passed false e = absurd (omega arith)
+
+-- of a request for an address
+pub addV4-refusal-203 : (q : Row) → addV4Refusal q ≢ 203
+addV4-refusal-203 q = go (fitAddV4 q) (validLifetimes q)
+  where
+    go : (fits lasts : Bool) → cond fits (unless lasts invalid) 202 ≢ 203
+    go true true e = omega arith
+    go true false e = omega arith
+    go false lasts e = omega arith
+
+pub addV4-refusal-passed : (q : Row) → addV4Refusal q ≡ 0 → fitAddV4 q ≡ true
+addV4-refusal-passed q = go (fitAddV4 q) (unless (validLifetimes q) invalid)
+  where
+    go : (fits : Bool) (n : ℕ) → cond fits n 202 ≡ 0 → fits ≡ true
+    go true n e = refl
+    go false n e = absurd (omega arith)
 
 -- the request has its words
 sized-request : (n events : ℕ) (q : Row) → requestIs n q && eventsFit events ≡ true → length q ≡ n
@@ -181,12 +197,12 @@ lawful (Call.up events now) = going-lawful events 0 (up now) none-asked (up-keep
 lawful (Call.down events) = going-lawful events 0 down none-asked down-keeps (λ st g. down-eventBound st g)
 lawful (Call.addV4 q events now) =
     record {
-      request = unless-202 (fitAddV4 q);
+      request = addV4-refusal-203 q;
       acts =
           record {
             sound = λ st g p.
                 let long = sized-request 18 events q (p .room) in
-                let fitted = unless-passed (fitAddV4 q) (p .fit) in
+                let fitted = addV4-refusal-passed q (p .fit) in
                 record {
                   kept = addV4-keeps q now long fitted .kept st (fit st g);
                   eventBound = addV4-eventBound st g q now long fitted;
