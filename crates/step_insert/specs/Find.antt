@@ -3,17 +3,17 @@
 use Prim.Native.Nat.{ℕ, _+_, _*_, _≤_, _<_}
 use native.Mathlib.Nat.{add-zero}
 use native.Mathlib.Omega.{arith}
-use mathlib.Core.Path.{_≡_, refl, sym, ap, _∙_}
+use mathlib.Core.Path.{_≡_, refl, sym, ap}
 use mathlib.Core.Bool as Core
 use mathlib.Core.Bool.{Bool, true, false, not, _&&_, _||_}
 use mathlib.Core.List.{List, []}
 use lib.Dec.{eqb, ltb, lit<}
 use lib.ListN.{length, getD, drop, drop-of-length-le}
 use borrow.Author.Tests.{ltb-true, ltb-false, lt-ltb, le-ltb, eqb-true, eq-eqb, ne-eqb}
-use Rattle.lists.specs.Lists.{Row, eqRow}
+use Rattle.lists.specs.Lists.{Row}
 use Rattle.lists.specs.Bools.{test-case, fails, or-case, or-false, and-left, and-right, and-rest, false-not, true-false}
 use Rattle.lists.specs.All.{eqRow-true}
-use Rattle.lists.specs.Count.{tick, tick-one}
+use Rattle.lists.specs.Count.{tick}
 use Rattle.lists.specs.Place.{place-here, place-past}
 use Rattle.lists.specs.Laid.{Laid}
 use Rattle.lists.specs.Pass.{part, laid-rows}
@@ -44,7 +44,9 @@ module _ (new : Row) where
       unfolding before
       by-table h = (
         rw (le-ltb (dst r) (dst new) (omega arith), eq-eqb (dst r) (dst new) d, le-ltb (len new) (len r) (omega arith), eq-eqb (len r) (len new) h)
-            (test-case (eqb (table r) (table new)) (λ e. rw e (sym (Core.or-false (ltb (table new) (table r))))) (λ e. rw e (sym (Core.or-false (ltb (table new) (table r)))))),
+            (test-case (eqb (table r) (table new))
+            (λ e. rw e (sym (Core.or-false (ltb (table new) (table r)))))
+            (λ e. rw e (sym (Core.or-false (ltb (table new) (table r)))))),
         rw (eq-eqb (dst new) (dst r) (sym d), eq-eqb (len new) (len r) (sym h)) (sym (Core.and-true (eqb (table new) (table r)))),
       )
 
@@ -95,7 +97,8 @@ module _ (new : Row) where
       find-more on =
           or-case (inRun new r) (inFront new r && eqb start i) on
           (λ e. rw (run-not-front r e, add-zero) (in-run e))
-          (λ e. rw (and-left (inFront new r) (eqb start i) e) (in-front (and-left (inFront new r) (eqb start i) e) (eqb-true start i (and-right (inFront new r) (eqb start i) e))))
+          (λ e. let f = and-left (inFront new r) (eqb start i) e in
+              rw f (in-front f (eqb-true start i (and-right (inFront new r) (eqb start i) e))))
         where
           in-run : inRun new r ≡ true → Sofar l (i + 1) start
           in-run e =
@@ -123,7 +126,8 @@ module _ (new : Row) where
           (starts, ends, rw (← ends, lt-ltb i (length l) h) refl)
         where
           not-front : (inRun new r ≡ false) × (inFront new r && eqb start i ≡ false) → start ≡ i → inFront new r ≡ false
-          not-front neither e = fails (inFront new r) (λ f. true-false (eqb start i) (eq-eqb start i e) (and-rest (inFront new r) (eqb start i) f (neither .1)))
+          not-front neither e =
+              fails (inFront new r) (λ f. true-false (eqb start i) (eq-eqb start i e) (and-rest (inFront new r) (eqb start i) f (neither .1)))
 
     pub find-end : i ≡ length l → Found l start i i
     unfolding rowsRead

@@ -8,10 +8,10 @@ use mathlib.Core.List.{List, [], _∷_, _++_}
 use lib.Dec.{eqb, ltb, lit<}
 use lib.ListN.{length, getD, take, drop, take-append-drop, length-drop, drop-of-length-le}
 use lib.Seq.{drop-cons, take-at, drop-at, length-take-le, getD-take, getD-drop}
-use borrow.Author.Tests.{ltb-true, ltb-false, not-true, eq-eqb}
+use borrow.Author.Tests.{ltb-true, ltb-false, not-true}
 use Rattle.lists.specs.Lists.{Row, all, any, eqRow, pairwise, flat}
-use Rattle.lists.specs.Bools.{test-case, fails, true-false, not-so, not-both, and-iff, false-not}
-use Rattle.lists.specs.All.{all-mono, all-cons, all-head, pairwise-head, pairwise-tail, pairwise-cons, eqRow-true, eq-eqRow, eqRow-refl}
+use Rattle.lists.specs.Bools.{test-case, true-false, not-so, not-both, and-iff, false-not}
+use Rattle.lists.specs.All.{all-mono, all-cons, pairwise-head, pairwise-tail, pairwise-cons}
 use Rattle.lists.specs.At.{all-take, all-drop, all-at, flat-cut, length-flat-take}
 use Rattle.lists.specs.Count.{count, count-append, count-apart}
 use Rattle.lists.specs.Cut.{place-passes}
@@ -21,7 +21,7 @@ use Rattle.lists.specs.Laid.{Laid, Lays, laid-length}
 use Rattle.lists.specs.Pass.{part, laid-rows}
 use Rattle.layout.specs.Route.{before, alike, table, dst, len, fitRoute}
 use Rattle.definition.specs.Words.{ordered}
-use Rattle.definition.specs.Preservation.Order.{before-never, level-alike}
+use Rattle.definition.specs.Preservation.Order.{level-alike}
 use Rattle.definition.specs.Noninterference.Struck.{before-between}
 use Rattle.step_insert.specs.Search.{key, inFront, inRun, leading, runStart, runEnd}
 use Rattle.step_insert.specs.Pass.{part-row}
@@ -47,7 +47,9 @@ key-after : (new r : Row) → inFront new r ≡ false → inRun new r ≡ false 
 unfolding alike
 key-after new r h k =
     test-case (before (key new) (key r)) (λ e. key-before new r e)
-    (λ e. let m = simp and-iff at (level-alike (key new) (key r) e h) in let same : inRun new r ≡ true = simp and-iff (m .0 .0 .0 .0, (m .0 .0 .0 .1, (m .0 .0 .1, refl))) in absurd (true-false (inRun new r) same k))
+    (λ e. let m = simp and-iff at (level-alike (key new) (key r) e h) in
+        let same : inRun new r ≡ true = simp and-iff (m .0 .0 .0 .0, (m .0 .0 .0 .1, (m .0 .0 .1, refl))) in
+        absurd (true-false (inRun new r) same k))
 
 -- ---- lists
 -- those counted pass
@@ -126,7 +128,10 @@ module _ (new : Row) (l : List Row) (o : ordered l ≡ true) where
           ap (all (λ r. not (inFront new r))) d
           ∙ all-cons (λ r. not (inFront new r)) y rest first
           (all-mono (λ z. not (before z y)) (λ r. not (inFront new r)) rest
-          (λ z e. not-so (inFront new z) (λ f. test-case (before (key z) (key y)) (λ g. not-both (before z y) (key-before z y g) e) (λ g. not-both (inFront new y) (before-between (key z) (key y) (key new) f g) first)))
+          (λ z e. not-so (inFront new z)
+              (λ f. test-case (before (key z) (key y))
+                  (λ g. not-both (before z y) (key-before z y g) e)
+                  (λ g. not-both (inFront new y) (before-between (key z) (key y) (key new) f g) first)))
           later)
 
   all-behind : all (before new) (drop k onwards) ≡ true
@@ -146,7 +151,10 @@ module _ (new : Row) (l : List Row) (o : ordered l ≡ true) where
   own-rows = let so-many : s + k - s ≡ k = omega arith in ap (λ (n : ℕ). take n onwards) so-many
 
   cut : l ≡ take s l ++ (between s (runEnd new l) l ++ drop k onwards)
-  cut = sym (ap (λ (m : List Row). take s l ++ (m ++ drop k onwards)) own-rows ∙ ap (λ (m : List Row). take s l ++ m) (take-append-drop k onwards) ∙ take-append-drop s l)
+  cut =
+      sym (ap (λ (m : List Row). take s l ++ (m ++ drop k onwards)) own-rows
+      ∙ ap (λ (m : List Row). take s l ++ m) (take-append-drop k onwards)
+      ∙ take-append-drop s l)
 
   counted : (p : Row → Bool) → count p l ≡ count p (take s l) + (count p (between s (runEnd new l) l) + count p (drop k onwards))
   counted p =
@@ -160,16 +168,25 @@ module _ (new : Row) (l : List Row) (o : ordered l ≡ true) where
 
   whole-run : (start end : ℕ) (there : Bool) → Run new (between s (runEnd new l) l) start end there → Run new l (s + start) (s + end) there
   whole-run start end there r =
+      let not-after : all (λ x. not (before new x)) (take s l) ≡ true =
+          all-mono (λ x. before x new) (λ x. not (before new x)) (take s l) (λ x h. false-not (before new x) (before-not-after new x h)) all-front
+      in
+      let ahead = count-all (λ x. before x new) (take s l) all-front in
+      let apart = count-apart (before new) (λ x. before x new) (drop k onwards) (after-not-before new) all-behind in
+      let ahead-too = count-all (λ x. not (before new x)) (take s l) not-after in
+      let apart-too = count-apart (before new) (λ x. not (before new x)) (drop k onwards) (λ x h. ap not h) all-behind in
       let none-front : any (eqRow new) (take s l) ≡ false = any-apart (λ x. before x new) (eqRow new) (take s l) (before-not-equal new) all-front in
       let none-behind : any (eqRow new) (drop k onwards) ≡ false = any-apart (before new) (eqRow new) (drop k onwards) (after-not-equal new) all-behind in
       record {
-        begins = omega (arith, r .begins, counted (λ x. before x new), in-front, count-all (λ x. before x new) (take s l) all-front, count-apart (before new) (λ x. before x new) (drop k onwards) (after-not-before new) all-behind);
-        ends = omega (arith, r .ends, counted (λ x. not (before new x)), in-front, count-all (λ x. not (before new x)) (take s l) (all-mono (λ x. before x new) (λ x. not (before new x)) (take s l) (λ x h. false-not (before new x) (before-not-after new x h)) all-front), count-apart (before new) (λ x. not (before new x)) (drop k onwards) (λ x h. ap not h) all-behind);
+        begins = omega (arith, r .begins, counted (λ x. before x new), in-front, ahead, apart);
+        ends = omega (arith, r .ends, counted (λ x. not (before new x)), in-front, ahead-too, apart-too);
         is-there =
             r .is-there
             ∙ sym (ap (any (eqRow new)) cut
             ∙ any-joined (eqRow new) (take s l) (between s (runEnd new l) l ++ drop k onwards)
-            ∙ rw none-front (any-joined (eqRow new) (between s (runEnd new l) l) (drop k onwards) ∙ rw none-behind (or-false (any (eqRow new) (between s (runEnd new l) l)))));
+            ∙ rw none-front
+          (any-joined (eqRow new) (between s (runEnd new l) l) (drop k onwards)
+          ∙ rw none-behind (or-false (any (eqRow new) (between s (runEnd new l) l)))));
       }
 
 -- ---- over words: the run as it is lent
@@ -183,7 +200,8 @@ module _ (w : List ℕ) (n : ℕ) (long : length w ≡ 32 * n) (start end : ℕ)
   pub own-lays : Lays 32 fitRoute w → (length own ≡ 32 * (end - start)) × Lays 32 fitRoute own
   own-lays y =
       let l = y .list in
-      let rows : length (between start end l) ≡ end - start = length-take-le (end - start) (drop start l) (omega (arith, length-drop start l, laid-rows w n (lit< tt) long l (y .laid))) in
+      let enough : end - start ≤ length (drop start l) = omega (arith, length-drop start l, laid-rows w n (lit< tt) long l (y .laid)) in
+      let rows : length (between start end l) ≡ end - start = length-take-le (end - start) (drop start l) enough in
       (laid-length (own-laid l (y .laid)) ∙ ap (λ (m : ℕ). 32 * m) rows, record { list = between start end l; laid = own-laid l (y .laid) })
 
   pub own-row : (l : List Row) → Laid 32 fitRoute w l → (i : ℕ) → i < end - start → part 32 own i ≡ getD l (start + i) []

@@ -79,20 +79,20 @@ pub fn find_run(rows: &[u32], n: usize, new: &[u32]) -> FoundRun
     ensures { λ r. ⌜ (r .start ≤ r .end) × (r .end ≤ n) ⌝ }
 {
     let mut start = 0usize;
-    let mut i = 0usize;
-    while i < n {
-        let at = ROUTE_WORDS * i;
+    let mut end = 0usize;
+    while end < n {
+        let at = ROUTE_WORDS * end;
         let seen = see(&rows[at..at + ROUTE_WORDS], new);
-        let goes_on = seen.in_run | (seen.in_front & (start == i));
+        let goes_on = seen.in_run | (seen.in_front & (start == end));
         if !goes_on {
             return FoundRun {
                 start: start,
-                end: i,
-                read: i + 1,
+                end: end,
+                read: end + 1,
             };
         }
         start += one_if(seen.in_front);
-        i += 1;
+        end += 1;
     }
     FoundRun {
         start: start,
