@@ -1,21 +1,21 @@
 /*
- * IPv4 on a guest's loopback: addresses, routes, source choice. The functions
- * of libinterface4.a (`rt staticlib interface4`), for x86-64 Linux, to be
- * used from C99 or C++. Each is proved to do what document 01 says for any
- * lent words at all.
+ * IPv4 on a guest's loopback: addresses, routes, source choice, and requests
+ * as they come off an rtnetlink socket. The functions of libinterface4.a
+ * (`rt staticlib interface4`), for x86-64 Linux, to be used from C99 or C++.
+ * Each is proved to do what documents 01 and 02 say for any lent words at all.
  *
  * Each call is there twice: interface4w_* on words of 32 bits where they are,
  * and interface4_* on bytes, each word as four, the lowest first, which copies
  * them to words and back.
  *
  * What is lent. A slice is a pointer and a length in elements: words for
- * interface4w_*, bytes for interface4_*. The pointer is never NULL, not even
- * for a length of 0. Words stand at a multiple of 4; bytes anywhere. The
- * caller keeps all of it: nothing is kept past the call, freed or allocated.
- * Through a pointer to const nothing is written, and elsewhere nothing
- * outside the length. No two slices of one call may overlap, and nobody else
- * may write them meanwhile. These are the only demands: any length and any
- * words in them are answered, if need be with a refusal.
+ * interface4w_*, bytes for interface4_* (a message is bytes for both). The
+ * pointer is never NULL, not even for a length of 0. Words stand at a multiple
+ * of 4; bytes anywhere. The caller keeps all of it: nothing is kept past the
+ * call, freed or allocated. Through a pointer to const nothing is written, and
+ * elsewhere nothing outside the length. No two slices of one call may overlap,
+ * and nobody else may write them meanwhile. These are the only demands: any
+ * length and any words in them are answered, if need be with a refusal.
  *
  * Re-entrancy. A call is a function of what it is lent and writes nothing
  * else: no globals, no clock, no input or output. So calls on different
@@ -89,7 +89,8 @@ extern "C" {
  * Requests, in words. An absent value has 0 in its word; where both stand
  * beside each other, the presence word is 0 or 1.
  *
- * add_v4: the first 14 of an address row, valid, preferred, replace, up.
+ * add_v4: the first 14 of an address row, valid (not 0), preferred (at most
+ *   valid), replace, up.
  * del_v4: local present, local, address present, address, prefix, label
  *   present, label length, label (4).
  * add_route4: the first 12 of a route row (any kind), oif, flags, request,
@@ -115,20 +116,36 @@ extern "C" {
 #define INTERFACE4_ADD_ROUTE4_BYTES 136
 #define INTERFACE4_DEL_ROUTE4_BYTES 196
 
+/*
+ * Messages: the fewest words of a buffer for a request that is read, which
+ * fits each of the four; the types that are read, and the request of each:
+ * add_v4, del_v4, add_route4, del_route4.
+ */
+#define INTERFACE4_REQUEST_BUFFER_WORDS 49
+#define INTERFACE4_REQUEST_BUFFER_BYTES 196
+#define INTERFACE4_RTM_NEWADDR 20
+#define INTERFACE4_RTM_DELADDR 21
+#define INTERFACE4_RTM_NEWROUTE 24
+#define INTERFACE4_RTM_DELROUTE 25
+
+/* The last of document 02's papers that this header knows: see interface4_sizes. */
+#define INTERFACE4_PAPER 1
+
 /* A lifetime that never ends. */
 #define INTERFACE4_FOREVER UINT32_MAX
 
 /*
  * Why a call said no. Then no lent element has changed, but a refused
- * add_route4 may leave its table listed, unless the number is one of the
- * last four. Besides these, the metrics error that a request carries in.
+ * add_route4 may leave its table listed, unless the number is 200 to 203.
+ * Besides these, the metrics error that a request carries in.
  */
 #define INTERFACE4_NO_CREATE_FLAG 2        /* a new route, no create flag */
 #define INTERFACE4_NO_SUCH_ROUTE 3         /* or no such table */
 #define INTERFACE4_PROHIBITED 13           /* a route prohibits it */
 #define INTERFACE4_THERE_ALREADY 17        /* the address or the route */
 #define INTERFACE4_WRONG_DEVICE 19         /* not the loopback */
-#define INTERFACE4_INVALID 22              /* a bad request; a blackhole */
+/* a bad request for a route; valid 0 or preferred above it; a blackhole */
+#define INTERFACE4_INVALID 22
 #define INTERFACE4_NOT_SUPPORTED 95        /* a kind of route */
 #define INTERFACE4_NO_SUCH_ADDRESS 99
 #define INTERFACE4_DOWN 100                /* the device */
@@ -138,6 +155,9 @@ extern "C" {
 #define INTERFACE4_UNFIT_STATE 201         /* not well-formed; a row too */
 #define INTERFACE4_UNFIT_REQUEST 202       /* a field or clock out of range */
 #define INTERFACE4_NO_SPACE 203            /* a list would pass its limit */
+#define INTERFACE4_BAD_LENGTH 204          /* of a message, or in it */
+#define INTERFACE4_NOT_IPV4 205            /* a message of another type or family */
+#define INTERFACE4_BAD_ATTRIBUTE 206       /* of the wrong size; or no local address */
 
 /* What every call replies: number is 0, or a refusal and then the rest 0. */
 typedef struct interface4_reply {
@@ -168,6 +188,7 @@ typedef struct interface4_reply {
 #define INTERFACE4W_STACK_SELECT4 4096
 #define INTERFACE4W_STACK_LEFT 4096
 #define INTERFACE4W_STACK_CHECK 4096
+#define INTERFACE4W_STACK_READ 4096
 #define INTERFACE4_STACK_UP 184320
 #define INTERFACE4_STACK_DOWN 40960
 #define INTERFACE4_STACK_ADD_V4 135168
@@ -184,6 +205,8 @@ typedef struct interface4_reply {
 #define INTERFACE4_STACK_SELECT4 40960
 #define INTERFACE4_STACK_LEFT 4096
 #define INTERFACE4_STACK_CHECK 40960
+#define INTERFACE4_STACK_READ 4096
+#define INTERFACE4_STACK_SIZES 4096
 
 /*
  * Calls that change the state. `value` is the number of rows written from
@@ -273,6 +296,43 @@ interface4_reply interface4_left(const uint8_t *row, size_t row_len, uint64_t no
 /* Looks at a state and does nothing else: 200 for a wrong length, 201 for words that are not well-formed, else 0. */
 interface4_reply interface4w_check(const uint32_t *state, size_t state_len);
 interface4_reply interface4_check(const uint8_t *state, size_t state_len);
+
+/*
+ * Requests off a socket. No state.
+ */
+
+/*
+ * One rtnetlink message is read: netlink's header, ifaddrmsg or rtmsg, and
+ * attributes. `message` is lent for reading, bytes in both, anywhere; only
+ * those up to the length in its header are read, and a next message begins at
+ * that length, rounded up to four. The request is written from the start of
+ * `request`, at least INTERFACE4_REQUEST_BUFFER_WORDS; what is behind it keeps
+ * what it held. `up` becomes the last word of a request of type 20 or 24 (0 or
+ * 1, which add_v4 and add_route4 check); no message knows whether the device is
+ * up. `value` is the type, `second` the number of words written: lend so many
+ * to the call of that type.
+ *
+ * What has no field in a request is skipped. A host that wants to answer as
+ * Linux does looks at these itself: ifa_index (a message for another device
+ * reads as one for the loopback), NLM_F_REQUEST (not asked for), RTA_VIA and
+ * RTA_MULTIPATH (skipped); 0.0.0.0 as a broadcast address, gateway or preferred
+ * source is present here; an attribute longer than its field and a metric that
+ * is a name are refused here with 206.
+ *
+ * 200, then 204, 205, 206.
+ */
+interface4_reply interface4w_read(const uint8_t *message, size_t message_len, uint32_t *request, size_t request_len,
+                                  uint32_t up);
+interface4_reply interface4_read(const uint8_t *message, size_t message_len, uint8_t *request, size_t request_len,
+                                 uint32_t up);
+
+/*
+ * What the library means: `value` the words of a state, `second` the fewest
+ * rows of an event buffer, `present` the last paper that it has. A host asks
+ * once, and compares with INTERFACE4_STATE_WORDS, INTERFACE4_EVENTS and
+ * INTERFACE4_PAPER. Nothing is lent.
+ */
+interface4_reply interface4_sizes(void);
 
 #ifdef __cplusplus
 }

@@ -1,7 +1,7 @@
 /*
- * A loopback from C: up, an address, a lookup, refusals; every function of
- * the header on words, and every one on bytes. Each number is held against a
- * literal; the status is 1 if one differs.
+ * A loopback from C: up, an address, a lookup, a message off a socket,
+ * refusals; every function of the header on words, and every one on bytes.
+ * Each number is held against a literal; the status is 1 if one differs.
  */
 #include "interface4.h"
 
@@ -27,7 +27,20 @@ static uint32_t address[INTERFACE4_ADD_V4_WORDS];
 static uint32_t by_local[INTERFACE4_DEL_V4_WORDS];
 static uint32_t route[INTERFACE4_ADD_ROUTE4_WORDS];
 static uint32_t same_route[INTERFACE4_DEL_ROUTE4_WORDS];
+static uint32_t request[INTERFACE4_REQUEST_BUFFER_WORDS];
 static int failed;
+
+/* ip addr add 10.1.0.5/24 dev lo valid_lft 10 preferred_lft 5 */
+static const uint8_t message[] = {
+    /* length, type, flags, sequence, port */
+    60, 0, 0, 0, INTERFACE4_RTM_NEWADDR, 0, 0x05, 0x06, 0, 0, 0, 0, 0, 0, 0, 0,
+    /* family, prefix, flags, scope, index */
+    2, 24, 0, 0, 1, 0, 0, 0,
+    /* local, address */
+    8, 0, 2, 0, 10, 1, 0, 5, 8, 0, 1, 0, 10, 1, 0, 5,
+    /* cache information: preferred, valid, stamps */
+    20, 0, 6, 0, 5, 0, 0, 0, 10, 0, 0, 0, 0, 0, 0, 0, 0, 0, 0, 0,
+};
 
 static void is(const char *what, uint32_t found, uint32_t expected)
 {
@@ -105,6 +118,14 @@ static void found_route(void)
   is("its kind", row[5], 2);
 }
 
+/* What the message is read as: the request above, and nothing behind it. */
+static void same_request(void)
+{
+  is("the request", (uint32_t)memcmp(request, address, sizeof address), 0);
+  is("what is behind it", request[INTERFACE4_ADD_V4_WORDS], 0x5a5a5a5au);
+  memset(request, 0x5a, sizeof request);
+}
+
 static void on_words(void)
 {
   interface4_reply reply;
@@ -117,7 +138,11 @@ static void on_words(void)
   is("the second event", events[INTERFACE4_EVENT_WORDS], INTERFACE4_NEW_ROUTE4);
   is("its flags", events[INTERFACE4_EVENT_WORDS + 1], 0x600);
   told("up again", interface4w_up(W(state), W(events), 6), 0, 0, 0);
-  told("add_v4", interface4w_add_v4(W(state), W(address), W(events), 0), 0, 4, 0);
+  memset(request, 0x5a, sizeof request);
+  reply = interface4w_read(message, sizeof message, W(request), 1);
+  told("read", reply, 0, INTERFACE4_RTM_NEWADDR, INTERFACE4_ADD_V4_WORDS);
+  told("add_v4", interface4w_add_v4(W(state), request, reply.second, W(events), 0), 0, 4, 0);
+  same_request();
   two_addresses();
   told("left", interface4w_left(W(own), 3000000000u), 0, 2, 7);
 
@@ -141,6 +166,8 @@ static void on_words(void)
   refused("add_v4 again", reply, 17);
   printf("10.1.0.5/24 again: refused %" PRIu32 "\n", reply.number);
   refused("lookup4 of what has no route", interface4w_lookup4(W(state), W(row), FAR), 101);
+  refused("a message cut short", interface4w_read(message, sizeof message - 1, W(request), 1), 204);
+  refused("48 words for a request", interface4w_read(message, sizeof message, request, 48, 1), 200);
   refused("a short event buffer", interface4w_up(W(state), events, INTERFACE4_EVENT_BUFFER_WORDS - 1, 8), 200);
   address[2] = 33;
   refused("prefix 33", interface4w_add_v4(W(state), W(address), W(events), 8), 202);
@@ -165,6 +192,8 @@ static void on_bytes(void)
   memset(state, 0, sizeof state);
   told("check, on bytes", interface4_check(B(state)), 0, 0, 0);
   told("up, on bytes", interface4_up(B(state), B(events), 5), 0, 4, 0);
+  told("read, on bytes", interface4_read(message, sizeof message, B(request), 1), 0, 20, 18);
+  same_request();
   told("add_v4, on bytes", interface4_add_v4(B(state), B(address), B(events), 0), 0, 4, 0);
   two_addresses();
   told("left, on bytes", interface4_left(B(own), 3000000000u), 0, 2, 7);
@@ -191,6 +220,7 @@ static void on_bytes(void)
 
 int main(void)
 {
+  told("sizes", interface4_sizes(), INTERFACE4_PAPER, INTERFACE4_STATE_WORDS, INTERFACE4_EVENTS);
   requests();
   on_words();
   on_bytes();

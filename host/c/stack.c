@@ -22,6 +22,9 @@
 /* What a call is made with. */
 static uint32_t state[S], events[E], listing[L], row[32], own[20];
 static uint32_t add_v4[18], del_v4[11], add_route4[34], del_route4[49];
+/* A message, and where it is read to. */
+static uint8_t message[176];
+static uint32_t request[INTERFACE4_REQUEST_BUFFER_WORDS];
 static uint64_t now;
 static uint32_t ip;
 static interface4_reply reply;
@@ -46,7 +49,8 @@ static interface4_reply reply;
   CALL(source, (P(state), ip))                                  \
   CALL(select4, (P(state), 1, ip, 253))                         \
   CALL(left, (P(own), now))                                     \
-  CALL(check, (P(state)))
+  CALL(check, (P(state)))                                       \
+  CALL(read, (message, sizeof message, P(request), 1))
 
 #define P W
 #define ON_WORDS(name, arguments) static void words_##name(void) { reply = interface4w_##name arguments; }
@@ -56,6 +60,7 @@ EACH(ON_WORDS)
 #define ON_BYTES(name, arguments) static void bytes_##name(void) { reply = interface4_##name arguments; }
 EACH(ON_BYTES)
 #undef P
+static void bytes_sizes(void) { reply = interface4_sizes(); }
 
 struct function {
   const char *name;
@@ -64,7 +69,7 @@ struct function {
 };
 #define WORDS_ROW(name, arguments) {"interface4w_" #name, words_##name, 0},
 #define BYTES_ROW(name, arguments) {"interface4_" #name, bytes_##name, 0},
-static struct function functions[] = {EACH(WORDS_ROW) EACH(BYTES_ROW)};
+static struct function functions[] = {EACH(WORDS_ROW) EACH(BYTES_ROW) BYTES_ROW(sizes, ())};
 #define FUNCTIONS (sizeof functions / sizeof functions[0])
 
 static unsigned char stack[STACK];
@@ -196,6 +201,34 @@ static void gateways(void)
   measure();
 }
 
+static size_t attribute(size_t at, unsigned code, unsigned size)
+{
+  message[at] = (uint8_t)(4 + size);
+  message[at + 2] = (uint8_t)code;
+  memset(message + at + 4, 'x', size);
+  return at + 4 + size;
+}
+
+/* A message of this type with its longest attributes: a label, or every metric; its length is that of `message`. */
+static void carries(unsigned type)
+{
+  size_t at = type < INTERFACE4_RTM_NEWROUTE ? 24 : 28;
+  unsigned metric;
+  memset(message, 0, sizeof message);
+  message[0] = sizeof message;
+  message[4] = (uint8_t)type;
+  message[16] = 2;
+  at = attribute(at, type < INTERFACE4_RTM_NEWROUTE ? 2 : 1, 4);
+  if (type < INTERFACE4_RTM_NEWROUTE) {
+    at = attribute(at, 3, 12);
+    attribute(at, 99, (unsigned)(sizeof message - at - 4));
+    return;
+  }
+  attribute(at, 8, (unsigned)(sizeof message - at - 4));
+  for (at += 4, metric = 1; metric <= 17; metric++)
+    at = attribute(at, metric, 4);
+}
+
 static void clear(int up)
 {
   memset(state, 0, sizeof state);
@@ -214,12 +247,18 @@ int main(void)
   del_by_local(0x7f000001u);
   for (i = 0; i < 2; i++) {
     clear((int)i);
+    carries(i ? INTERFACE4_RTM_DELADDR : INTERFACE4_RTM_NEWADDR);
+    words_read();
+    must("read");
     address(0x0c000001u, 24, 10);
     route(254, 0x0e000000u, 0);
     requests();
     measure();
   }
   for (i = 0; i < 2; i++) {
+    carries(i ? INTERFACE4_RTM_DELROUTE : INTERFACE4_RTM_NEWROUTE);
+    words_read();
+    must("read");
     /* one subnet: a primary, its secondaries, routes from it */
     clear(0);
     fill(64, 24, 1, lives[i], 256, 254, 1, 1);

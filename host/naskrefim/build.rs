@@ -11,7 +11,9 @@ const DEFAULT: &str = "target/staticlib/libinterface4.a";
 /// What it exports, behind each prefix: on bytes and on words.
 const PREFIXES: [&str; 2] = ["interface4_", "interface4w_"];
 const CALLS: &str = "up down add_v4 del_v4 expire add_route4 del_route4 dump4 lookup4 \
-                     lookup4_flow local4 source4 source select4 left check";
+                     lookup4_flow local4 source4 source select4 left check read";
+/// What it exports once.
+const ONCE: &str = "interface4_sizes";
 /// What the library is compiled for: cargo's name of each, and its value.
 const TARGET: [(&str, &str); 4] = [
     ("ARCH", "x86_64"),
@@ -82,7 +84,8 @@ fn build() -> Result<(), String> {
 
 fn wanted() -> Vec<String> {
     let named = |prefix| CALLS.split(' ').map(move |call| format!("{prefix}{call}"));
-    PREFIXES.into_iter().flat_map(named).collect()
+    let once = ONCE.split(' ').map(String::from);
+    PREFIXES.into_iter().flat_map(named).chain(once).collect()
 }
 
 /// The names in an archive's index: its first member, `/`, with a number,

@@ -9,8 +9,7 @@ use Rattle.lists.specs.Lists.{flat, put}
 use Rattle.definition.specs.Call.{Reply, Numbers, numbers}
 use Rattle.definition.specs.Step.{Result}
 use Rattle.call_read.specs.Answer.{refusedBy, valuing}
-use Rattle.step_events.specs.declared.Told as Step
-use Rattle.step_events.specs.declared.Done as Request
+use Rattle.step_events.specs.declared.Done as Step
 use Rattle.call_change.specs.declared.Done.{Done}
 use Rattle.call_change.specs.declared.Done.the-variants.{Refused, Rows}
 
@@ -29,12 +28,8 @@ pub record Answers (x : Result) (w′ ev ev′ : List ℕ) (r : Done) : Type 0 w
   pub words : w′ ≡ x .words
   pub events : ev′ ≡ put 0 (flat (x .reply .rows)) ev
 
--- ---- what the steps come to as answers: 203 where a list would pass its limit
-abbrev pub ofTold : Step.Told → Done
-ofTold (Step.the-variants.Rows n) = Rows n
-ofTold Step.the-variants.Full = Refused 203
-
-abbrev pub ofDone : Request.Done → Done
-ofDone (Request.the-variants.Rows n) = Rows n
-ofDone (Request.the-variants.Refused n) = Refused n
-ofDone Request.the-variants.Full = Refused 203
+-- ---- what a step comes to as an answer: 203 where a list would pass its limit
+abbrev pub ofDone : Step.Done → Done
+ofDone (Step.the-variants.Rows n) = Rows n
+ofDone (Step.the-variants.Refused n) = Refused n
+ofDone Step.the-variants.Full = Refused 203

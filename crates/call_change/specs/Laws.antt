@@ -15,7 +15,7 @@ use Rattle.definition.specs.Call.{numbers}
 use Rattle.definition.specs.Step.{Result, refuses, Checks, Semantics, checked, answered, result, roomy, outcome, perform, requestIs, eventsFit, eventRoom}
 use Rattle.definition.specs.Reference.Addresses.{Outcome, goes, refused}
 use Rattle.definition.specs.Preservation.Step.{acted}
-use Rattle.state.specs.Represents.{Sound}
+use Rattle.state.specs.Represents.{RepresentsFit}
 use Rattle.call_read.specs.Laws.{Passed, call-refused, call-passed}
 use Rattle.call_change.specs.declared.Done.{Done}
 use Rattle.call_change.specs.declared.Done.the-variants.{Refused}
@@ -49,7 +49,7 @@ sizes size q lent h =
       room = leb-true eventRoom lent (and-right (requestIs size q) (eventsFit lent) h);
     }
 
-pub sound : {k : Checks} {w : List ℕ} → Passed k w → Sound (base w)
+pub sound : {k : Checks} {w : List ℕ} → Passed k w → RepresentsFit (base w)
 sound {w = w} p = record { state = stateOf w; holds = p .holds; fits = p .good .fits }
 
 -- ---- the answer to a result is the answer to an equal one

@@ -1,4 +1,4 @@
 pub mod Answer
 pub mod Laws
 pub mod Steps
-pub mod Told
+pub mod Emitted

@@ -12,7 +12,7 @@ ghost use Prim.Native.Nat.{_≤_};
 ghost use lib.ListN.{length};
 ghost use Rattle.layout.specs.Event as Event;
 ghost use Rattle.definition.specs.Step.{eventRoom, upCall, downCall, addV4Call, delV4Call, expireCall, addRoute4Call, delRoute4Call};
-ghost use Rattle.call_change.specs.Answer.{Answers, ofTold, ofDone};
+ghost use Rattle.call_change.specs.Answer.{Answers, ofDone};
 
 // What a changing call answers: a refusal's number, or how many event rows it wrote.
 pub enum Done {
@@ -20,16 +20,7 @@ pub enum Done {
     Rows(usize),
 }
 
-// What the steps come to as answers: 203 where a list would pass its limit.
-fn of_told(t: step_events::Told) -> Done
-    ensures { λ r. ⌜ r ≡ ofTold t ⌝ }
-{
-    match t {
-        step_events::Told::Rows(n) => Done::Rows(n),
-        step_events::Told::Full => Done::Refused(203),
-    }
-}
-
+// What a step comes to as an answer: 203 where a list would pass its limit.
 fn of_done(d: step_events::Done) -> Done
     ensures { λ r. ⌜ r ≡ ofDone d ⌝ }
 {
@@ -48,10 +39,10 @@ pub fn up(state: &mut [u32], events: &mut [u32], clock: u64) -> Done
     if n != 0 {
         return Done::Refused(n);
     }
-    of_told(step_add_v4_atomic::up(&mut state[..BASE_WORDS], events, Nanoseconds(clock)))
+    of_done(step_add_v4_atomic::up(&mut state[..BASE_WORDS], events, Nanoseconds(clock)))
 }
 
-// The device goes down. It tells nothing.
+// The device goes down. It emits nothing.
 pub fn down(state: &mut [u32], events: &mut [u32]) -> Done
     ensures { λ r. ⌜ Answers (downCall (length (now (events .entry))) (now (state .entry))) (now (state .exit)) (now (events .entry)) (now (events .exit)) r ⌝ }
 {

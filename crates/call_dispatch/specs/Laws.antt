@@ -1,4 +1,4 @@
--- Every call under its number: of what kind it is, what it tells, and what making it does.
+-- Every call under its number: of what kind it is, what it emits, and what making it does.
 -- Assumes nothing.
 use Prim.Native.Nat.{ℕ, _<_}
 use native.Mathlib.Omega.{arith}
@@ -18,7 +18,7 @@ use Rattle.definition.specs.Preservation.Step.{perform-reads}
 use Rattle.definition.specs.Noninterference.Public.{Lent, Made, many}
 use Rattle.definition.specs.Noninterference.ReadBack.{shaped}
 use Rattle.call_change.specs.Answer.{Answers, doneBy}
-use Rattle.call_change.specs.Told.{emitted, small}
+use Rattle.call_change.specs.Emitted.{emitted, small}
 use Rattle.call_change.specs.declared.Done.{Done}
 use Rattle.call_reply.specs.declared.Reply as Rep
 use Rattle.call_reply.specs.Answer.{replyFrom, replyOf, numbersIn}

@@ -17,7 +17,7 @@ clockOf low high = low + high * 4294967296
 
 -- ---- 1 to 7 change the state
 -- the call by its request, the clock and the length of the event buffer; how many words its request has; and the number and value
--- with which it has left every word and told nothing
+-- with which it has left every word and emitted nothing
 pub record Change : Type 0 where
   pub call : Row → ℕ → ℕ → Call
   pub size : ℕ

@@ -43,11 +43,11 @@ foundOf r = cond (eqb (r .number) 0) Found.the-variants.Row (Found.the-variants.
 
 abbrev pub foundIn : Lookup.Found → Found.Found
 foundIn (Lookup.route r) = Found.the-variants.Row
-foundIn (Lookup.refused n) = Found.the-variants.Refused n
+foundIn (Lookup.noRoute n) = Found.the-variants.Refused n
 
 abbrev pub rowsIn : Lookup.Found → List Row
 rowsIn (Lookup.route r) = r ∷ []
-rowsIn (Lookup.refused n) = []
+rowsIn (Lookup.noRoute n) = []
 
 -- ---- whether an address is local
 abbrev pub localBy : Local.Local → Numbers

@@ -19,14 +19,14 @@ use Rattle.definition.specs.Step.{Result, refuses, Checks, Semantics, checked, 
 use Rattle.definition.specs.Reference.Lookup as Lookup
 use Rattle.definition.specs.Reference.Lookup.{lookupIn}
 use Rattle.definition.specs.Preservation.Numbers.{OfFound, lookup-number}
-use Rattle.definition.specs.Preservation.Encode.{Good}
+use Rattle.definition.specs.Preservation.Encode.{Admissible}
 use Rattle.definition.specs.Preservation.Step.{base-long, good-held, checked-held, checked-passes, acted, perform-case}
 use Rattle.rows_lookup.specs.declared.Looked as Looked
 use Rattle.rows_lookup.specs.Answer.{foundBy as rows-lookup·foundBy}
 use Rattle.rows_source.specs.declared.Selected as Selected
 use Rattle.rows_source.specs.declared.Selected.{Selected}
 use Rattle.rows_source.specs.Selected.{localIn}
-use Rattle.state.specs.Represents.{Represents, Valid, holds-decode, count-routes, sizes-valid}
+use Rattle.state.specs.Represents.{Represents, RepresentsSome, holds-decode, count-routes, sizes-valid}
 use Rattle.state.specs.Change.{route-at}
 use Rattle.call_read.specs.declared.Found as Found
 use Rattle.call_read.specs.declared.Local as Local
@@ -60,7 +60,7 @@ pub record Passed (k : Checks) (w : List ℕ) : Type 0 where
   pub room : k .buffers ≡ true
   pub handed : k .row ≡ true
   pub fit : k .request ≡ 0
-  pub good : Good (stateOf w)
+  pub good : Admissible (stateOf w)
   pub holds : Represents (base w) (stateOf w)
 
 pub passed : (k : Checks) (w : List ℕ) {n : ℕ} → n ≡ checked k w → n ≡ 0 → Passed k w
@@ -83,7 +83,7 @@ module _ {k : Checks} {w : List ℕ} (p : Passed k w) where
   pub lent : length (base w) ≡ baseSize
   lent = base-long w (p .long)
 
-  pub valid : Valid (base w)
+  pub valid : RepresentsSome (base w)
   valid = record { state = stateOf w; holds = p .holds }
 
 -- ---- a call that is refused by its checks, and one that passes them
@@ -98,7 +98,7 @@ module _ (s : Semantics) (w : List ℕ) where
 
 -- what holds of a refusal and of an answer holds of a reading call's reply: a refusal has a number, and words that are not refused hold a good state
 pub reads : (P : Reply → Type 0) (k : Checks) (f : State → Reply) (w : List ℕ) → ((n : ℕ) → (n ≡ 0 → ⊥) → P (refusal n))
-    → (Good (stateOf w) → P (f (stateOf w))) → P (reading k f w .reply)
+    → (Admissible (stateOf w) → P (f (stateOf w))) → P (reading k f w .reply)
 unfolding reading
 reads P k f w refuses answers =
     let n = checked k w in
@@ -166,11 +166,11 @@ listed-answer l e f = record { answer = ap Listed.the-variants.Rows e; says = ap
 -- ---- lookups: of any flow
 found-same : (x : Lookup.Found) → OfFound x → Says foundBy foundOf (foundRow x) (foundIn x)
 found-same (Lookup.route r) e = record { answer = refl; says = refl }
-found-same (Lookup.refused n) e = found-refused n (λ z. omega (arith, e .positive))
+found-same (Lookup.noRoute n) e = found-refused n (λ z. omega (arith, e .positive))
 
 found-rows : (x : Lookup.Found) → rowsIn x ≡ foundRow x .rows
 found-rows (Lookup.route r) = refl
-found-rows (Lookup.refused n) = refl
+found-rows (Lookup.noRoute n) = refl
 
 abbrev pub looking : List ℕ → ℕ → Lookup.Flow → Semantics
 looking row request f = finding (length row) request (λ st. lookupIn st f)
@@ -209,7 +209,7 @@ module _ (w : List ℕ) (st : State) (h : Represents w st) (f : Lookup.Flow) whe
   look-refused n row e = (ap foundIn e, put-no-rows row ∙ ap (λ (x : Lookup.Found). put 0 (flat (rowsIn x)) row) e)
 
 -- where a route in use ends
-pub at-end : {w : List ℕ} {i : ℕ} → Valid w → i < routeCount w → (routesAt + 32 * i + 32 ≤ length w) × (i < 256)
+pub at-end : {w : List ℕ} {i : ℕ} → RepresentsSome w → i < routeCount w → (routesAt + 32 * i + 32 ≤ length w) × (i < 256)
 at-end v b =
     let s = sizes-valid v in
     (omega (arith, s .long, s .routes), omega (arith, s .routes))

@@ -22,7 +22,7 @@ use Rattle.row_address.specs.V4.{secondaryV4, coversV4}
 use Rattle.row_address.specs.Words.{rowOf}
 use Rattle.rows_source.specs.Selected.{wanted, localIn}
 use Rattle.rows_source.specs.Laws.{reaches-test}
-use Rattle.state.specs.Represents.{Valid, sizes-valid}
+use Rattle.state.specs.Represents.{RepresentsSome, sizes-valid}
 use Rattle.call_records.specs.declared.Best.{Best}
 use Rattle.call_records.specs.Best.{better, start, bestFrom, selectRank, selectedOf, primaryRank, primaryIn}
 
@@ -165,5 +165,5 @@ read-more rows i l v b c e sofar =
     ∙ sym (ap (λ (k : ℕ). take k l) (add-one i) ∙ take-suc l i [] c)
 
 -- the addresses in use are 64 at most
-pub few : {w : List ℕ} (n : ℕ) → Valid w → n ≡ addressCount w → n ≤ 64
+pub few : {w : List ℕ} (n : ℕ) → RepresentsSome w → n ≡ addressCount w → n ≤ 64
 few n v e = omega (arith, sizes-valid v .addresses)

@@ -21,7 +21,7 @@ ghost use Rattle.definition.specs.State.{State};
 ghost use Rattle.definition.specs.Words.{addressCount};
 ghost use Rattle.definition.specs.Step.{select4Call};
 ghost use Rattle.rows_source.specs.Selected.{wanted, localIn};
-ghost use Rattle.state.specs.Represents.{Represents, Valid};
+ghost use Rattle.state.specs.Represents.{Represents, RepresentsSome};
 ghost use Rattle.call_read.specs.Answer.{Says, chosenBy, sourcedBy, chosenOf, sourcedOf};
 ghost use Rattle.call_records.specs.Best.{better, selectRank, selectedOf, primaryRank, primaryIn};
 ghost use Rattle.call_records.specs.Call.{primaryOfCall};
@@ -162,21 +162,21 @@ fn read(words: &[u32], n: usize) -> [V4; ADDRESS_LIMIT]
 
 // The records of the addresses that words hold.
 fn decoded(s: &[u32]) -> [V4; ADDRESS_LIMIT]
-    requires { ⌜ Valid (now s) ⌝ }
+    requires { ⌜ RepresentsSome (now s) ⌝ }
     ensures { λ r. ⌜ ((st : State) → Represents (now (s .entry)) st → map rowOf (take (addressCount (now (s .entry))) r) ≡ st .addresses) ⌝ }
 {
     read(state_read::addresses(s), state::address_count(s))
 }
 
 fn select4_in(s: &[u32], dst_present: bool, dst: u32, scope: u32) -> Selected
-    requires { ⌜ Valid (now s) ⌝ }
+    requires { ⌜ RepresentsSome (now s) ⌝ }
     ensures { λ r. ⌜ ((st : State) → Represents (now (s .entry)) st → localIn r ≡ select4 (st .addresses) (wanted «dst_present» dst) scope) ⌝ }
 {
     lend_select4(decoded(s), state::address_count(s), dst_present, dst, scope)
 }
 
 fn primary_of_in(s: &[u32], row: &[u32]) -> u32
-    requires { ⌜ Valid (now s) ⌝ }
+    requires { ⌜ RepresentsSome (now s) ⌝ }
     requires { ⌜ fitAddress (now row) ≡ true ⌝ }
     ensures { λ r. ⌜ ((st : State) → Represents (now (s .entry)) st → r ≡ primaryOf (st .addresses) (now (row .entry))) ⌝ }
 {

@@ -1,5 +1,6 @@
 // A call's answer as four numbers, the same for every call.
 use call_change::Done;
+use call_message::Asked;
 use call_read::Chosen;
 use call_read::Found;
 use call_read::Listed;
@@ -11,6 +12,7 @@ ghost use Prim.Native.Nat.{_<_};
 ghost use Rattle.definition.specs.Step.{unfit};
 ghost use Rattle.call_read.specs.Answer.{foundBy, localBy, chosenBy, sourcedBy, listedBy};
 ghost use Rattle.call_change.specs.Answer.{doneBy};
+ghost use Rattle.call_message.specs.Answer.{askedBy};
 ghost use Rattle.row_address.specs.Row.{replyOf as row-address·replyOf};
 ghost use Rattle.call_reply.specs.Answer.{replyFrom, replyOf};
 
@@ -108,7 +110,7 @@ pub fn remaining(l: LeftReply) -> Reply
     }
 }
 
-// A changing call tells of at most 384 events.
+// A changing call emits at most 384 events.
 pub fn done(d: Done) -> Reply
     requires { ⌜ doneBy d .value < 4294967296 ⌝ }
     ensures { λ r. ⌜ r ≡ replyFrom (doneBy d) ⌝ }
@@ -127,5 +129,19 @@ pub fn listed(l: Listed) -> Reply
     match l {
         Listed::Refused(n) => refused(n),
         Listed::Rows(n) => valued(n as u32),
+    }
+}
+
+pub fn asked(a: Asked) -> Reply
+    ensures { λ r. ⌜ r ≡ replyFrom (askedBy a) ⌝ }
+{
+    match a {
+        Asked::Refused(n) => refused(n),
+        Asked::Request { kind, words } => Reply {
+            number: 0,
+            present: 0,
+            value: kind,
+            second: words,
+        },
     }
 }

@@ -48,7 +48,7 @@ optionally (some v) = record { number = 0; present = 1; value = v; second = 0; r
 
 abbrev pub foundRow : Found → Reply
 foundRow (Found.route r) = record { number = 0; present = 0; value = 0; second = 0; rows = r ∷ [] }
-foundRow (Found.refused n) = refusal n
+foundRow (Found.noRoute n) = refusal n
 
 -- the numbers of a reply; the rows that a call wrote stand in the buffer that it was lent
 pub record Numbers : Type 0 where

@@ -21,10 +21,14 @@ ip a b c d = ((a * 256 + b) * 256 + c) * 256 + d
 abbrev pub up : Call
 up = Call.up eventRoom 0
 
--- an address equal to local, no broadcast, the label lo, not replacing, the device up: local, prefix, valid and preferred
+-- an address equal to local, no broadcast, the label lo, the device up: local, prefix, valid, preferred, whether it replaces
+abbrev pub askV4 : ℕ → ℕ → ℕ → ℕ → ℕ → Call
+askV4 local prefix valid preferred replace =
+    Call.addV4 (local ∷ local ∷ prefix ∷ 0 ∷ 0 ∷ 0 ∷ 0 ∷ 0 ∷ 2 ∷ 28524 ∷ 0 ∷ 0 ∷ 0 ∷ 0 ∷ valid ∷ preferred ∷ replace ∷ 1 ∷ []) eventRoom 0
+
+-- one that lasts as long as it is preferred, not replacing
 abbrev pub addV4 : ℕ → ℕ → ℕ → Call
-addV4 local prefix life =
-    Call.addV4 (local ∷ local ∷ prefix ∷ 0 ∷ 0 ∷ 0 ∷ 0 ∷ 0 ∷ 2 ∷ 28524 ∷ 0 ∷ 0 ∷ 0 ∷ 0 ∷ life ∷ life ∷ 0 ∷ 1 ∷ []) eventRoom 0
+addV4 local prefix life = askV4 local prefix life life 0
 
 -- by the local address alone
 abbrev pub delV4 : ℕ → Call
@@ -182,6 +186,27 @@ examples =
     ∷ never (254 ∷ ip 10 4 0 0 ∷ 16 ∷ 32 ∷ 0 ∷ 1 ∷ 4 ∷ 0 ∷ 0 ∷ 0 ∷ 0 ∷ 0 ∷ 1 ∷ 0 ∷ 0 ∷ zeros 17) (ip 10 4 0 1)
     ∷ []
 
+-- Document 02, Paper 2: valid 0 and preferred above valid are 22, after 202, before 17, replacing or not; preferred equal to valid
+-- is taken.
+unfoldable pub lifetimes : List Example
+lifetimes =
+    run
+    (askV4 (ip 10 1 0 5) 24 0 0 0
+    ∷ askV4 (ip 10 1 0 5) 24 10 20 0
+    ∷ askV4 (ip 10 1 0 5) 33 10 20 0
+    ∷ askV4 (ip 10 1 0 5) 24 10 10 0
+    ∷ askV4 (ip 10 1 0 5) 24 0 0 0
+    ∷ askV4 (ip 10 1 0 5) 24 10 4294967295 1
+    ∷ askV4 (ip 10 1 0 5) 24 10 10 0
+    ∷ [])
+    (reply 22 0 0 0 [] ∷ reply 22 0 0 0 [] ∷ reply 202 0 0 0 [] ∷ fiveSaid 0 10 ∷ reply 22 0 0 0 [] ∷ reply 22 0 0 0 [] ∷ reply 17 0 0 0 [] ∷ [])
+    (1 ∷ 3 ∷ 2 ∷ []) (254 ∷ 255 ∷ zeros 30)
+    ∷ []
+
 pub as-document-01-says : map given examples ≡ map said examples
 unfolding examples computing
 as-document-01-says = refl
+
+pub as-document-02-says : map given lifetimes ≡ map said lifetimes
+unfolding lifetimes computing
+as-document-02-says = refl

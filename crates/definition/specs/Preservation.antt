@@ -1,4 +1,4 @@
--- What every call keeps: the words' form, the lists' order, the limits, the room for events.
+-- What every call keeps: the words' form, the lists' order, the limits, the room for events; and that what it emits can be read back.
 pub mod Fit
 pub mod Encode
 pub mod Order
@@ -13,7 +13,8 @@ pub mod Shrinking
 pub mod Numbers
 pub mod Emitted
 pub mod Refused
+pub mod Reading
+pub mod Shape
 pub mod Change
 pub mod Step
-pub mod Reading
 pub mod Peaks

@@ -35,14 +35,14 @@ most a b =
       tables = max (a .tables) (b .tables);
     }
 
--- What a step leaves: the state afterwards, the event rows that it told, and the greatest length that each list had after any of
+-- What a step leaves: the state afterwards, the event rows that it emitted, and the greatest length that each list had after any of
 -- its changes. The start isn't counted: the lists of a call keep to their limits before its first change.
 pub record Out : Type 0 where
   pub state : State
   pub emitted : List Row
   pub peak : Sizes
 
--- the state becomes st, and rows are told
+-- the state becomes st, and rows are emitted
 abbrev pub becomes : State → List Row → Out
 becomes st rows = record { state = st; emitted = rows; peak = sizes st }
 

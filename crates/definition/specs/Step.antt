@@ -11,7 +11,7 @@ use Rattle.layout.specs.Address.{optional, fitAddress}
 use Rattle.layout.specs.Event as Event
 use Rattle.layout.specs.Route as Route
 use Rattle.layout.specs.Route.{fitRoute, table}
-use Rattle.layout.specs.Request.{addV4Size, fitAddV4, delV4Size, fitDelV4, addRoute4Size, fitAddRoute4, delRoute4Size, fitDelRoute4}
+use Rattle.layout.specs.Request.{addV4Size, fitAddV4, validLifetimes, delV4Size, fitDelV4, addRoute4Size, fitAddRoute4, delRoute4Size, fitDelRoute4}
 use Rattle.definition.specs.State.{State, Sizes, Out, sizes}
 use Rattle.definition.specs.Words.{within, routesSize, stateSize, leaves, stateOf, formed}
 use Rattle.definition.specs.Call.{Call, Reply, refusal, valued, written, optionally, foundRow}
@@ -74,6 +74,10 @@ eventRoom = eventLimit * Event.size
 
 abbrev pub listingRoom : ℕ
 listingRoom = routesSize
+
+-- Linux's EINVAL
+abbrev pub invalid : ℕ
+invalid = 22
 
 -- the greatest clock that expire takes
 abbrev pub clockLimit : ℕ
@@ -196,10 +200,14 @@ listing room f =
       action = lists f;
     }
 
+-- the number that refuses a request for an address: its fields first, then lifetimes that Linux turns down
+abbrev pub addV4Refusal : Row → ℕ
+addV4Refusal q = cond (fitAddV4 q) (unless (validLifetimes q) invalid) 202
+
 abbrev pub semantics : Call → Semantics
 semantics (Call.up events now) = going events 0 (up now)
 semantics (Call.down events) = going events 0 down
-semantics (Call.addV4 q events now) = asked addV4Size q events (unless (fitAddV4 q) 202) (addV4 q now)
+semantics (Call.addV4 q events now) = asked addV4Size q events (addV4Refusal q) (addV4 q now)
 semantics (Call.delV4 q events) = asked delV4Size q events (unless (fitDelV4 q) 202) (delV4 q)
 semantics (Call.expire events now) = going events (unless (leb now clockLimit) 202) (expire allowance now)
 semantics (Call.addRoute4 q events) =

@@ -1,21 +1,19 @@
 -- A call on bytes is the call on words that `asWords` says, with its checks, whatever the bytes lack.
 -- Assumes nothing.
-use Prim.Native.Nat.{ℕ, suc, _*_, _≤_}
+use Prim.Native.Nat.{ℕ, _*_}
 use native.Mathlib.Omega.{arith}
-use mathlib.Core.Path.{_≡_, refl, sym, ap, ap₂, _∙_}
-use mathlib.Core.Bool.{Bool, true, false, cond, _&&_, and-false}
-use mathlib.Core.List.{List, [], _∷_}
+use mathlib.Core.Path.{_≡_, refl, ap, ap₂, _∙_}
+use mathlib.Core.Bool.{Bool, true, false, _&&_, and-false}
+use mathlib.Core.List.{List}
 use lib.Dec.{eqb, leb}
 use lib.ListN.{length, take, length-take}
-use borrow.Author.Tests.{eq-eqb, ne-eqb}
-use Rattle.lists.specs.Bools.{and-left, and-right, and-rest, test-case, cond-true, cond-false, true-false}
+use borrow.Author.Tests.{eqb-true, eq-eqb, leb-true, le-leb}
+use Rattle.lists.specs.Bools.{and-left, and-right, and-rest, and-iff, fails, test-case, cond-true, cond-false, true-false}
 use Rattle.endian.specs.Endian.{wordsOf}
-use Rattle.layout.specs.Route as Route
-use Rattle.layout.specs.Request.{addV4Size, delV4Size, addRoute4Size, delRoute4Size}
-use Rattle.definition.specs.Words.{stateSize, formed}
-use Rattle.definition.specs.Call.{Call, Reply, refusal}
-use Rattle.definition.specs.Step.{Result, refuses, Checks, Action, changes, replies, lists, alters, checked, changing, reading, act, semantics, step, eventsFit, requestIs, eventRoom, listingRoom}
-use Rattle.definition_bytes.specs.Bytes.{onBytes, stateFits, with, suffices, inner, requestIn, roomIn, asWords}
+use Rattle.definition.specs.Words.{stateSize}
+use Rattle.definition.specs.Call.{Call}
+use Rattle.definition.specs.Step.{refuses, Checks, Action, changes, replies, lists, alters, checked, changing, reading, act, semantics, step, requestIs}
+use Rattle.definition_bytes.specs.Bytes.{stateFits, Handed, nothing, request, row, Room, without, atLeast, handedIs, roomIs, Traits, marshalled, roomOn, lends, hands, suffices, given, least, inner, requestIn, handedIn, lentIn, asWords}
 
 -- ---- lacking buffers are refused with 200
 no-buffers : (k : Checks) (w : List ℕ) → k .buffers ≡ false → checked k w ≡ 200
@@ -33,20 +31,39 @@ lacking c w h = go (semantics c .action)
     go (replies f) = rw (no-buffers k w h)
     go (lists f) = rw (no-buffers k w h)
 
--- ---- the lengths
-room-yes : (k n : ℕ) → leb (4 * k) n ≡ true → roomIn k n ≡ k
-room-yes k n h = cond-true (leb (4 * k) n) k 0 h
+-- ---- what is handed over, and the room
+handed-yes : (h : Handed) (rest : Bool) → hands h rest ≡ true → (handedIn h ≡ given h) × (rest ≡ true)
+handed-yes nothing rest e = (refl, e)
+handed-yes (request size q) rest e =
+    let long = eqb (length q) (4 * size) in
+    (cond-true long (wordsOf q) (take 1 (wordsOf q)) (and-left long rest e), and-right long rest e)
+handed-yes (row size b) rest e = (refl, e)
 
-room-no : (k n : ℕ) → leb (4 * k) n ≡ false → roomIn k n ≡ 0
-room-no k n h = cond-false (leb (4 * k) n) k 0 h
+handed-no : (h : Handed) (rest fits : Bool) → (rest ≡ false → fits ≡ false) → hands h rest ≡ false → handedIs h (handedIn h) fits ≡ false
+handed-no nothing rest fits f e = f e
+handed-no (request size q) rest fits f e =
+    let long = eqb (length q) (4 * size) in
+    let r = requestIn size q in
+    fails (leb 2 size && (requestIs size r && fits)) (λ t.
+    let p = simp and-iff at t in
+    test-case long
+    (λ l. true-false fits (p .1 .1) (f (and-rest long rest l e)))
+    (λ l.
+    let one : r ≡ take 1 (wordsOf q) = cond-false long (wordsOf q) (take 1 (wordsOf q)) l in
+    omega (arith, leb-true 2 size (p .0), eqb-true (length r) size (p .1 .0), ap length one, length-take 1 (wordsOf q))))
+handed-no (row size b) rest fits f e = f e
 
-request-yes : (k : ℕ) (q : List ℕ) → eqb (length q) (4 * k) ≡ true → requestIn k q ≡ wordsOf q
-request-yes k q h = cond-true (eqb (length q) (4 * k)) (wordsOf q) (take 1 (wordsOf q)) h
+module _ (s : List ℕ) where
+  room-yes : (m : Room) → lends m s ≡ true → lentIn m ≡ least m
+  room-yes without e = refl
+  room-yes (atLeast size bytes) e = cond-true (leb (4 * size) bytes) size 0 (and-right (stateFits s) (leb (4 * size) bytes) e)
 
-request-no : (k : ℕ) (q : List ℕ) → 2 ≤ k → eqb (length q) (4 * k) ≡ false → requestIs k (requestIn k q) ≡ false
-request-no k q g h =
-    ap (requestIs k) (cond-false (eqb (length q) (4 * k)) (wordsOf q) (take 1 (wordsOf q)) h)
-    ∙ ne-eqb (length (take 1 (wordsOf q))) k (λ e. omega (arith, length-take 1 (wordsOf q)))
+  room-no : (m : Room) → stateFits s ≡ true → lends m s ≡ false → roomIs m (lentIn m) ≡ false
+  room-no without f e = absurd (true-false (stateFits s) f e)
+  room-no (atLeast size bytes) f e =
+      let lacks = and-rest (stateFits s) (leb (4 * size) bytes) f e in
+      ap (leb size) (cond-false (leb (4 * size) bytes) size 0 lacks)
+      ∙ fails (leb size 0) (λ t. true-false (leb (4 * size) bytes) (le-leb (4 * size) bytes (omega (arith, leb-true size 0 t))) lacks)
 
 -- ---- what the call on words is, where the bytes suffice and where they don't; and it is of the same kind
 pub record Is (c : Call) (s : List ℕ) : Type 0 where
@@ -54,51 +71,16 @@ pub record Is (c : Call) (s : List ℕ) : Type 0 where
   pub yes : suffices c s ≡ true → asWords c ≡ inner c
   pub no : suffices c s ≡ false → semantics (asWords c) .checks .buffers ≡ false
 
-module _ (s : List ℕ) (long : length s ≡ 4 * stateSize) where
-  state : stateFits s ≡ true
-  state = eq-eqb (length s) (4 * stateSize) long
-
-  with-no : (n room : ℕ) → with s n room ≡ false → leb n room ≡ false
-  with-no n room h = and-rest (stateFits s) (leb n room) state h
-
-  with-yes : (n room : ℕ) → with s n room ≡ true → leb n room ≡ true
-  with-yes n room h = and-right (stateFits s) (leb n room) h
-
-  alone : (f : ℕ → Call) (k room : ℕ) → with s (4 * k) room ≡ true → f (roomIn k room) ≡ f k
-  alone f k room h = ap f (room-yes k room (with-yes (4 * k) room h))
-
-  alone-no : (k room : ℕ) → leb k 0 ≡ false → with s (4 * k) room ≡ false → leb k (roomIn k room) ≡ false
-  alone-no k room z h = ap (leb k) (room-no k room (with-no (4 * k) room h)) ∙ z
-
-  -- with a request of k words
-  asked : (f : List ℕ → ℕ → Call) (k : ℕ) (q : List ℕ) (events : ℕ) → eqb (length q) (4 * k) && with s (4 * eventRoom) events ≡ true → f (requestIn k q) (roomIn eventRoom events) ≡ f (wordsOf q) eventRoom
-  asked f k q events h =
-      ap₂ f (request-yes k q (and-left (eqb (length q) (4 * k)) (with s (4 * eventRoom) events) h))
-      (room-yes eventRoom events (with-yes (4 * eventRoom) events (and-right (eqb (length q) (4 * k)) (with s (4 * eventRoom) events) h)))
-
-  asked-no : (k : ℕ) (q : List ℕ) (events : ℕ) → 2 ≤ k → eqb (length q) (4 * k) && with s (4 * eventRoom) events ≡ false → requestIs k (requestIn k q) && eventsFit (roomIn eventRoom events) ≡ false
-  asked-no k q events g h =
-      test-case (eqb (length q) (4 * k))
-      (λ e.
-      ap (λ b. requestIs k (requestIn k q) && b) (alone-no eventRoom events refl (and-rest (eqb (length q) (4 * k)) (with s (4 * eventRoom) events) e h))
-      ∙ and-false (requestIs k (requestIn k q)))
-      (λ e. ap (λ b. b && eventsFit (roomIn eventRoom events)) (request-no k q g e))
-
-  plainly : stateFits s ≡ false → {A : Type 0} → A
-  plainly h = absurd (true-false (stateFits s) state h)
-
-  pub is : (c : Call) → Is c s
-  is (Call.up events now) = record { kind = refl; yes = alone (λ e. Call.up e now) eventRoom events; no = alone-no eventRoom events refl }
-  is (Call.down events) = record { kind = refl; yes = alone Call.down eventRoom events; no = alone-no eventRoom events refl }
-  is (Call.addV4 q events now) = record { kind = refl; yes = asked (λ r e. Call.addV4 r e now) addV4Size q events; no = asked-no addV4Size q events (omega arith) }
-  is (Call.delV4 q events) = record { kind = refl; yes = asked Call.delV4 delV4Size q events; no = asked-no delV4Size q events (omega arith) }
-  is (Call.expire events now) = record { kind = refl; yes = alone (λ e. Call.expire e now) eventRoom events; no = alone-no eventRoom events refl }
-  is (Call.addRoute4 q events) = record { kind = refl; yes = asked Call.addRoute4 addRoute4Size q events; no = asked-no addRoute4Size q events (omega arith) }
-  is (Call.delRoute4 q events) = record { kind = refl; yes = asked Call.delRoute4 delRoute4Size q events; no = asked-no delRoute4Size q events (omega arith) }
-  is (Call.dump4 room) = record { kind = refl; yes = alone Call.dump4 listingRoom room; no = alone-no listingRoom room refl }
-  is (Call.lookup4 room ip) = record { kind = refl; yes = alone (λ e. Call.lookup4 e ip) Route.size room; no = alone-no Route.size room refl }
-  is (Call.lookup4Flow room ip tos oif) = record { kind = refl; yes = alone (λ e. Call.lookup4Flow e ip tos oif) Route.size room; no = alone-no Route.size room refl }
-  is (Call.local4 ip) = record { kind = refl; yes = λ h. refl; no = λ h. plainly h }
-  is (Call.source4 row ip) = record { kind = refl; yes = λ h. refl; no = λ h. plainly h }
-  is (Call.source ip) = record { kind = refl; yes = λ h. refl; no = λ h. plainly h }
-  is (Call.select4 dstPresent dst scope) = record { kind = refl; yes = λ h. refl; no = λ h. plainly h }
+pub is : (s : List ℕ) → length s ≡ 4 * stateSize → (c : Call) → Is c s
+is s long c =
+    let m = marshalled c in
+    let h = m .handed in
+    let room = roomOn c in
+    let same = m .same (handedIn h) (lentIn room) in
+    record {
+      kind = ap (λ (x : Traits). x .changes) same;
+      yes = λ e. let y = handed-yes h (lends room s) e in ap₂ (m .call) (y .0) (room-yes s room (y .1));
+      no = λ e.
+          ap (λ (x : Traits). x .buffers) same
+          ∙ handed-no h (lends room s) (roomIs room (lentIn room)) (room-no s room (eq-eqb (length s) (4 * stateSize) long)) e;
+    }

@@ -2,9 +2,9 @@
 -- read as words.
 -- Assumes nothing.
 use Prim.Native.Nat.{ℕ, zero, suc, _*_}
-use mathlib.Core.Path.{_≡_, refl, sym, ap, ap₂, _∙_}
+use mathlib.Core.Path.{_≡_, refl, ap, ap₂, _∙_}
 use mathlib.Core.List.{List, [], _∷_, map}
-use lib.ListN.{length, take, drop}
+use lib.ListN.{drop}
 use Rattle.lists.specs.Lists.{Row, flat, put, zeros, chop}
 use Rattle.lists.specs.Rows.{length-zeros}
 use Rattle.endian.specs.Endian.{wordsOf}
@@ -12,8 +12,7 @@ use Rattle.endian.specs.Laws.{wordsOf-take, wordsOf-drop}
 use Rattle.definition.specs.Call.{Call, numbers}
 use Rattle.definition.specs.Step.{Buffer, unlent, forEvents, forListing, forRow, semantics, step}
 use Rattle.definition.specs.Noninterference.Statement.{after}
-use Rattle.definition.specs.Noninterference.Public.{Lent, Made, Seen, Ran}
-use Rattle.definition.specs.Noninterference.ReadBack.{roomOf}
+use Rattle.definition.specs.Noninterference.Public.{Lent, roomOf, Seen, Ran}
 
 -- ---- a run, lent buffers of zeros
 lent-zeros : (k : Buffer) → Lent k (zeros (roomOf k))

@@ -4,7 +4,7 @@ use Prim.Native.Nat.{ℕ, zero, suc, _*_}
 use native.Mathlib.Omega.{arith}
 use native.Mathlib.Nat.{mul-suc}
 use native.Mathlib.Numerals.{add-four}
-use mathlib.Core.Path.{_≡_, refl, sym, ap, ap₂, subst, _∙_}
+use mathlib.Core.Path.{_≡_, refl, sym, ap, subst, _∙_}
 use mathlib.Core.Bool.{Bool, true, false, cond, not, _&&_}
 use mathlib.Core.List.{List, [], _∷_, map}
 use lib.Dec.{eqb}
@@ -15,26 +15,17 @@ use Rattle.lists.specs.Rows.{length-zeros}
 use Rattle.endian.specs.Endian.{wordsOf, bytesOf}
 use Rattle.endian.specs.Laws.{Below, length-bytesOf, words-bytes, wordsOf-put}
 use Rattle.definition.specs.Words.{stateSize}
-use Rattle.definition.specs.Call.{Call, Reply, Numbers, numbers, replied, refusal}
+use Rattle.definition.specs.Call.{Call, Reply, Numbers, numbers, refusal}
 use Rattle.definition.specs.Step.{Result, refuses, alters, semantics, step}
 use Rattle.definition.specs.Preservation.Step.{Held, held-empty, step-held, perform-reads}
-use Rattle.definition.specs.Noninterference.Statement.{struck, emptyWords, unstruck}
-use Rattle.definition.specs.Noninterference.Public.{Seen, readBack, spared, Equal}
-use Rattle.definition.specs.Noninterference.ReadBack.{shaped, shaped-back}
+use Rattle.definition.specs.Noninterference.Statement.{struck, emptyWords}
+use Rattle.definition.specs.Noninterference.Public.{Seen, spared}
+use Rattle.definition.specs.Noninterference.ReadBack.{whole-reply}
 use Rattle.definition.specs.Noninterference.Code.{Shows, Showed, showed-equal}
-use Rattle.definition_bytes.specs.Bytes.{onBytes, stateOn, suffices, inner, Narrow, Made, Ran, asWords, inWords, Agree, emptyBytes, ByteRuns}
+use Rattle.definition_bytes.specs.Bytes.{onBytes, stateOn, suffices, inner, Made, Ran, asWords, inWords, emptyBytes, ByteRuns}
 use Rattle.definition_bytes.specs.AsWords.{lacking, Is, is}
 
 -- ---- one call
--- the numbers and the buffer are the whole of the reply, whatever the buffer's length
-whole-reply : (c : Call) (w b : List ℕ) (n : Numbers) (b′ : List ℕ) → n ≡ numbers (step c w .reply) → b′ ≡ put 0 (flat (step c w .reply .rows)) b
-    → readBack c (record { numbers = n; buffer = b′ }) ≡ step c w .reply
-whole-reply c w b n b′ e f =
-    let r = step c w .reply in
-    ap (λ (x : Numbers). readBack c (record { numbers = x; buffer = b′ })) e
-    ∙ ap (λ (x : List ℕ). readBack c (record { numbers = numbers r; buffer = x })) f
-    ∙ ap (replied (numbers r)) (shaped-back (semantics c .lent) r b (shaped c w))
-
 -- rows written as bytes, read as words
 wrote : (vs b : List ℕ) → Below 4294967296 vs → wordsOf (put 0 (bytesOf vs) b) ≡ put 0 vs (wordsOf b)
 wrote vs b h =

@@ -182,7 +182,7 @@ module _ (b l : List ℕ) (h : length b ≤ 4 * length l) where
   words-room : length (wordsOf b) ≤ length l
   words-room = omega (arith, length-wordsOf b)
 
-  -- a turn of the loop that reads words
+  -- an iteration of the loop that reads words
   pub word-more : (i : ℕ) → i < length b / 4 → (v : ℕ)
       → v ≡ word (getD b (4 * i) 0) (getD b (4 * i + 1) 0) (getD b (4 * i + 2) 0) (getD b (4 * i + 3) 0)
       → set (put 0 (take i (wordsOf b)) l) i v ≡ put 0 (take (i + 1) (wordsOf b)) l
@@ -201,7 +201,7 @@ pub bytes-none : (l : List ℕ) → l ≡ put 0 (bytesOf []) l
 unfolding bytesOf
 bytes-none l = put-none 0 l
 
--- a turn of the loop that writes bytes
+-- an iteration of the loop that writes bytes
 bytes-more : (i : ℕ) (w l : List ℕ) → i < length w → bytesOf (take (i + 1) w)
     ≡ bytesOf (take i w) ++ (getD w i 0 % 256 ∷ getD w i 0 / 256 % 256 ∷ getD w i 0 / 65536 % 256 ∷ getD w i 0 / 16777216 % 256 ∷ [])
 unfolding bytesOf

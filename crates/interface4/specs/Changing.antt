@@ -20,8 +20,9 @@ use Rattle.definition.specs.Words.{stateSize}
 use Rattle.definition.specs.Call.{Call, Numbers, numbers, refusal}
 use Rattle.definition.specs.Step.{Result, Buffer, forEvents, alters, semantics, step, eventRoom}
 use Rattle.definition.specs.Laws.Refusals.{unfit-stays, others-leave}
+use Rattle.definition.specs.Preservation.Shape.{Shaped}
 use Rattle.definition.specs.Noninterference.Public.{Lent}
-use Rattle.definition.specs.Noninterference.ReadBack.{Shaped, shaped}
+use Rattle.definition.specs.Noninterference.ReadBack.{shaped}
 use Rattle.definition_bytes.specs.Bytes.{stateFits, with, suffices, inner, Made}
 use Rattle.call_reply.specs.declared.Reply.{Reply}
 use Rattle.call_reply.specs.Answer.{numbersIn}
@@ -79,12 +80,12 @@ pub record Asks (code size : ℕ) (q : List ℕ) : Type 0 where
 abbrev pub changeFits : ℕ → List ℕ → List ℕ → List ℕ → Bool
 changeFits size q s ev = eqb (length q) (4 * size) && with s (4 * eventRoom) (length ev)
 
-pub record Fits (size : ℕ) (q s ev : List ℕ) : Type 0 where
+pub record EnoughBytes (size : ℕ) (q s ev : List ℕ) : Type 0 where
   pub request : length q ≡ 4 * size
   pub state : length s ≡ 4 * stateSize
   pub events : 4 * eventRoom ≤ length ev
 
-pub fits : (size : ℕ) (q s ev : List ℕ) → changeFits size q s ev ≡ true → Fits size q s ev
+pub fits : (size : ℕ) (q s ev : List ℕ) → changeFits size q s ev ≡ true → EnoughBytes size q s ev
 fits size q s ev h =
     let asked = eqb (length q) (4 * size) in
     let rest = and-right asked (with s (4 * eventRoom) (length ev)) h in
@@ -119,7 +120,7 @@ module _ (code size : ℕ) (q s ev : List ℕ) (t : ℕ) (asks : Asks code size 
   module _ (fit : changeFits size q s ev ≡ true) (l v : List ℕ) {r w e w′ e′ : List ℕ} {n : Numbers}
       (request : r ≡ put 0 (wordsOf q) l) (state : w ≡ put 0 (wordsOf s) v) (long : length v ≡ stateSize)
       (m : Gave (changeAt code .call (take (size - 0) (drop 0 r)) t eventRoom) w e n w′ e′) where
-    there : Fits size q s ev
+    there : EnoughBytes size q s ev
     there = fits size q s ev fit
 
     words : w ≡ wordsOf s
@@ -133,18 +134,18 @@ module _ (code size : ℕ) (q s ev : List ℕ) (t : ℕ) (asks : Asks code size 
         let same = ap (λ (x : Row). changeAt code .call x t eventRoom) asked ∙ sym (change-on code q t (length ev) .inside) in
         subst (λ (x : List ℕ). Gave (inner call) x e n w′ e′) words (subst (λ (d : Call). Gave d w e n w′ e′) same m)
 
-    told : Wrote (forEvents eventRoom) n (step (inner call) (wordsOf s) .reply .rows)
+    emitted : Wrote (forEvents eventRoom) n (step (inner call) (wordsOf s) .reply .rows)
     unfolding made
-    told =
+    emitted =
         let inside = change-on code q t (length ev) .inside in
         let events = ap (λ (d : Call). semantics d .lent) inside ∙ change-is code (wordsOf q) t eventRoom .buffer in
         let reply = step (inner call) (wordsOf s) .reply in
         wrote (forEvents eventRoom) reply n (subst (λ (k : Buffer). Shaped k reply) events (shaped (inner call) (wordsOf s))) (made .reply)
 
     -- its rows have room in both buffers
-    pub told-room : (Event.size * n .value ≤ length e′) × (Event.size * n .value ≤ eventRoom)
-    unfolding made told
-    told-room = (omega (arith, told .long, gave-room (inner call) (wordsOf s) e made), told .room)
+    pub emitted-room : (Event.size * n .value ≤ length e′) × (Event.size * n .value ≤ eventRoom)
+    unfolding made emitted
+    emitted-room = (omega (arith, emitted .long, gave-room (inner call) (wordsOf s) e made), emitted .room)
 
     -- where its numbers say so, the bytes are those of the words that it left
     pub still : Below 256 s → changeAt code .still (n .number) (n .value) ≡ true → s ≡ bytesOf w′
@@ -157,10 +158,10 @@ module _ (code size : ℕ) (q s ev : List ℕ) (t : ℕ) (asks : Asks code size 
 
     pub changed-yes : {s′ ev′ : List ℕ} → s′ ≡ bytesOf w′ → ev′ ≡ put 0 (bytesOf (take (Event.size * n .value) e′)) ev
         → Below 4294967296 w′ → Below 4294967296 e′ → Made call s ev n s′ ev′
-    unfolding lent made told
+    unfolding lent made emitted
     changed-yes p v f g =
         let written = cond-true (alters (semantics call .action)) (bytesOf w′) s (change-is code q t (length ev) .changes) in
-        made-yes call s ev lent (Event.size * n .value) (suffice ∙ fit) made (told .long) (p ∙ sym written) v f g
+        made-yes call s ev lent (Event.size * n .value) (suffice ∙ fit) made (emitted .long) (p ∙ sym written) v f g
 
 -- ---- one that writes one row at most, lent on the room of a row
 pub one-gave : (code : ℕ) (q : Row) (w e : List ℕ) {w′ e′ : List ℕ} (r : Reply) → oneAt code ≡ changeAt code

@@ -3,3 +3,4 @@ pub mod Made
 pub mod Quiet
 pub mod Changing
 pub mod Reading
+pub mod Message

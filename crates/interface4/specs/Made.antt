@@ -15,9 +15,9 @@ use Rattle.endian.specs.Endian.{wordsOf, bytesOf}
 use Rattle.endian.specs.Laws.{Below, length-wordsOf, bytes-none}
 use Rattle.definition.specs.Call.{Call, Reply, Numbers, numbers, refusal}
 use Rattle.definition.specs.Step.{Buffer, alters, semantics, step}
+use Rattle.definition.specs.Preservation.Shape.{Shaped}
 use Rattle.definition.specs.Noninterference.Public as Words
-use Rattle.definition.specs.Noninterference.Public.{Lent, width, many}
-use Rattle.definition.specs.Noninterference.ReadBack.{Shaped, roomOf}
+use Rattle.definition.specs.Noninterference.Public.{Lent, roomOf, width, many}
 use Rattle.definition_bytes.specs.Bytes.{onBytes, stateOn, suffices, inner, Made}
 
 -- ---- the rows that a call writes: how many words, and that they are of 32 bits
@@ -39,11 +39,11 @@ rows-below : (vs e′ e : List ℕ) → Below 4294967296 e′ → e′ ≡ put 0
 unfolding put
 rows-below vs e′ e g b = front-below vs (drop (0 + length vs) e) (subst (Below 4294967296) b g)
 
-rows-front : (vs e′ e : List ℕ) (k : ℕ) → k ≡ length vs → e′ ≡ put 0 vs e → take k e′ ≡ vs
+pub rows-front : (vs e′ e : List ℕ) (k : ℕ) → k ≡ length vs → e′ ≡ put 0 vs e → take k e′ ≡ vs
 unfolding put
 rows-front vs e′ e k long f = ap (take k) f ∙ take-at vs (drop (0 + length vs) e) k (sym long)
 
-no-rows : (b : List ℕ) → b ≡ put 0 (bytesOf (flat [])) b
+pub no-rows : (b : List ℕ) → b ≡ put 0 (bytesOf (flat [])) b
 unfolding flat
 no-rows b = bytes-none b
 

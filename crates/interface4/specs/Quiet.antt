@@ -1,4 +1,4 @@
--- `expire` on words changes nothing where it tells nothing.
+-- `expire` on words changes nothing where it emits nothing.
 -- Assumes nothing.
 use Prim.Native.Nat.{ℕ}
 use mathlib.Core.Path.{_≡_, refl, ap, _∙_}

@@ -18,20 +18,21 @@ use Rattle.endian.specs.Laws.{Below, words-below, bytes-none}
 use Rattle.definition.specs.Words.{stateSize}
 use Rattle.definition.specs.Call.{Call, Reply, Numbers, numbers, refusal}
 use Rattle.definition.specs.Step.{Buffer, unlent, forListing, forRow, alters, semantics, step, listingRoom}
+use Rattle.definition.specs.Preservation.Shape.{Shaped}
 use Rattle.definition.specs.Noninterference.Public as Words
 use Rattle.definition.specs.Noninterference.Public.{Lent, width, many}
-use Rattle.definition.specs.Noninterference.ReadBack.{Shaped, shaped, roomOf}
+use Rattle.definition.specs.Noninterference.ReadBack.{shaped}
 use Rattle.definition_bytes.specs.Bytes.{stateFits, rowWords, with, suffices, inner, Made}
 use Rattle.call_dispatch.specs.Numbered.{findAt, askAt}
 use Rattle.call_dispatch.specs.Laws.{Reads, find-is, ask-is}
 use Rattle.interface4.specs.Made.{Wrote, wrote, part-words, made-gave, made-no, made-yes}
 
 -- ---- as many bytes as there must be
-pub record Fits (n : ℕ) (s out : List ℕ) : Type 0 where
+pub record EnoughRoom (n : ℕ) (s out : List ℕ) : Type 0 where
   pub state : length s ≡ 4 * stateSize
   pub room : n ≤ length out
 
-pub fits : (n : ℕ) (s out : List ℕ) → with s n (length out) ≡ true → Fits n s out
+pub fits : (n : ℕ) (s out : List ℕ) → with s n (length out) ≡ true → EnoughRoom n s out
 fits n s out h =
     record {
       state = eqb-true (length s) (4 * stateSize) (and-left (stateFits s) (leb n (length out)) h);

@@ -19,7 +19,7 @@ setBit k f = clearBit k f + 2 ^ k
 abbrev pub flag : ℕ → ℕ
 flag k = 2 ^ k
 
--- ---- netlink's NLM_F_* (linux/netlink.h; the Rust's F_*): the bits of a request for a route, and of what is told of a new one
+-- ---- netlink's NLM_F_* (linux/netlink.h; the Rust's F_*): the bits of a request for a route, and of what is emitted for a new one
 -- NLM_F_REPLACE, 0x100
 abbrev pub replaceBit : ℕ
 replaceBit = 8

@@ -1,9 +1,9 @@
 -- The requests that a host hands over as words, and when one is fit (document 01: otherwise 202). Every word is a value of 32 bits;
 -- a field that is narrower in the reference keeps to its width, and what is absent is 0.
 use Prim.Native.Nat.{ℕ, _+_, _*_, _^_}
-use mathlib.Core.Bool.{Bool, _&&_}
+use mathlib.Core.Bool.{Bool, _&&_, not}
 use mathlib.Core.List.{List}
-use lib.Dec.{leb, ltb}
+use lib.Dec.{eqb, leb, ltb}
 use lib.ListN.{getD, take, drop}
 use Rattle.lists.specs.Lists.{Row, all, chop}
 use Rattle.layout.specs.Address.{optional, fitLabel, prefix, broadcastPresent, broadcast, scope, proto, labelLength, label}
@@ -35,6 +35,10 @@ fitAddV4 q =
     && fitLabel (labelLength q) (label q)
     && leb (replaceAsked q) 1
     && leb (upAtAddV4 q) 1
+
+-- Linux turns down an address that is gone at once, and one that is preferred for longer than it is valid (document 02, Paper 2)
+abbrev pub validLifetimes : Row → Bool
+validLifetimes q = not (eqb (validAsked q) 0) && leb (preferredAsked q) (validAsked q)
 
 -- ---- del_v4
 abbrev pub delV4Size : ℕ

@@ -18,7 +18,7 @@ use Rattle.call_reply.specs.declared.Reply.{Reply}
 use Rattle.call_reply.specs.Answer.{replyOf}
 use Rattle.call_dispatch.specs.Numbered.{callBy, Did}
 use Rattle.recorded.specs.declared.Verdict.the-variants.{Damaged, Other, Same}
-use Rattle.recorded.specs.Record.{heldSize, checkFrom, fit, Fit, setAll, setsOf, restarted, beforeOf, lentOf, changesOf, rowsOf, resultOf, heldBy, bufferBy, part, checkOf, afterOf, sameReply, agrees, verdictOf, heldAfter, bufferAfter}
+use Rattle.recorded.specs.Record.{heldSize, checkFrom, fit, Bounds, setAll, setsOf, restarted, beforeOf, lentOf, changesOf, rowsOf, resultOf, heldBy, bufferBy, part, checkOf, afterOf, sameReply, agrees, verdictOf, heldAfter, bufferAfter}
 
 -- the check of the words so far and one more
 pub check-next : (l : List ℕ) (i sum : ℕ) → i < length l → checkFrom sum (drop i l) ≡ checkFrom ((sum * 16777619 + getD l i 0) % 4294967296) (drop (i + 1) l)
@@ -65,7 +65,7 @@ ands-at a [] h k = refl
 ands-at a (b ∷ l) h zero = and-right a b (ands-first (a && b) l h)
 ands-at a (b ∷ l) h (suc k) = ands-at (a && b) l h k
 
-pub fits : (r : Row) → fit r ≡ true → Fit r
+pub fits : (r : Row) → fit r ≡ true → Bounds r
 unfolding fit
 fits r h =
     let first = leb 16 (length r) in

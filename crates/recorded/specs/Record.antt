@@ -64,7 +64,7 @@ fit r =
     && leb (getD r 12 0) (length r)
 
 -- what of it the code goes by
-pub record Fit (r : Row) : Type 0 where
+pub record Bounds (r : Row) : Type 0 where
   pub long : 16 ≤ length r
   pub few : length r ≤ 4096
   pub state : getD r 4 0 ≤ heldSize

@@ -10,7 +10,7 @@ ghost use Prim.Native.Nat.{_≤_};
 ghost use lib.ListN.{length, getD, set};
 ghost use Rattle.definition.specs.Step.{eventRoom};
 ghost use Rattle.call_reply.specs.Answer.{replyOf};
-ghost use Rattle.recorded.specs.Record.{heldSize, checkOf, fit, Fit, setAll, setsOf, lentOf, changesOf, rowsOf, restarted, beforeOf, afterOf, resultOf, heldBy, bufferBy, sameReply, agrees as Record·agrees, verdictOf, heldAfter, bufferAfter};
+ghost use Rattle.recorded.specs.Record.{heldSize, checkOf, fit, Bounds, setAll, setsOf, lentOf, changesOf, rowsOf, restarted, beforeOf, afterOf, resultOf, heldBy, bufferBy, sameReply, agrees as Record·agrees, verdictOf, heldAfter, bufferAfter};
 
 // The words that a list's calls are made on: a state and one word more, so that one too many can be lent.
 pub const HELD_WORDS: usize = STATE_WORDS + 1;
@@ -91,7 +91,7 @@ fn set_pairs(s: &mut [u32], pairs: &[u32])
 }
 
 fn sets(r: &[u32]) -> &[u32]
-    requires { ⌜ Fit (now r) ⌝ }
+    requires { ⌜ Bounds (now r) ⌝ }
     ensures { λ p. ⌜ now p ≡ setsOf (now (r .entry)) ⌝ }
 {
     let e = words::wide(r[record::SETS_END]);
@@ -99,7 +99,7 @@ fn sets(r: &[u32]) -> &[u32]
 }
 
 fn lent(r: &[u32]) -> &[u32]
-    requires { ⌜ Fit (now r) ⌝ }
+    requires { ⌜ Bounds (now r) ⌝ }
     ensures { λ p. ⌜ now p ≡ lentOf (now (r .entry)) ⌝ }
 {
     let a = words::wide(r[record::SETS_END]);
@@ -108,7 +108,7 @@ fn lent(r: &[u32]) -> &[u32]
 }
 
 fn changed(r: &[u32]) -> &[u32]
-    requires { ⌜ Fit (now r) ⌝ }
+    requires { ⌜ Bounds (now r) ⌝ }
     ensures { λ p. ⌜ now p ≡ changesOf (now (r .entry)) ⌝ }
 {
     let a = words::wide(r[record::LENT_END]);
@@ -117,7 +117,7 @@ fn changed(r: &[u32]) -> &[u32]
 }
 
 fn rows(r: &[u32]) -> &[u32]
-    requires { ⌜ Fit (now r) ⌝ }
+    requires { ⌜ Bounds (now r) ⌝ }
     ensures { λ p. ⌜ now p ≡ rowsOf (now (r .entry)) ⌝ }
 {
     let a = words::wide(r[record::CHANGES_END]);
@@ -126,7 +126,7 @@ fn rows(r: &[u32]) -> &[u32]
 
 // The held words all zero, where the record begins anew.
 fn restart(r: &[u32], held: &mut [u32])
-    requires { ⌜ Fit (now r) ⌝ }
+    requires { ⌜ Bounds (now r) ⌝ }
     ensures { λ _. ⌜ now (held .exit) ≡ restarted (now (r .entry)) (now (held .entry)) ⌝ }
 {
     if r[record::RESTARTS] != 1 {
@@ -138,7 +138,7 @@ fn restart(r: &[u32], held: &mut [u32])
 
 // The held words as they are before the call.
 fn begin(r: &[u32], held: &mut [u32])
-    requires { ⌜ Fit (now r) ⌝ }
+    requires { ⌜ Bounds (now r) ⌝ }
     ensures { λ _. ⌜ now (held .exit) ≡ beforeOf (now (r .entry)) (now (held .entry)) ⌝ }
 {
     restart(r, held);
@@ -147,7 +147,7 @@ fn begin(r: &[u32], held: &mut [u32])
 
 // The record's call on the first of the held words and the first of the buffer.
 fn answer(r: &[u32], held: &mut [u32], buffer: &mut [u32]) -> Reply
-    requires { ⌜ Fit (now r) × (length (now held) ≡ heldSize) × (length (now buffer) ≡ eventRoom) ⌝ }
+    requires { ⌜ Bounds (now r) × (length (now held) ≡ heldSize) × (length (now buffer) ≡ eventRoom) ⌝ }
     ensures { λ x. ⌜ x ≡ replyOf (resultOf (now (r .entry)) (now (held .entry)) .reply) ⌝ }
     ensures { λ _. ⌜ now (held .exit) ≡ heldBy (now (r .entry)) (now (held .entry)) ⌝ }
     ensures { λ _. ⌜ now (buffer .exit) ≡ bufferBy (now (r .entry)) (now (held .entry)) (now (buffer .entry)) ⌝ }
@@ -177,7 +177,7 @@ fn same_reply(r: &[u32], reply: Reply) -> bool
 
 // Whether the call answers, changes and writes what the record says, and nothing else. The held words are afterwards as recorded.
 fn agrees(r: &[u32], held: &mut [u32], buffer: &mut [u32]) -> bool
-    requires { ⌜ Fit (now r) × (length (now held) ≡ heldSize) × (length (now buffer) ≡ eventRoom) ⌝ }
+    requires { ⌜ Bounds (now r) × (length (now held) ≡ heldSize) × (length (now buffer) ≡ eventRoom) ⌝ }
     ensures { λ b. ⌜ b ≡ Record·agrees (now (r .entry)) (now (held .entry)) (now (buffer .entry)) ⌝ }
     ensures { λ _. ⌜ now (held .exit) ≡ afterOf (now (r .entry)) (now (held .entry)) ⌝ }
     ensures { λ _. ⌜ now (buffer .exit) ≡ bufferBy (now (r .entry)) (beforeOf (now (r .entry)) (now (held .entry))) (now (buffer .entry)) ⌝ }

@@ -123,7 +123,7 @@ fn count(counts: &mut [u64; 16], code: u32)
 }
 
 // A record of some words: whether the list can be read on behind it.
-fn turn(
+fn iteration(
     i: u32,
     record: &[u32],
     held: &mut [u32; HELD_WORDS],
@@ -166,7 +166,7 @@ fn step(
         say_record(i, b" is not there\n");
         return false;
     }
-    turn(i, &record[..n], held, same, other)
+    iteration(i, &record[..n], held, same, other)
 }
 
 // The records one after the other: whether all can be read.

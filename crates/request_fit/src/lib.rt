@@ -11,14 +11,14 @@ use layout::del_route4;
 use layout::del_v4;
 use layout::route;
 ghost use mathlib.Core.Path.{_≡_};
-ghost use mathlib.Core.Bool.{_&&_};
+ghost use mathlib.Core.Bool.{cond, _&&_};
 ghost use lib.Dec.{leb, ltb};
 ghost use Prim.Native.Nat.{_≤_};
 ghost use lib.ListN.{length};
-ghost use Rattle.layout.specs.Request.{fitAddV4, fitDelV4, fitRouteWords, fitPairs, pairCount, fitAddRoute4, fitDelRoute4};
+ghost use Rattle.layout.specs.Request.{fitDelV4, fitRouteWords, fitPairs, pairCount, fitAddRoute4, fitDelRoute4};
 ghost use Rattle.layout.specs.Request.{addV4Size, delV4Size, addRoute4Size, delRoute4Size};
 ghost use Rattle.layout.specs.Address.{optional};
-ghost use Rattle.definition.specs.Step.{unless, clockLimit};
+ghost use Rattle.definition.specs.Step.{unless, invalid, addV4Refusal, clockLimit};
 
 // A check's number where it fails, 0 where it passes.
 fn unless(passes: bool, n: u32) -> u32
@@ -55,8 +55,18 @@ pub fn fit_expire(clock: u64) -> u32
     unless(clock <= CLOCK_LIMIT, 202)
 }
 
+// A request's fields come first, then what Linux turns down (document 02, Paper 2).
+fn add_v4_refusal(fit: bool, lasts: bool) -> u32
+    ensures { λ r. ⌜ r ≡ cond fit (unless lasts invalid) 202 ⌝ }
+{
+    if fit {
+        return unless(lasts, layout::INVALID);
+    }
+    202
+}
+
 pub fn fit_add_v4(q: &[u32]) -> u32
-    ensures { λ r. ⌜ (length (now (q .entry)) ≡ addV4Size → r ≡ unless (fitAddV4 (now (q .entry))) 202) ⌝ }
+    ensures { λ r. ⌜ (length (now (q .entry)) ≡ addV4Size → r ≡ addV4Refusal (now (q .entry))) ⌝ }
 {
     if q.len() != ADD_V4_WORDS {
         return 202;
@@ -74,7 +84,8 @@ pub fn fit_add_v4(q: &[u32]) -> u32
         )
         & (q[add_v4::REPLACE] <= 1)
         & (q[add_v4::UP] <= 1);
-    unless(fit, 202)
+    let lasts = (q[add_v4::VALID] != 0) & (q[add_v4::PREFERRED] <= q[add_v4::VALID]);
+    add_v4_refusal(fit, lasts)
 }
 
 pub fn fit_del_v4(q: &[u32]) -> u32

@@ -87,8 +87,8 @@ pub row-again : (a : Row) → fitAddress a ≡ true → getD a 16 0 < 2 ^ 32 →
 row-again a h made changed =
     let f = fields-address a h in
     rw (
-      mark-again (broadcastPresent a) (broadcast a) (f .named),
-      value-again (broadcastPresent a) (broadcast a) (f .named),
+      mark-again (broadcastPresent a) (broadcast a) (f .announced),
+      value-again (broadcastPresent a) (broadcast a) (f .announced),
       low-clock (getD a 16 0) (getD a 17 0) made,
       high-clock (getD a 16 0) (getD a 17 0) made,
       low-clock (getD a 18 0) (getD a 19 0) changed,

@@ -20,7 +20,7 @@ use Rattle.layout.specs.Address.{address, prefix}
 use Rattle.definition.specs.Reference.Lookup.{localKind, broadcastKind}
 use Rattle.definition.specs.Reference.Addresses.{kernelRoute, localRoute, prefixRoute, upRoutes, candidates, primaryOf, only, namesBroadcast}
 use Rattle.definition.specs.Reference.Removal.{anyPriority, ofKind, leaving}
-use Rattle.row_subnet.specs.Brings.{bringsPrefix, bringsBroadcast}
+use Rattle.row_subnet.specs.OwnRoutes.{hasPrefixRoute, hasBroadcastRoutes}
 use Rattle.row_candidates.specs.Rows.{namedRoutes, prefixRoutes, subnetRoutes, scopeOf, Appended}
 
 -- ---- a row's words
@@ -75,10 +75,10 @@ module _ (source : ℕ) (a : Row) where
   named-sized = only-sized (namesBroadcast a) _ (route-long (Address.broadcast a) 32 0 broadcastKind source)
 
   prefix-sized : (priority : ℕ) → sized 32 (prefixRoutes priority source a) ≡ true
-  prefix-sized priority = only-sized (bringsPrefix a) _ (route-long (network (address a) (prefix a)) (prefix a) priority localKind source)
+  prefix-sized priority = only-sized (hasPrefixRoute a) _ (route-long (network (address a) (prefix a)) (prefix a) priority localKind source)
 
   subnet-sized : sized 32 (subnetRoutes source a) ≡ true
-  subnet-sized = only-sized (bringsBroadcast a) _ (route-long (broadcast (address a) (prefix a)) 32 0 broadcastKind source)
+  subnet-sized = only-sized (hasBroadcastRoutes a) _ (route-long (broadcast (address a) (prefix a)) 32 0 broadcastKind source)
 
   up-rows : upRoutes source a ≡ (namedRoutes source a ++ prefixRoutes (Address.priority a) source a) ++ subnetRoutes source a
   unfolding upRoutes prefixRoute
@@ -141,7 +141,7 @@ module _ (l : List Row) (a : Row) (source : ℕ) (given : source ≡ primaryOf l
   unfolding leaving upRoutes prefixRoute
   leaving-rows =
       rw (← given)
-      (going (namesBroadcast a) (bringsPrefix a) (bringsBroadcast a) (Address.broadcast a) (network (address a) (prefix a)) (prefix a) (Address.priority a) (broadcast (address a) (prefix a)) source (localRoute source a))
+      (going (namesBroadcast a) (hasPrefixRoute a) (hasBroadcastRoutes a) (Address.broadcast a) (network (address a) (prefix a)) (prefix a) (Address.priority a) (broadcast (address a) (prefix a)) source (localRoute source a))
 
   two-sized : sized 32 (prefixRoutes 0 source a ++ namedRoutes source a) ≡ true
   two-sized = all-append (λ r. eqb (length r) 32) (prefixRoutes 0 source a) (namedRoutes source a) (prefix-sized source a 0) (named-sized source a)

@@ -12,7 +12,7 @@ use Rattle.layout.specs.Address as Address
 use Rattle.layout.specs.Address.{address, prefix}
 use Rattle.definition.specs.Reference.Lookup.{localKind, broadcastKind}
 use Rattle.definition.specs.Reference.Addresses.{linkScope, hostScope, kernelRoute, only, namesBroadcast}
-use Rattle.row_subnet.specs.Brings.{bringsPrefix, bringsBroadcast}
+use Rattle.row_subnet.specs.OwnRoutes.{hasPrefixRoute, hasBroadcastRoutes}
 
 -- the scope of a route of the kernel's
 abbrev pub scopeOf : ℕ → ℕ
@@ -26,10 +26,10 @@ abbrev pub namedRoutes : ℕ → Row → List Row
 namedRoutes source a = only (namesBroadcast a) (kernelRoute (Address.broadcast a) 32 0 broadcastKind source)
 
 abbrev pub prefixRoutes : ℕ → ℕ → Row → List Row
-prefixRoutes priority source a = only (bringsPrefix a) (subnetRoute priority source a)
+prefixRoutes priority source a = only (hasPrefixRoute a) (subnetRoute priority source a)
 
 abbrev pub subnetRoutes : ℕ → Row → List Row
-subnetRoutes source a = only (bringsBroadcast a) (kernelRoute (broadcast (address a) (prefix a)) 32 0 broadcastKind source)
+subnetRoutes source a = only (hasBroadcastRoutes a) (kernelRoute (broadcast (address a) (prefix a)) 32 0 broadcastKind source)
 
 -- behind k rows of 32 words the rows were written, which makes r rows
 pub record Appended (rows : List Row) (k r : ℕ) (before after : List ℕ) : Type 0 where

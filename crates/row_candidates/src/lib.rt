@@ -113,7 +113,7 @@ fn append_prefix(out: &mut [u32], k: usize, a: &[u32], priority: u32, source: u3
     ensures { λ r. ⌜ (k ≤ r) × (r ≤ k + 1) ⌝ }
     ensures { λ r. ⌜ Appended (prefixRoutes priority source (now (a .entry))) k r (now (out .entry)) (now (out .exit)) ⌝ }
 {
-    if !row_subnet::brings_prefix(a) {
+    if !row_subnet::has_prefix_route(a) {
         return k;
     }
     prefix_route4(out, ROUTE_WORDS * k, a, priority, source);
@@ -127,7 +127,7 @@ fn append_subnet(out: &mut [u32], k: usize, a: &[u32], source: u32) -> usize
     ensures { λ r. ⌜ (k ≤ r) × (r ≤ k + 1) ⌝ }
     ensures { λ r. ⌜ Appended (subnetRoutes source (now (a .entry))) k r (now (out .entry)) (now (out .exit)) ⌝ }
 {
-    if !row_subnet::brings_broadcast(a) {
+    if !row_subnet::has_broadcast_routes(a) {
         return k;
     }
     let last = prefix::broadcast4(a[address::ADDRESS], a[address::PREFIX]);

@@ -16,7 +16,7 @@ use Rattle.lists.specs.Pass.{part, part-fit, laid-rows}
 use Rattle.layout.specs.Address.{local, prefix, secondary, fitAddress}
 use Rattle.definition.specs.Reference.Addresses.{primaryOf}
 use Rattle.definition.specs.Preservation.Fit.{fields-address, length-address}
-use Rattle.row_subnet.specs.Brings.{primaryFor}
+use Rattle.row_subnet.specs.OwnRoutes.{primaryFor}
 
 -- a row that fits has 20 words and a prefix up to 32
 pub fit-short : (a : Row) → fitAddress a ≡ true → (length a ≡ 20) × (prefix a ≤ 32)

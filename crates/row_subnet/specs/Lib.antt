@@ -1,2 +1,2 @@
-pub mod Brings
+pub mod OwnRoutes
 pub mod Laws

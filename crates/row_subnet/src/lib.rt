@@ -10,7 +10,7 @@ ghost use Rattle.lists.specs.Laid.{Laid, Lays};
 ghost use Rattle.lists.specs.Place.{placeOf};
 ghost use Rattle.layout.specs.Address.{prefix, secondary, noPrefixRoute, fitAddress};
 ghost use Rattle.definition.specs.Reference.Addresses.{covers, sameSubnet, ownNetwork, namesBroadcast, primaryOf};
-ghost use Rattle.row_subnet.specs.Brings.{bringsPrefix, bringsBroadcast, primaryFor};
+ghost use Rattle.row_subnet.specs.OwnRoutes.{hasPrefixRoute, hasBroadcastRoutes, primaryFor};
 
 // rtnetlink's IFA_F_NOPREFIXROUTE.
 const NO_PREFIX_ROUTE: u32 = 0x200;
@@ -67,9 +67,9 @@ pub fn own_network(a: &[u32]) -> bool
 }
 
 // Whether it brings a prefix route.
-pub fn brings_prefix(a: &[u32]) -> bool
+pub fn has_prefix_route(a: &[u32]) -> bool
     requires { ⌜ (length (now a) ≡ 20) × (prefix (now a) ≤ 32) ⌝ }
-    ensures { λ r. ⌜ r ≡ bringsPrefix (now (a .entry)) ⌝ }
+    ensures { λ r. ⌜ r ≡ hasPrefixRoute (now (a .entry)) ⌝ }
 {
     let own = own_network(a);
     let second = secondary(a);
@@ -78,9 +78,9 @@ pub fn brings_prefix(a: &[u32]) -> bool
 }
 
 // Whether it brings its subnet's broadcast route: none for prefix 31 (RFC 3021).
-pub fn brings_broadcast(a: &[u32]) -> bool
+pub fn has_broadcast_routes(a: &[u32]) -> bool
     requires { ⌜ (length (now a) ≡ 20) × (prefix (now a) ≤ 32) ⌝ }
-    ensures { λ r. ⌜ r ≡ bringsBroadcast (now (a .entry)) ⌝ }
+    ensures { λ r. ⌜ r ≡ hasBroadcastRoutes (now (a .entry)) ⌝ }
 {
     let own = own_network(a);
     let second = secondary(a);

@@ -13,7 +13,7 @@ use Rattle.kind.specs.Kind.{errorOf}
 use Rattle.lists.specs.Laid.{Laid, laid-word}
 use Rattle.layout.specs.Route.{kind, fitRoute}
 use Rattle.definition.specs.State.{State}
-use Rattle.definition.specs.Reference.Lookup.{Flow, Found, route, refused, answer, together, settled, ruling, lookupIn, listed, mainTable, defaultTable, netUnreachable, again}
+use Rattle.definition.specs.Reference.Lookup.{Flow, Found, route, noRoute, answer, together, settled, ruling, lookupIn, listed, mainTable, defaultTable, netUnreachable, again}
 use Rattle.lists.specs.Place.{nothing-from, something-at}
 use Rattle.lists.specs.Pass.{laid-rows}
 use Rattle.rows_lookup.specs.declared.Ruling.{Ruling}
@@ -30,7 +30,7 @@ rulingOf (some r) =
 -- a row's place stands for the row
 abbrev pub foundBy : List Row → Looked → Found
 foundBy l (At i) = route (getD l i [])
-foundBy l (Refused n) = refused n
+foundBy l (Refused n) = noRoute n
 
 -- a place that is answered is one of the rows
 abbrev pub placed : ℕ → Looked → Type 0
@@ -62,7 +62,7 @@ module _ (w : List ℕ) (n : ℕ) (long : length w ≡ 32 * n) (l : List Row) (h
 abbrev pub lookupRows : Bool → List Row → Flow → Found
 lookupRows b l f =
     cond (settled (answer (together mainTable) f l)) (ruling (answer (together mainTable) f l))
-    (cond (b && settled (answer (together defaultTable) f l)) (ruling (answer (together defaultTable) f l)) (refused netUnreachable))
+    (cond (b && settled (answer (together defaultTable) f l)) (ruling (answer (together defaultTable) f l)) (noRoute netUnreachable))
 
 pub lookup-rows : (st : State) (f : Flow) → lookupIn st f ≡ lookupRows (listed defaultTable st) (st .routes) f
 unfolding lookupIn
@@ -81,7 +81,7 @@ module _ (r : Row) where
       let bad : _≡_ {A = ℕ} 0 1 = cc in
       absurd (omega arith)
 
-  refuse-is : (n : ℕ) (a b : Bool) → eqb (errorOf (kind r)) 0 ≡ a → eqb (errorOf (kind r)) again ≡ b → cond a Route (cond b Again (Refuse (errorOf (kind r)))) ≡ Refuse n → (settled (some r) ≡ true) × (ruling (some r) ≡ refused n)
+  refuse-is : (n : ℕ) (a b : Bool) → eqb (errorOf (kind r)) 0 ≡ a → eqb (errorOf (kind r)) again ≡ b → cond a Route (cond b Again (Refuse (errorOf (kind r)))) ≡ Refuse n → (settled (some r) ≡ true) × (ruling (some r) ≡ noRoute n)
   refuse-is n true b p q e =
       let bad : _≡_ {A = ℕ} 0 1 = cc in
       absurd (omega arith)
@@ -109,7 +109,7 @@ ruled-route (some s) e r q =
     let same : s ≡ r = cc in
     rw (← same) (route-is s (eqb (errorOf (kind s)) 0) (eqb (errorOf (kind s)) again) refl refl e)
 
-pub ruled-refuse : (o : Option Row) (n : ℕ) → rulingOf o ≡ Refuse n → (settled o ≡ true) × (ruling o ≡ refused n)
+pub ruled-refuse : (o : Option Row) (n : ℕ) → rulingOf o ≡ Refuse n → (settled o ≡ true) × (ruling o ≡ noRoute n)
 ruled-refuse none n e =
     let bad : _≡_ {A = ℕ} 0 1 = cc in
     absurd (omega arith)
@@ -147,12 +147,12 @@ module _ (l : List Row) (f : Flow) (b : Bool) (u : ℕ) (upper : answer (λ v. e
       let k = ruled-route (getElem? l u) (sym e) (getD l u []) (something-at l u [] (route-there l u (sym e))) in
       rw (at-upper, k .0, k .1)
 
-  pub upper-refuse : (n : ℕ) → Refuse n ≡ rulingOf (getElem? l u) → refused n ≡ lookupRows b l f
+  pub upper-refuse : (n : ℕ) → Refuse n ≡ rulingOf (getElem? l u) → noRoute n ≡ lookupRows b l f
   upper-refuse n e =
       let k = ruled-refuse (getElem? l u) n (sym e) in
       rw (at-upper, k .0, k .1)
 
-  pub upper-last : Again ≡ rulingOf (getElem? l u) → b ≡ false → refused netUnreachable ≡ lookupRows b l f
+  pub upper-last : Again ≡ rulingOf (getElem? l u) → b ≡ false → noRoute netUnreachable ≡ lookupRows b l f
   upper-last e q = rw (at-upper, ruled-again (getElem? l u) (sym e), q)
 
   module _ (past : Again ≡ rulingOf (getElem? l u)) (on : b ≡ true) (v : ℕ) (lower : answer (λ t. eqb t 253 || eqb t 253) f l ≡ getElem? l v) where
@@ -164,12 +164,12 @@ module _ (l : List Row) (f : Flow) (b : Bool) (u : ℕ) (upper : answer (λ v. e
         let k = ruled-route (getElem? l v) (sym e) (getD l v []) (something-at l v [] (route-there l v (sym e))) in
         rw (at-upper, ruled-again (getElem? l u) (sym past), on, at-lower, k .0, k .1)
 
-    pub lower-refuse : (n : ℕ) → Refuse n ≡ rulingOf (getElem? l v) → refused n ≡ lookupRows b l f
+    pub lower-refuse : (n : ℕ) → Refuse n ≡ rulingOf (getElem? l v) → noRoute n ≡ lookupRows b l f
     lower-refuse n e =
         let k = ruled-refuse (getElem? l v) n (sym e) in
         rw (at-upper, ruled-again (getElem? l u) (sym past), on, at-lower, k .0, k .1)
 
-    pub lower-last : Again ≡ rulingOf (getElem? l v) → refused netUnreachable ≡ lookupRows b l f
+    pub lower-last : Again ≡ rulingOf (getElem? l v) → noRoute netUnreachable ≡ lookupRows b l f
     lower-last e =
         rw (at-upper, ruled-again (getElem? l u) (sym past), on, at-lower, ruled-again (getElem? l v) (sym e))
 

@@ -64,7 +64,7 @@ module _ (w : List ℕ) (n : ℕ) (long : length w ≡ 32 * n) (b : Bool) (l k :
 
   pub source-refused : (m : ℕ) → found ≡ Refused m → 0x7f000001 ≡ sourceRows b l k ip
   source-refused m q =
-      let answer : lookupRows b k (flowTo ip) ≡ Found.refused m = sym e ∙ ap (foundBy k) q in
+      let answer : lookupRows b k (flowTo ip) ≡ Found.noRoute m = sym e ∙ ap (foundBy k) q in
       rw answer
 
 -- the row there has 32 words

@@ -15,7 +15,7 @@ use Rattle.layout.specs.Route.{dst, len, kind}
 use Rattle.definition.specs.Reference.Lookup.{localKind, broadcastKind}
 use Rattle.definition.specs.Reference.Addresses.{kernelRoute, localRoute, prefixRoute, upRoutes, candidates, primaryOf, only, namesBroadcast}
 use Rattle.definition.specs.Reference.Removal.{sameRoute, wanted}
-use Rattle.row_subnet.specs.Brings.{bringsPrefix, bringsBroadcast}
+use Rattle.row_subnet.specs.OwnRoutes.{hasPrefixRoute, hasBroadcastRoutes}
 use Rattle.rows_wanted.specs.Wants.{wantsLocal, wantsRow}
 
 -- one of four rows, of which three may be missing
@@ -49,16 +49,16 @@ by-kind false false w x y z h m p q s apart = simp (and-true, and-false, or-fals
 pub wants-candidate : (l : List Row) (r a : Row) → wantsRow r a ≡ any (sameRoute r) (candidates l true a)
 unfolding candidates upRoutes localRoute prefixRoute kernelRoute
 wants-candidate l r a =
-    sym (some-of (sameRoute r) (localRoute (primaryOf l a) a) (kernelRoute (Address.broadcast a) 32 0 broadcastKind (primaryOf l a)) (prefixRoute (primaryOf l a) a) (kernelRoute (broadcast (address a) (prefix a)) 32 0 broadcastKind (primaryOf l a)) (namesBroadcast a) (bringsPrefix a) (bringsBroadcast a)
-    ∙ by-kind (eqb (kind r) localKind) (eqb (kind r) broadcastKind) (eqb (dst r) (local a)) (eqb (dst r) (Address.broadcast a)) (eqb (dst r) (network (address a) (prefix a))) (eqb (dst r) (broadcast (address a) (prefix a))) (eqb (len r) 32) (eqb (len r) (prefix a)) (namesBroadcast a) (bringsPrefix a) (bringsBroadcast a)
+    sym (some-of (sameRoute r) (localRoute (primaryOf l a) a) (kernelRoute (Address.broadcast a) 32 0 broadcastKind (primaryOf l a)) (prefixRoute (primaryOf l a) a) (kernelRoute (broadcast (address a) (prefix a)) 32 0 broadcastKind (primaryOf l a)) (namesBroadcast a) (hasPrefixRoute a) (hasBroadcastRoutes a)
+    ∙ by-kind (eqb (kind r) localKind) (eqb (kind r) broadcastKind) (eqb (dst r) (local a)) (eqb (dst r) (Address.broadcast a)) (eqb (dst r) (network (address a) (prefix a))) (eqb (dst r) (broadcast (address a) (prefix a))) (eqb (len r) 32) (eqb (len r) (prefix a)) (namesBroadcast a) (hasPrefixRoute a) (hasBroadcastRoutes a)
     (λ e f. omega (arith, eqb-true (kind r) localKind e, eqb-true (kind r) broadcastKind f)))
 
 -- what the code asks: another length leaves the own address alone
 pub other-length : (a : Row) (dst len : ℕ) → eqb dst (local a) && eqb len 32 ≡ false → eqb len (prefix a) ≡ false → false ≡ wantsLocal a dst len
-other-length a dst len e f = rw (e, f, and-false (eqb dst (network (address a) (prefix a))), and-false (bringsPrefix a))
+other-length a dst len e f = rw (e, f, and-false (eqb dst (network (address a) (prefix a))), and-false (hasPrefixRoute a))
 
 pub same-length : (a : Row) (dst len : ℕ) → eqb dst (local a) && eqb len 32 ≡ false → eqb len (prefix a) ≡ true
-    → bringsPrefix a && eqb dst (network (address a) (prefix a)) ≡ wantsLocal a dst len
+    → hasPrefixRoute a && eqb dst (network (address a) (prefix a)) ≡ wantsLocal a dst len
 same-length a dst len e f = rw (e, f, and-true (eqb dst (network (address a) (prefix a))))
 
 -- ---- all of them

@@ -10,17 +10,17 @@ use Rattle.layout.specs.Address.{local, address, prefix}
 use Rattle.layout.specs.Route.{dst, len, kind}
 use Rattle.definition.specs.Reference.Lookup.{localKind, broadcastKind}
 use Rattle.definition.specs.Reference.Addresses.{namesBroadcast}
-use Rattle.row_subnet.specs.Brings.{bringsPrefix, bringsBroadcast}
+use Rattle.row_subnet.specs.OwnRoutes.{hasPrefixRoute, hasBroadcastRoutes}
 
 abbrev pub wantsLocal : Row → ℕ → ℕ → Bool
 wantsLocal a dst len =
     (eqb dst (local a) && eqb len 32)
-    || (bringsPrefix a && (eqb dst (network (address a) (prefix a)) && eqb len (prefix a)))
+    || (hasPrefixRoute a && (eqb dst (network (address a) (prefix a)) && eqb len (prefix a)))
 
 abbrev pub wantsBroadcast : Row → ℕ → ℕ → Bool
 wantsBroadcast a dst len =
     eqb len 32
-    && ((namesBroadcast a && eqb dst (Address.broadcast a)) || (bringsBroadcast a && eqb dst (broadcast (address a) (prefix a))))
+    && ((namesBroadcast a && eqb dst (Address.broadcast a)) || (hasBroadcastRoutes a && eqb dst (broadcast (address a) (prefix a))))
 
 abbrev pub wants : Row → ℕ → ℕ → ℕ → Bool
 wants a dst len kind =

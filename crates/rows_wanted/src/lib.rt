@@ -27,7 +27,7 @@ fn wants_local(a: &[u32], dst: u32, len: u32) -> bool
         return false;
     }
     let network = prefix::network4(a[address::ADDRESS], a[address::PREFIX]);
-    let brings = row_subnet::brings_prefix(a);
+    let brings = row_subnet::has_prefix_route(a);
     brings & (dst == network)
 }
 
@@ -40,7 +40,7 @@ fn wants_broadcast(a: &[u32], dst: u32, len: u32) -> bool
         return false;
     }
     let names = row_subnet::names_broadcast(a);
-    let brings = row_subnet::brings_broadcast(a);
+    let brings = row_subnet::has_broadcast_routes(a);
     let last = prefix::broadcast4(a[address::ADDRESS], a[address::PREFIX]);
     (names & (dst == a[address::BROADCAST])) | (brings & (dst == last))
 }

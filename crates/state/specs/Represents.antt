@@ -15,7 +15,7 @@ use Rattle.layout.specs.Route.{fitRoute}
 use Rattle.definition.specs.State.{State}
 use Rattle.definition.specs.Words.{encode, decode, wellFormed, addressCount, routeCount, tableCount, fitState, addressesSize, baseSize, routesAt, routesSize, tablesAt}
 use Rattle.definition.specs.Preservation.Fit.{fit-state, sized-addresses, sized-routes}
-use Rattle.definition.specs.Preservation.Encode.{Good, encode-decode, good-decode}
+use Rattle.definition.specs.Preservation.Encode.{Admissible, encode-decode, good-decode}
 
 pub record Represents (w : List ℕ) (st : State) : Type 0 where
   pub words : w ≡ encode st
@@ -26,21 +26,21 @@ pub record Represents (w : List ℕ) (st : State) : Type 0 where
   pub routesFit : all fitRoute (st .routes) ≡ true
 
 -- some state is held
-pub record Valid (w : List ℕ) : Type 0 where
+pub record RepresentsSome (w : List ℕ) : Type 0 where
   pub state : State
   pub holds : Represents w state
 
 -- some fit state is held
-pub record Sound (w : List ℕ) : Type 0 where
+pub record RepresentsFit (w : List ℕ) : Type 0 where
   pub state : State
   pub holds : Represents w state
   pub fits : fitState state ≡ true
 
-pub sound-valid : {w : List ℕ} → Sound w → Valid w
-sound-valid s = record { state = s .state; holds = s .holds }
+pub fit-some : {w : List ℕ} → RepresentsFit w → RepresentsSome w
+fit-some s = record { state = s .state; holds = s .holds }
 
 -- ---- well-formed words hold what they encode
-pub holds-encode : (st : State) → Good st → Represents (encode st) st
+pub holds-encode : (st : State) → Admissible st → Represents (encode st) st
 holds-encode st g =
     let k = simp and-iff at (g .limits) in
     let f = fit-state st (g .fits) in
@@ -139,11 +139,11 @@ sizes-of h =
       tables = omega (arith, count-tables h, h .tablesWithin);
     }
 
-pub sizes-valid : {w : List ℕ} → Valid w → Sized w
+pub sizes-valid : {w : List ℕ} → RepresentsSome w → Sized w
 sizes-valid v = sizes-of (v .holds)
 
-pub sound-long : {w : List ℕ} → Sound w → length w ≡ baseSize
+pub sound-long : {w : List ℕ} → RepresentsFit w → length w ≡ baseSize
 sound-long s = holds-long (s .holds)
 
-pub sound-few : {w : List ℕ} → Sound w → addressCount w ≤ 64
+pub sound-few : {w : List ℕ} → RepresentsFit w → addressCount w ≤ 64
 sound-few s = (sizes-of (s .holds)) .addresses

@@ -15,7 +15,7 @@ ghost use Rattle.layout.specs.Address.{fitAddress};
 ghost use Rattle.layout.specs.Route.{fitRoute};
 ghost use Rattle.definition.specs.State.{State, withAddresses, withRoutes};
 ghost use Rattle.definition.specs.Words.{addressCount, routeCount, baseSize};
-ghost use Rattle.state.specs.Represents.{Represents, Valid};
+ghost use Rattle.state.specs.Represents.{Represents, RepresentsSome};
 
 pub fn address_count(s: &[u32]) -> usize
     requires { ⌜ length (now s) ≡ baseSize ⌝ }
@@ -33,7 +33,7 @@ pub fn route_count(s: &[u32]) -> usize
 
 // A row before row i.
 pub fn insert_address(s: &mut [u32], i: usize, row: &[u32])
-    requires { ⌜ Valid (now s) ⌝ }
+    requires { ⌜ RepresentsSome (now s) ⌝ }
     requires { ⌜ (i ≤ addressCount (now s)) × (addressCount (now s) < 64) ⌝ }
     requires { ⌜ fitAddress (now row) ≡ true ⌝ }
     ensures { λ _. ⌜ ((st : State) → Represents (now (s .entry)) st → Represents (now (s .exit)) (withAddresses (insertAt i (now (row .entry)) (st .addresses)) st)) ⌝ }
@@ -50,7 +50,7 @@ pub fn insert_address(s: &mut [u32], i: usize, row: &[u32])
 
 // Row i goes.
 pub fn remove_address(s: &mut [u32], i: usize)
-    requires { ⌜ Valid (now s) ⌝ }
+    requires { ⌜ RepresentsSome (now s) ⌝ }
     requires { ⌜ i < addressCount (now s) ⌝ }
     ensures { λ _. ⌜ ((st : State) → Represents (now (s .entry)) st → Represents (now (s .exit)) (withAddresses (removeAt i (st .addresses)) st)) ⌝ }
 {
@@ -66,7 +66,7 @@ pub fn remove_address(s: &mut [u32], i: usize)
 
 // Another row in place of row i.
 pub fn replace_address(s: &mut [u32], i: usize, row: &[u32])
-    requires { ⌜ Valid (now s) ⌝ }
+    requires { ⌜ RepresentsSome (now s) ⌝ }
     requires { ⌜ i < addressCount (now s) ⌝ }
     requires { ⌜ fitAddress (now row) ≡ true ⌝ }
     ensures { λ _. ⌜ ((st : State) → Represents (now (s .entry)) st → Represents (now (s .exit)) (withAddresses (set (st .addresses) i (now (row .entry))) st)) ⌝ }
@@ -75,7 +75,7 @@ pub fn replace_address(s: &mut [u32], i: usize, row: &[u32])
 }
 
 pub fn insert_route(s: &mut [u32], i: usize, row: &[u32])
-    requires { ⌜ Valid (now s) ⌝ }
+    requires { ⌜ RepresentsSome (now s) ⌝ }
     requires { ⌜ (i ≤ routeCount (now s)) × (routeCount (now s) < 256) ⌝ }
     requires { ⌜ fitRoute (now row) ≡ true ⌝ }
     ensures { λ _. ⌜ ((st : State) → Represents (now (s .entry)) st → Represents (now (s .exit)) (withRoutes (insertAt i (now (row .entry)) (st .routes)) st)) ⌝ }
@@ -91,7 +91,7 @@ pub fn insert_route(s: &mut [u32], i: usize, row: &[u32])
 }
 
 pub fn remove_route(s: &mut [u32], i: usize)
-    requires { ⌜ Valid (now s) ⌝ }
+    requires { ⌜ RepresentsSome (now s) ⌝ }
     requires { ⌜ i < routeCount (now s) ⌝ }
     ensures { λ _. ⌜ ((st : State) → Represents (now (s .entry)) st → Represents (now (s .exit)) (withRoutes (removeAt i (st .routes)) st)) ⌝ }
 {
@@ -106,7 +106,7 @@ pub fn remove_route(s: &mut [u32], i: usize)
 }
 
 pub fn replace_route(s: &mut [u32], i: usize, row: &[u32])
-    requires { ⌜ Valid (now s) ⌝ }
+    requires { ⌜ RepresentsSome (now s) ⌝ }
     requires { ⌜ i < routeCount (now s) ⌝ }
     requires { ⌜ fitRoute (now row) ≡ true ⌝ }
     ensures { λ _. ⌜ ((st : State) → Represents (now (s .entry)) st → Represents (now (s .exit)) (withRoutes (set (st .routes) i (now (row .entry))) st)) ⌝ }

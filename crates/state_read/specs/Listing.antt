@@ -13,7 +13,7 @@ use Rattle.definition.specs.Words.{decode, wellFormed, routeCount, tableCount, 
 use Rattle.definition.specs.Reference.Source.{dump4}
 use Rattle.definition.specs.Preservation.Encode.{good-decode}
 use Rattle.definition.specs.Preservation.Fit.{fit-state}
-use Rattle.state.specs.Represents.{Valid, holds-decode, sizes-valid}
+use Rattle.state.specs.Represents.{RepresentsSome, holds-decode, sizes-valid}
 use Rattle.state.specs.Change.{tables-at}
 use Rattle.state_tables.specs.Listed.{tablesOf}
 use Rattle.state_read.specs.Parts.{routePart, ready-routes}
@@ -21,7 +21,7 @@ use Rattle.rows_dump.specs.Pass.{dumpRows, dump-rows}
 use Rattle.definition.specs.Step.{listingRoom}
 
 module _ (w : List ℕ) (l : length w ≡ baseSize) (h : wellFormed w ≡ true) where
-  pub valid : Valid w
+  pub valid : RepresentsSome w
   valid = record { state = decode w; holds = holds-decode w l h }
 
   pub tables-once : noneTwice (tablesOf w) ≡ true

@@ -13,7 +13,7 @@ use Rattle.layout.specs.Route.{fitRoute}
 use Rattle.definition.specs.State.{State}
 use Rattle.definition.specs.Words.{addressCount, routeCount, addressesSize, routesAt, routesSize}
 use Rattle.definition.specs.Reference.Lookup.{listed}
-use Rattle.state.specs.Represents.{Represents, Valid, counts, behindAddresses, beforeRoutes, encode-addresses, encode-routes, sizedA, sizedR, atRoutes, count-addresses, count-routes, sizes-valid}
+use Rattle.state.specs.Represents.{Represents, RepresentsSome, counts, behindAddresses, beforeRoutes, encode-addresses, encode-routes, sizedA, sizedR, atRoutes, count-addresses, count-routes, sizes-valid}
 use Rattle.state.specs.Change.{tables-at}
 use Rattle.state_tables.specs.Listed.{tablesOf}
 
@@ -57,36 +57,36 @@ module _ {w : List ℕ} {st : State} (h : Represents w st) where
   listed-there t = ap (among t) (tables-at h)
 
 -- the same of some state
-pub lays-addresses : {w : List ℕ} → Valid w → Lays 20 fitAddress (addressPart w)
+pub lays-addresses : {w : List ℕ} → RepresentsSome w → Lays 20 fitAddress (addressPart w)
 lays-addresses v = record { list = v .state .addresses; laid = laid-addresses (v .holds) }
 
-pub lays-routes : {w : List ℕ} → Valid w → Lays 32 fitRoute (routePart w)
+pub lays-routes : {w : List ℕ} → RepresentsSome w → Lays 32 fitRoute (routePart w)
 lays-routes v = record { list = v .state .routes; laid = laid-routes (v .holds) }
 
 -- where the parts end
-pub route-end : {w : List ℕ} → Valid w → (routesAt + 32 * routeCount w ≤ length w) × (routeCount w ≤ 256)
+pub route-end : {w : List ℕ} → RepresentsSome w → (routesAt + 32 * routeCount w ≤ length w) × (routeCount w ≤ 256)
 route-end v =
     let s = sizes-valid v in
     (omega (arith, s .long, s .routes), s .routes)
 
-pub address-end : {w : List ℕ} → Valid w → (3 + 20 * addressCount w ≤ length w) × (addressCount w ≤ 64)
+pub address-end : {w : List ℕ} → RepresentsSome w → (3 + 20 * addressCount w ≤ length w) × (addressCount w ≤ 64)
 address-end v =
     let s = sizes-valid v in
     (omega (arith, s .long, s .addresses), s .addresses)
 
 -- how long the parts are
-pub length-routes : {w : List ℕ} → Valid w → length (routePart w) ≡ 32 * routeCount w
+pub length-routes : {w : List ℕ} → RepresentsSome w → length (routePart w) ≡ 32 * routeCount w
 length-routes v = laid-length (laid-routes (v .holds)) ∙ ap (λ (n : ℕ). 32 * n) (sym (count-routes (v .holds)))
 
-pub length-addresses : {w : List ℕ} → Valid w → length (addressPart w) ≡ 20 * addressCount w
+pub length-addresses : {w : List ℕ} → RepresentsSome w → length (addressPart w) ≡ 20 * addressCount w
 length-addresses v = laid-length (laid-addresses (v .holds)) ∙ ap (λ (n : ℕ). 20 * n) (sym (count-addresses (v .holds)))
 
 -- what a function over rows asks, of a part that a call handed out and a count that another gave
-pub ready-routes : {w : List ℕ} (p : List ℕ) (n : ℕ) → Valid w → p ≡ routePart w → n ≡ routeCount w → (length p ≡ 32 * n) × Lays 32 fitRoute p
+pub ready-routes : {w : List ℕ} (p : List ℕ) (n : ℕ) → RepresentsSome w → p ≡ routePart w → n ≡ routeCount w → (length p ≡ 32 * n) × Lays 32 fitRoute p
 ready-routes p n v e f =
     (ap length e ∙ length-routes v ∙ ap (λ (k : ℕ). 32 * k) (sym f), subst (Lays 32 fitRoute) (sym e) (lays-routes v))
 
-pub ready-addresses : {w : List ℕ} (p : List ℕ) (n : ℕ) → Valid w → p ≡ addressPart w → n ≡ addressCount w → (length p ≡ 20 * n) × Lays 20 fitAddress p
+pub ready-addresses : {w : List ℕ} (p : List ℕ) (n : ℕ) → RepresentsSome w → p ≡ addressPart w → n ≡ addressCount w → (length p ≡ 20 * n) × Lays 20 fitAddress p
 ready-addresses p n v e f =
     (ap length e ∙ length-addresses v ∙ ap (λ (k : ℕ). 20 * k) (sym f), subst (Lays 20 fitAddress) (sym e) (lays-addresses v))
 

@@ -18,7 +18,7 @@ ghost use Rattle.definition.specs.Words.{routeCount, decode, wellFormed, baseSi
 ghost use Rattle.rows_source.specs.Selected.{localIn, wanted};
 ghost use Rattle.definition.specs.Reference.Lookup.{lookupIn, local4};
 ghost use Rattle.definition.specs.Reference.Source.{select4, source4, source, dump4};
-ghost use Rattle.state.specs.Represents.{Represents, Valid};
+ghost use Rattle.state.specs.Represents.{Represents, RepresentsSome};
 ghost use Rattle.state_read.specs.Parts.{addressPart, routePart};
 ghost use mathlib.Core.Bool.{true};
 ghost use Rattle.lists.specs.Lists.{flat, put};
@@ -26,7 +26,7 @@ ghost use Rattle.definition.specs.Step.{listingRoom};
 
 // The words of the routes in use.
 pub fn routes(s: &[u32]) -> &[u32]
-    requires { ⌜ Valid (now s) ⌝ }
+    requires { ⌜ RepresentsSome (now s) ⌝ }
     ensures { λ r. ⌜ now r ≡ routePart (now (s .entry)) ⌝ }
 {
     let n = state::route_count(s);
@@ -36,7 +36,7 @@ pub fn routes(s: &[u32]) -> &[u32]
 
 // The words of the addresses in use.
 pub fn addresses(s: &[u32]) -> &[u32]
-    requires { ⌜ Valid (now s) ⌝ }
+    requires { ⌜ RepresentsSome (now s) ⌝ }
     ensures { λ r. ⌜ now r ≡ addressPart (now (s .entry)) ⌝ }
 {
     let n = state::address_count(s);
@@ -46,7 +46,7 @@ pub fn addresses(s: &[u32]) -> &[u32]
 
 // The route of a flow.
 pub fn lookup4_in(s: &[u32], f: Flow) -> Looked
-    requires { ⌜ Valid (now s) ⌝ }
+    requires { ⌜ RepresentsSome (now s) ⌝ }
     ensures { λ r. ⌜ placed (routeCount (now (s .entry))) r × ((st : State) → Represents (now (s .entry)) st → foundBy (st .routes) r ≡ lookupIn st (flowOf f)) ⌝ }
 {
     let listed = state_tables::listed(s, layout::TABLE_DEFAULT);
@@ -55,7 +55,7 @@ pub fn lookup4_in(s: &[u32], f: Flow) -> Looked
 
 // Whether an address is the loopback's.
 pub fn local4(s: &[u32], ip: u32) -> bool
-    requires { ⌜ Valid (now s) ⌝ }
+    requires { ⌜ RepresentsSome (now s) ⌝ }
     ensures { λ r. ⌜ ((st : State) → Represents (now (s .entry)) st → r ≡ local4 st ip) ⌝ }
 {
     let listed = state_tables::listed(s, layout::TABLE_LOCAL);
@@ -64,7 +64,7 @@ pub fn local4(s: &[u32], ip: u32) -> bool
 
 // The address chosen for a destination (any where it isn't present) and a scope.
 pub fn select4(s: &[u32], dst_present: bool, dst: u32, scope: u32) -> Selected
-    requires { ⌜ Valid (now s) ⌝ }
+    requires { ⌜ RepresentsSome (now s) ⌝ }
     ensures { λ r. ⌜ ((st : State) → Represents (now (s .entry)) st → localIn r ≡ select4 (st .addresses) (wanted «dst_present» dst) scope) ⌝ }
 {
     rows_source::select4(
@@ -78,7 +78,7 @@ pub fn select4(s: &[u32], dst_present: bool, dst: u32, scope: u32) -> Selected
 
 // The source for a route's row and a destination.
 pub fn source4(s: &[u32], row: &[u32], ip: u32) -> Selected
-    requires { ⌜ Valid (now s) × (length (now row) ≡ 32) ⌝ }
+    requires { ⌜ RepresentsSome (now s) × (length (now row) ≡ 32) ⌝ }
     ensures { λ r. ⌜ ((st : State) → Represents (now (s .entry)) st → localIn r ≡ source4 (st .addresses) (now (row .entry)) ip) ⌝ }
 {
     rows_source::source4(addresses(s), state::address_count(s), row, ip)
@@ -86,7 +86,7 @@ pub fn source4(s: &[u32], row: &[u32], ip: u32) -> Selected
 
 // The source for a destination.
 pub fn source(s: &[u32], ip: u32) -> u32
-    requires { ⌜ Valid (now s) ⌝ }
+    requires { ⌜ RepresentsSome (now s) ⌝ }
     ensures { λ r. ⌜ ((st : State) → Represents (now (s .entry)) st → r ≡ source st ip) ⌝ }
 {
     let listed = state_tables::listed(s, layout::TABLE_DEFAULT);

@@ -190,8 +190,8 @@ module _ {p : Row → Bool} {w : List ℕ} {i j : ℕ} {s : List ℕ} (k : Keepi
   pub keeping-row : i < 256 → span (routesAt + 32 * i) 32 s ≡ span (routesAt + 32 * i) 32 w
   keeping-row b = ap (span (routesAt + 32 * i) 32) (k .words) ∙ read-next p routesAt 32 w i (omega (arith, k .whole))
 
-  pub keeping-turn : i < 256 → {s′ : List ℕ} {r : ℕ} → length s′ ≡ length s → Turned p i j s s′ r → Keeping p w (i + 1) r s′
-  keeping-turn b l t =
+  pub keeping-iteration : i < 256 → {s′ : List ℕ} {r : ℕ} → length s′ ≡ length s → Turned p i j s s′ r → Keeping p w (i + 1) r s′
+  keeping-iteration b l t =
       let room : routesAt + (32 * i + 32) ≤ length w = omega (arith, k .whole) in
       let row = keeping-row b in
       record {

@@ -11,7 +11,7 @@ ghost use Rattle.lists.specs.Lists.{put, span, keep, zeros};
 ghost use Rattle.definition.specs.State.{State, withRoutes};
 ghost use Rattle.definition.specs.Reference.Addresses.{down};
 ghost use Rattle.definition.specs.Reference.Removal.{disable};
-ghost use Rattle.state.specs.Represents.{Represents, Valid};
+ghost use Rattle.state.specs.Represents.{Represents, RepresentsSome};
 ghost use Rattle.state_retain.specs.Retain.{Turned, remains};
 ghost use Rattle.definition.specs.Words.{baseSize, routesAt};
 
@@ -64,7 +64,7 @@ pub fn close(s: &mut [u32], n: usize, j: usize)
 }
 
 // Row i, behind j that remain, is looked at.
-fn turn(s: &mut [u32], i: usize, j: usize, host: bool) -> usize
+fn iteration(s: &mut [u32], i: usize, j: usize, host: bool) -> usize
     requires { ⌜ (length (now s) ≡ baseSize) × (j ≤ i) × (i < 256) ⌝ }
     ensures { λ r. ⌜ Turned (remains host) i j (now (s .entry)) (now (s .exit)) r ⌝ }
 {
@@ -78,14 +78,14 @@ fn turn(s: &mut [u32], i: usize, j: usize, host: bool) -> usize
 
 // The routes that remain.
 fn retain(s: &mut [u32], host: bool)
-    requires { ⌜ Valid (now s) ⌝ }
+    requires { ⌜ RepresentsSome (now s) ⌝ }
     ensures { λ _. ⌜ ((st : State) → Represents (now (s .entry)) st → Represents (now (s .exit)) (withRoutes (keep (remains host) (st .routes)) st)) ⌝ }
 {
     let n = words::wide(s[ROUTE_COUNT]);
     let mut j = 0usize;
     let mut i = 0usize;
     while i < n {
-        j = turn(s, i, j, host);
+        j = iteration(s, i, j, host);
         i += 1;
     }
     close(s, n, j);
@@ -93,7 +93,7 @@ fn retain(s: &mut [u32], host: bool)
 
 // The device goes down: its routes go, but for those of host scope.
 pub fn down(s: &mut [u32])
-    requires { ⌜ Valid (now s) ⌝ }
+    requires { ⌜ RepresentsSome (now s) ⌝ }
     ensures { λ _. ⌜ ((st : State) → Represents (now (s .entry)) st → Represents (now (s .exit)) ((down st) .state)) ⌝ }
 {
     retain(s, true);
@@ -101,7 +101,7 @@ pub fn down(s: &mut [u32])
 
 // With the last address the device's routes go.
 pub fn disable(s: &mut [u32])
-    requires { ⌜ Valid (now s) ⌝ }
+    requires { ⌜ RepresentsSome (now s) ⌝ }
     ensures { λ _. ⌜ ((st : State) → Represents (now (s .entry)) st → Represents (now (s .exit)) ((disable st) .state)) ⌝ }
 {
     if s[ADDRESS_COUNT] == 0 {

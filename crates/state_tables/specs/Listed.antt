@@ -12,7 +12,7 @@ use Rattle.lists.specs.Split.{among-more}
 use Rattle.definition.specs.State.{State, withTables}
 use Rattle.definition.specs.Words.{tableCount, tablesAt}
 use Rattle.definition.specs.Reference.Insert.{addTable, listTable, create4}
-use Rattle.state.specs.Represents.{Represents, Valid, count-tables, sizes-valid}
+use Rattle.state.specs.Represents.{Represents, RepresentsSome, count-tables, sizes-valid}
 use Rattle.state.specs.Change.{tables-at, append-table}
 
 -- the tables that the words list
@@ -76,7 +76,7 @@ pub create-two : {w : List ℕ} (st : State) (t : ℕ) → t ≡ 255 → Represe
 unfolding create4
 create-two st t e h = rw (list-local t (st .tables) e) h
 
-pub at-most : {w : List ℕ} (t : ℕ) → Valid w → length (addTable t (tablesOf w)) ≤ 33
+pub at-most : {w : List ℕ} (t : ℕ) → RepresentsSome w → length (addTable t (tablesOf w)) ≤ 33
 at-most {w} t v = go (among t (tablesOf w)) refl
   where
     within : length (tablesOf w) ≤ 32

@@ -7,11 +7,11 @@ ghost use lib.ListN.{length};
 ghost use Rattle.lists.specs.Lists.{among};
 ghost use Rattle.definition.specs.State.{State, withTables};
 ghost use Rattle.definition.specs.Reference.Insert.{addTable, listTable, create4};
-ghost use Rattle.state.specs.Represents.{Represents, Valid};
+ghost use Rattle.state.specs.Represents.{Represents, RepresentsSome};
 ghost use Rattle.state_tables.specs.Listed.{tablesOf};
 
 pub fn listed(s: &[u32], t: u32) -> bool
-    requires { ⌜ Valid (now s) ⌝ }
+    requires { ⌜ RepresentsSome (now s) ⌝ }
     ensures { λ r. ⌜ r ≡ among t (tablesOf (now (s .entry))) ⌝ }
 {
     let n = words::wide(s[TABLE_COUNT]);
@@ -21,7 +21,7 @@ pub fn listed(s: &[u32], t: u32) -> bool
 
 // A table that is not listed goes to the end.
 pub fn add_table(s: &mut [u32], t: u32)
-    requires { ⌜ Valid (now s) ⌝ }
+    requires { ⌜ RepresentsSome (now s) ⌝ }
     requires { ⌜ length (addTable t (tablesOf (now s))) ≤ 32 ⌝ }
     ensures { λ _. ⌜ ((st : State) → Represents (now (s .entry)) st → Represents (now (s .exit)) (withTables (addTable t (st .tables)) st)) ⌝ }
 {
@@ -36,7 +36,7 @@ pub fn add_table(s: &mut [u32], t: u32)
 
 // How many tables there are once t is added.
 fn with_table(s: &[u32], t: u32) -> usize
-    requires { ⌜ Valid (now s) ⌝ }
+    requires { ⌜ RepresentsSome (now s) ⌝ }
     ensures { λ r. ⌜ r ≡ length (addTable t (tablesOf (now (s .entry)))) ⌝ }
 {
     if listed(s, t) {
@@ -47,7 +47,7 @@ fn with_table(s: &[u32], t: u32) -> usize
 
 // How many tables there are once t is listed, and with 255 also 254: past 32 they have no room.
 pub fn tables_after(s: &[u32], t: u32) -> usize
-    requires { ⌜ Valid (now s) ⌝ }
+    requires { ⌜ RepresentsSome (now s) ⌝ }
     ensures { λ r. ⌜ r ≡ length (listTable t (tablesOf (now (s .entry)))) ⌝ }
 {
     if t != layout::TABLE_LOCAL {
@@ -61,7 +61,7 @@ pub fn tables_after(s: &[u32], t: u32) -> usize
 
 // A table is listed; 255 brings 254 along if that is unlisted.
 pub fn list_table(s: &mut [u32], t: u32)
-    requires { ⌜ Valid (now s) ⌝ }
+    requires { ⌜ RepresentsSome (now s) ⌝ }
     requires { ⌜ length (listTable t (tablesOf (now s))) ≤ 32 ⌝ }
     ensures { λ _. ⌜ ((st : State) → Represents (now (s .entry)) st → Represents (now (s .exit)) (create4 t st)) ⌝ }
 {

@@ -69,9 +69,9 @@ module _ (k n : ℕ) (p : List ℕ) (i : ℕ) where
       ∙ chop-at k n p (i + 1) h
 
   -- row i and the rows behind it
-  pub fit-turn : (f : Row → Bool) {b : Bool} (t : Bool) → i < n → b ≡ f (take (k * i + k - k * i) (drop (k * i) p)) → b ≡ t
+  pub fit-iteration : (f : Row → Bool) {b : Bool} (t : Bool) → i < n → b ≡ f (take (k * i + k - k * i) (drop (k * i) p)) → b ≡ t
       → all f (drop i (chop k n p)) ≡ t && all f (drop (i + 1) (chop k n p))
-  fit-turn f t h eb et =
+  fit-iteration f t h eb et =
       all-next (chop k n p) i [] (omega (arith, length-chop k n p)) f
       ∙ ap (λ (x : Bool). x && all f (drop (i + 1) (chop k n p))) (ap f (sym (part-chop k n p i h)) ∙ sym eb ∙ et)
 

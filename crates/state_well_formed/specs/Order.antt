@@ -95,9 +95,9 @@ past-run rows a j o h e =
 
 -- ---- the rows as parts of words
 module _ (n : ℕ) (p : List ℕ) (i : ℕ) where
-  pub order-turn : {b : Bool} (t : Bool) → i + 1 < n → b ≡ before (take (32 * i + 32 + 32 - (32 * i + 32)) (drop (32 * i + 32) p)) (take (32 * i + 32 - 32 * i) (drop (32 * i) p)) → b ≡ t
+  pub order-iteration : {b : Bool} (t : Bool) → i + 1 < n → b ≡ before (take (32 * i + 32 + 32 - (32 * i + 32)) (drop (32 * i + 32) p)) (take (32 * i + 32 - 32 * i) (drop (32 * i) p)) → b ≡ t
       → before (getD (chop 32 n p) (i + 1) []) (getD (chop 32 n p) i []) ≡ t
-  order-turn t h eb et = sym (rw (row-next 32 n p i h, part-chop 32 n p i (omega arith)) at eb) ∙ et
+  order-iteration t h eb et = sym (rw (row-next 32 n p i h, part-chop 32 n p i (omega arith)) at eb) ∙ et
 
   module _ (j : ℕ) (h : i < n) (k : j < n) where
     pub two-before : {b : Bool} (t : Bool) → b ≡ before (take (32 * i + 32 - 32 * i) (drop (32 * i) p)) (take (32 * j + 32 - 32 * j) (drop (32 * j) p)) → b ≡ t
@@ -120,10 +120,10 @@ module _ (n : ℕ) (p : List ℕ) (i : ℕ) where
         all-next (chop 32 n p) j [] (omega (arith, length-chop 32 n p)) (λ (x : Row). not (eqRow (getD (chop 32 n p) i []) x))
         ∙ ap (λ (b : Bool). not b && all (λ (x : Row). not (eqRow (getD (chop 32 n p) i []) x)) (drop (j + 1) (chop 32 n p))) same
 
-pub distinct-turn : (rows : List Row) (i : ℕ) {b : Bool} (t : Bool) → i < length rows → b ≡ all (λ (x : Row). not (eqRow (getD rows i []) x)) (drop (i + 1) rows) → b ≡ t
+pub distinct-iteration : (rows : List Row) (i : ℕ) {b : Bool} (t : Bool) → i < length rows → b ≡ all (λ (x : Row). not (eqRow (getD rows i []) x)) (drop (i + 1) rows) → b ≡ t
     → distinct (drop i rows) ≡ t && distinct (drop (i + 1) rows)
 unfolding distinct
-distinct-turn rows i t h eb et =
+distinct-iteration rows i t h eb et =
     pairwise-next rows i [] h (λ a x. not (eqRow a x)) ∙ ap (λ (b : Bool). b && pairwise (λ a x. not (eqRow a x)) (drop (i + 1) rows)) (sym eb ∙ et)
 
 pub distinct-end : (rows : List Row) (i : ℕ) → length rows ≤ i + 1 → distinct (drop i rows) ≡ true

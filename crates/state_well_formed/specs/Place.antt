@@ -14,7 +14,7 @@ use Rattle.layout.specs.Route.{fitRoute, before}
 use Rattle.definition.specs.Words.{ordered, distinct}
 use Rattle.definition.specs.Preservation.Order.{before-never}
 use Rattle.state_well_formed.specs.Look.{row-next}
-use Rattle.state_well_formed.specs.Order.{order-next, order-broken, order-end, past-run, ordered-later, distinct-turn, distinct-end}
+use Rattle.state_well_formed.specs.Order.{order-next, order-broken, order-end, past-run, ordered-later, distinct-iteration, distinct-end}
 
 -- the rows are in order, and no two are the same
 unfoldable pub inPlace : List Row → Bool
@@ -25,19 +25,19 @@ module _ (rows : List Row) (i : ℕ) (h : i + 1 < length rows) where
   unfolding inPlace
   place-broken e = rw (order-broken rows i h e)
 
-  pub place-turn : {b : Bool} → before (getD rows (i + 1) []) (getD rows i []) ≡ false
+  pub place-iteration : {b : Bool} → before (getD rows (i + 1) []) (getD rows i []) ≡ false
       → (ordered (drop i rows) ≡ true → b ≡ all (λ (x : Row). not (eqRow (getD rows i []) x)) (drop (i + 1) rows))
       → inPlace (drop i rows) ≡ b && inPlace (drop (i + 1) rows)
   unfolding inPlace
-  place-turn {b} e f =
+  place-iteration {b} e f =
       let on : ordered (drop i rows) ≡ ordered (drop (i + 1) rows) = order-next rows i h e in
       test-case (ordered (drop (i + 1) rows))
-      (λ o. rw (on, o) (distinct-turn rows i b (omega arith) (f (on ∙ o)) refl))
+      (λ o. rw (on, o) (distinct-iteration rows i b (omega arith) (f (on ∙ o)) refl))
       (λ o. rw (on, o) (sym (and-false b)))
 
   pub place-rise : before (getD rows i []) (getD rows (i + 1) []) ≡ true → inPlace (drop i rows) ≡ inPlace (drop (i + 1) rows)
   place-rise first =
-      place-turn (fails (before (getD rows (i + 1) []) (getD rows i [])) (λ g. before-never (getD rows i []) (getD rows (i + 1) []) first g))
+      place-iteration (fails (before (getD rows (i + 1) []) (getD rows i [])) (λ g. before-never (getD rows i []) (getD rows (i + 1) []) first g))
       (λ o. sym (past-run rows (getD rows i []) (i + 1) (ordered-later rows i (i + 1) (omega arith) o) h first))
 
 -- at most one row is left
@@ -51,8 +51,8 @@ unfolding inPlace
 routes-tests rows ef eo = rw (ef, eo) (sym (and-assoc (all fitRoute rows) (ordered rows) (distinct rows)))
 
 -- the rows as parts of words
-pub rise-turn : (n : ℕ) (p : List ℕ) (i : ℕ) → i + 1 < n → {b : Bool}
+pub rise-iteration : (n : ℕ) (p : List ℕ) (i : ℕ) → i + 1 < n → {b : Bool}
     → b ≡ before (take (32 * i + 32 - 32 * i) (drop (32 * i) p)) (take (32 * i + 32 + 32 - (32 * i + 32)) (drop (32 * i + 32) p)) → b ≡ true
     → inPlace (drop i (chop 32 n p)) ≡ inPlace (drop (i + 1) (chop 32 n p))
-rise-turn n p i h eb et =
+rise-iteration n p i h eb et =
     place-rise (chop 32 n p) i (omega (arith, length-chop 32 n p)) (sym (rw (row-next 32 n p i h, part-chop 32 n p i (omega arith)) at eb) ∙ et)

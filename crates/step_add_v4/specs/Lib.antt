@@ -1,3 +1,2 @@
-pub mod Comes
 pub mod Added
 pub mod Every

@@ -26,13 +26,13 @@ use Rattle.definition.specs.Words.{within, addressCount, routeCount, tableCount
 use Rattle.definition.specs.Reference.Lookup.{broadcastKind}
 use Rattle.definition.specs.Reference.Insert as Insert
 use Rattle.definition.specs.Reference.Insert.{addTable, listTable, create4, insert4, inserted, kernelAdd4, kernelDel4}
-use Rattle.definition.specs.Reference.Addresses.{Outcome, refused, outOf, only, kernelRoute, localRoute, prefixRoute, upRoutes, candidates, primaryOf, bring, place4, newAddress, changedTo, reroutes, moved, changeV4, addedOver, addV4, sameAddress, loopback, up, namesBroadcast, ownNetwork}
+use Rattle.definition.specs.Reference.Addresses.{Outcome, outOf, only, kernelRoute, localRoute, prefixRoute, upRoutes, candidates, primaryOf, install, place4, newAddress, changedTo, reroutes, moved, changeV4, addedOver, addV4, sameAddress, loopback, up, namesBroadcast, ownNetwork}
 use Rattle.definition.specs.Preservation.Growing.{Grows, insert-grows, no-replacing, length-place4}
 use Rattle.definition.specs.Preservation.Peaks.{kernelAdd4-rises, newAddress-rises, up-rises, rises-within, kernelDel4-under}
 use Rattle.definition.specs.Preservation.Step.{covered}
 use Rattle.definition.specs.Step.{roomy}
-use Rattle.step_events.specs.EmitsOrFull.{within-also}
-use Rattle.step_add_v4.specs.Every.{turn, every}
+use Rattle.step_events.specs.Comes.{within-also}
+use Rattle.step_add_v4.specs.Every.{iteration, every}
 use Rattle.row_candidates.specs.Rows.{subnetRoute}
 
 -- ---- tables: each of 254 and 255 is listed once
@@ -146,33 +146,33 @@ candidates-four l up a =
     in
     cond-case (λ (m : List Row). suc (length m) ≤ 4) up (λ e. omega (arith, three)) (λ e. omega arith)
 
-bring-most : (rows : List Row) → all inLocal rows ≡ true → (st : State) → Most 0 (length rows) st (bring rows st)
-unfolding bring through
-bring-most [] h st = most-stays 0 0 st
-bring-most (r ∷ rows) h st =
+install-most : (rows : List Row) → all inLocal rows ≡ true → (st : State) → Most 0 (length rows) st (install rows st)
+unfolding install through
+install-most [] h st = most-stays 0 0 st
+install-most (r ∷ rows) h st =
     most-le 0 (suc (length rows)) (omega arith) (omega arith)
     (most-also 0 0 1 (length rows) st (kernelAdd4 r st) (through kernelAdd4 rows)
-    (add-most r (eqb-true (table r) 255 (all-head inLocal r rows h)) st) (bring-most rows (all-tail inLocal r rows h) ((kernelAdd4 r st) .state)))
+    (add-most r (eqb-true (table r) 255 (all-head inLocal r rows h)) st) (install-most rows (all-tail inLocal r rows h) ((kernelAdd4 r st) .state)))
 
-turn-most : (l : List Row) (up : Bool) (a : Row) (st : State) → Most 0 4 st (bring (candidates l up a) st)
-turn-most l up a st =
-    most-le 0 4 (omega arith) (candidates-four l up a) (bring-most (candidates l up a) (candidates-local l up a) st)
+iteration-most : (l : List Row) (up : Bool) (a : Row) (st : State) → Most 0 4 st (install (candidates l up a) st)
+iteration-most l up a st =
+    most-le 0 4 (omega arith) (candidates-four l up a) (install-most (candidates l up a) (candidates-local l up a) st)
 
 new-most : (new : Row) (up : Bool) (st : State) → Most 1 4 st (newAddress new up st)
 unfolding newAddress
 new-most new up st =
     let placed = withAddresses (place4 new (st .addresses)) st in
     most-le 1 4 (omega arith) (omega arith)
-    (most-also 1 0 0 4 st (becomes placed (newAddr4 new ∷ [])) (bring (candidates (placed .addresses) up new))
+    (most-also 1 0 0 4 st (becomes placed (newAddr4 new ∷ [])) (install (candidates (placed .addresses) up new))
     (record { ofAddresses = omega (arith, length-place4 new (st .addresses)); ofRoutes = omega arith; ofTables = refl })
-    (turn-most (placed .addresses) up new placed))
+    (iteration-most (placed .addresses) up new placed))
 
-turns-most : (l m : List Row) (st : State) → Most 0 (4 * length m) st (through (turn l) m st)
+turns-most : (l m : List Row) (st : State) → Most 0 (4 * length m) st (through (iteration l) m st)
 unfolding through
 turns-most l [] st = most-stays 0 0 st
 turns-most l (a ∷ m) st =
     most-le 0 (4 * length (a ∷ m)) (omega arith) (omega arith)
-    (most-also 0 0 4 (4 * length m) st (turn l a st) (through (turn l) m) (turn-most l true a st) (turns-most l m ((turn l a st) .state)))
+    (most-also 0 0 4 (4 * length m) st (iteration l a st) (through (iteration l) m) (iteration-most l true a st) (turns-most l m ((iteration l a st) .state)))
 
 loopback-most : (clock : ℕ) (o : Option Row) (st : State) → Most 1 4 st (outOf (addedOver loopback clock o st))
 loopback-most clock (some old) st = most-stays 1 4 st

@@ -14,17 +14,19 @@ use Rattle.lists.specs.All.{eqRow-refl}
 use Rattle.lists.specs.Place.{placeOf, first-at, nothing-from, something-at}
 use Rattle.layout.specs.Address.{local, prefix, label, labelLength}
 use Rattle.layout.specs.Request.{localPresent, localGiven, addressPresent, addressGiven, prefixGiven, labelPresent, labelLengthGiven, labelGiven}
-use Rattle.definition.specs.State.{State, Out}
+use Rattle.definition.specs.State.{State, sizes}
 use Rattle.definition.specs.Words.{addressCount}
-use Rattle.definition.specs.Reference.Addresses.{covers, goes, refused}
+use Rattle.definition.specs.Reference.Addresses.{covers}
 use Rattle.definition.specs.Reference.Removal.{deletes, delV4, removeV4}
 use Rattle.definition.specs.Preservation.Shrinking.{potential}
-use Rattle.state.specs.Represents.{Represents, count-addresses}
-use Rattle.step_events.specs.EmitsWithin.{Fits, EmitsWithin}
+use Rattle.definition.specs.Preservation.Peaks.{removeV4-under}
+use Rattle.definition.specs.Preservation.Step.{covered}
+use Rattle.state.specs.Represents.{count-addresses}
+use Rattle.step_events.specs.EmitsWithin.{RoomFor, EmitsWithin, step-does}
+use Rattle.step_events.specs.Comes.{ComesWhole, holds-within, goes-made, refused-made, whole-made}
 use Rattle.lists.specs.Front.{any-here}
 use Rattle.step_remove_v4.specs.One.{addressRow, lent-address}
-use Rattle.step_events.specs.declared.Done.{Done}
-use Rattle.step_events.specs.declared.Done.the-variants.{Rows, Refused, Full}
+use Rattle.step_events.specs.declared.Done.the-variants.{Rows, Refused}
 
 -- ---- four words are the same where their number is
 low-high : (x y p q : ℕ) → x < 2 ^ 32 → p < 2 ^ 32 → x + y * 2 ^ 32 ≡ p + q * 2 ^ 32 → (x ≡ p) × (y ≡ q)
@@ -57,23 +59,15 @@ unfolding deletes
 deletes-is q a same within e f = rw (e, f)
 
 -- ---- what came of it
-pub record Went (q : Row) (st : State) (s ev₀ ev : List ℕ) (n : ℕ) : Type 0 where
-  pub out : Out
-  pub is : delV4 q st ≡ goes out
-  pub step : EmitsWithin potential st out s ev₀ ev n
-
-abbrev pub Deletes : Row → State → List ℕ → List ℕ → List ℕ → Done → Type 0
-Deletes q st s ev₀ ev (Rows n) = Went q st s ev₀ ev n
-Deletes q st s ev₀ ev (Refused n) = (n ≡ 99) × (delV4 q st ≡ refused 99 st) × Represents s st × (ev ≡ ev₀)
-Deletes q st s ev₀ ev Full = ⊥
-
-module _ (q : Row) {st : State} {s ev : List ℕ} (f : Fits potential st s ev) (n i : ℕ) (en : n ≡ addressCount s) (e : i ≡ placeOf (deletes q) (st .addresses)) where
+module _ (q : Row) {st : State} {s ev : List ℕ} (f : RoomFor potential st s ev) (n i : ℕ) (en : n ≡ addressCount s) (e : i ≡ placeOf (deletes q) (st .addresses)) where
   place : first (deletes q) (st .addresses) ≡ getElem? (st .addresses) i
   place = first-at (deletes q) (st .addresses) ∙ ap (getElem? (st .addresses)) (sym e)
 
-  pub deleted-none : n ≤ i → Deletes q st s ev ev (Refused 99)
+  pub deleted-none : n ≤ i → ComesWhole st (delV4 q st) s ev ev (Refused 99)
   unfolding delV4
-  deleted-none b = (refl, rw (place, nothing-from (st .addresses) i (omega (arith, count-addresses (f .holds)))), f .holds, refl)
+  deleted-none b =
+      rw (place, nothing-from (st .addresses) i (omega (arith, count-addresses (f .holds))))
+      (whole-made st (holds-within (f .holds)) (refused-made 99 ev (f .holds)))
 
   in-use : i < n → i < length (st .addresses)
   in-use b = omega (arith, count-addresses (f .holds))
@@ -84,11 +78,8 @@ module _ (q : Row) {st : State} {s ev : List ℕ} (f : Fits potential st s ev) (
   pub deleted-there : (b : i < n) (row : Row) → row ≡ addressRow s i → any (eqRow row) (st .addresses) ≡ true
   deleted-there b row w = any-here (eqRow row) (st .addresses) i [] (in-use b) (rw (← (same b row w)) (eqRow-refl row))
 
-  pub deleted-rows : (b : i < n) (row : Row) → row ≡ addressRow s i → {s′ ev′ : List ℕ} {r : ℕ} → EmitsWithin potential st (removeV4 row st) s′ ev ev′ r → Deletes q st s′ ev ev′ (Rows r)
+  pub deleted-rows : (b : i < n) (row : Row) → row ≡ addressRow s i → {s′ ev′ : List ℕ} {r : ℕ} → EmitsWithin potential st (removeV4 row st) s′ ev ev′ r → ComesWhole st (delV4 q st) s′ ev ev′ (Rows r)
   unfolding delV4
   deleted-rows b row w t =
-      record {
-        out = removeV4 row st;
-        is = rw (place, something-at (st .addresses) i [] (in-use b)) (ap (λ (a : Row). goes (removeV4 a st)) (sym (same b row w)));
-        step = t;
-      }
+      let room = covered ((removeV4 row st) .peak) (sizes st) ((removeV4-under row st) .ever) (holds-within (f .holds)) in
+      rw (place, something-at (st .addresses) i [] (in-use b), ← (same b row w)) (whole-made st room (goes-made room (step-does potential t)))

@@ -14,10 +14,10 @@ ghost use Rattle.lists.specs.Laid.{Laid, Lays};
 ghost use Rattle.lists.specs.Place.{placeOf};
 ghost use Rattle.layout.specs.Address.{prefix, fitAddress};
 ghost use Rattle.definition.specs.State.{State};
-ghost use Rattle.definition.specs.Reference.Removal.{deletes};
+ghost use Rattle.definition.specs.Reference.Removal.{deletes, delV4};
 ghost use Rattle.definition.specs.Preservation.Shrinking.{potential};
-ghost use Rattle.step_events.specs.EmitsWithin.{Fits, Ready};
-ghost use Rattle.step_del_v4.specs.Asked.{Deletes};
+ghost use Rattle.step_events.specs.EmitsWithin.{RoomFor, SomeRoom};
+ghost use Rattle.step_events.specs.Comes.{ComesWhole};
 
 // Whether four words are the same, each as part of one number.
 fn same_four(a: u32, b: u32, c: u32, d: u32, p: u32, q: u32, r: u32, s: u32) -> bool
@@ -68,9 +68,9 @@ fn find(rows: &[u32], n: usize, q: &[u32]) -> usize
 }
 
 pub fn del_v4(s: &mut [u32], ev: &mut [u32], q: &[u32]) -> Done
-    requires { ⌜ Ready potential (now s) (now ev) ⌝ }
+    requires { ⌜ SomeRoom potential (now s) (now ev) ⌝ }
     requires { ⌜ length (now q) ≡ 11 ⌝ }
-    ensures { λ r. ⌜ ((st : State) → Fits potential st (now (s .entry)) (now (ev .entry)) → Deletes (now (q .entry)) st (now (s .exit)) (now (ev .entry)) (now (ev .exit)) r) ⌝ }
+    ensures { λ r. ⌜ ((st : State) → RoomFor potential st (now (s .entry)) (now (ev .entry)) → ComesWhole st (delV4 (now (q .entry)) st) (now (s .exit)) (now (ev .entry)) (now (ev .exit)) r) ⌝ }
 {
     let n = state::address_count(s);
     let i = find(state_read::addresses(s), n, q);

@@ -8,14 +8,14 @@ use lib.ListN.{length}
 use Rattle.definition.specs.State.{State, Out}
 use Rattle.definition.specs.Words.{routeCount}
 use Rattle.definition.specs.Preservation.Shrinking.{potential}
-use Rattle.state.specs.Represents.{Valid, count-routes}
-use Rattle.step_events.specs.EmitsWithin.{Ready, EmitsWithin, step-same}
+use Rattle.state.specs.Represents.{RepresentsSome, count-routes}
+use Rattle.step_events.specs.EmitsWithin.{SomeRoom, EmitsWithin, step-same}
 
-pub ready-valid : {s ev : List ℕ} → Ready potential s ev → Valid s
+pub ready-valid : {s ev : List ℕ} → SomeRoom potential s ev → RepresentsSome s
 ready-valid y = record { state = y .state; holds = y .fits .holds }
 
 -- room for as many rows as there are routes
-pub ready-room : {s ev : List ℕ} → Ready potential s ev → 34 * routeCount s ≤ length ev
+pub ready-room : {s ev : List ℕ} → SomeRoom potential s ev → 34 * routeCount s ≤ length ev
 ready-room y = omega (arith, y .fits .room, count-routes (y .fits .holds))
 
 -- a step known by an equation

@@ -1,4 +1,4 @@
--- One pass over the routes: those that go are told in their order, the others stay in theirs.
+-- One pass over the routes: those that go are emitted in their order, the others stay in theirs.
 -- Assumes nothing.
 use Prim.Native.Nat.{ℕ, _+_, _-_, _*_, _≤_, _<_}
 use mathlib.Core.Path.{_≡_, refl, sym, ap, _∙_}
@@ -21,12 +21,12 @@ use Rattle.definition.specs.Words.{routeCount, baseSize, routesAt}
 use Rattle.definition.specs.Reference.Removal.{dependentOn}
 use Rattle.definition.specs.Preservation.Shrinking.{potential}
 use Rattle.state.specs.Represents.{sizedR}
-use Rattle.state_retain.specs.Retain.{rowsOf, keep-next, routes-of, lentRow, lent-span, Turned, turned-stays, turned-goes, Keeping, keeping-start, keeping-few, keeping-row, keeping-turn, keeping-end}
+use Rattle.state_retain.specs.Retain.{rowsOf, keep-next, routes-of, lentRow, lent-span, Turned, turned-stays, turned-goes, Keeping, keeping-start, keeping-few, keeping-row, keeping-iteration, keeping-end}
 use Rattle.step_events.specs.Emits.{rest}
-use Rattle.step_events.specs.EmitsWithin.{Fits, EmitsWithin, step-same}
-use Rattle.step_drop_prefsrc.specs.Dependents.{dependentsGo, stray-named, all-go}
+use Rattle.step_events.specs.EmitsWithin.{RoomFor, EmitsWithin, step-same}
+use Rattle.step_drop_prefsrc.specs.Dependents.{dependentsGo, dependent-matches, all-go}
 
--- row i was looked at behind j that stay: it is told if it passes, and stays otherwise
+-- row i was looked at behind j that stay: it is emitted if it passes, and stays otherwise
 pub record Swept (q : Row → Bool) (i j : ℕ) (s s′ ev ev′ : List ℕ) (r : ℕ) : Type 0 where
   pub turned : Turned (λ x. not (q x)) i j s s′ r
   pub emitted : ev′ ≡ cond (q (span (routesAt + 32 * i) 32 s)) (put 0 (delRoute4 (span (routesAt + 32 * i) 32 s)) ev) ev
@@ -45,7 +45,7 @@ module _ (q : Row → Bool) (i j : ℕ) (s ev : List ℕ) where
       let b : q (span (routesAt + 32 * i) 32 s) ≡ false = ap q (sym (lent-span s i)) ∙ e in
       record { turned = turned-stays (λ x. not (q x)) i j s (ap not e) c w; emitted = sym (rw b) }
 
--- the deletions told of rows
+-- the deletions emitted for rows
 abbrev pub gone : List Row → List ℕ
 gone rows = flat (map delRoute4 rows)
 
@@ -60,7 +60,7 @@ length-gone rows h = length-flat 34 (map delRoute4 rows) (sized-gone rows h) ∙
 pub length-rest : (t : ℕ) (ev : List ℕ) → length (rest t ev) ≡ length ev - 34 * t
 length-rest t ev = length-take-le (length ev - 34 * t) (drop (34 * t) ev) (rw length-drop (omega arith))
 
--- of the first i routes of w those that pass are told, and the j others stand in front
+-- of the first i routes of w those that pass are emitted, and the j others stand in front
 pub record Sweeping (q : Row → Bool) (w : List ℕ) (i j : ℕ) (s ev₀ ev : List ℕ) : Type 0 where
   pub kept : Keeping (λ x. not (q x)) w i j s
   pub emitted : ev ≡ put 0 (gone (keep q (rowsOf routesAt 32 w i))) ev₀
@@ -77,7 +77,7 @@ module _ {q : Row → Bool} {w : List ℕ} {i j : ℕ} {s ev₀ ev : List ℕ} (
   abbrev row : Row
   row = span (routesAt + 32 * i) 32 w
 
-  -- how many are told
+  -- how many are emitted
   pub sweeping-count : j + length rows ≡ i
   sweeping-count =
       let all = rowsOf routesAt 32 w i in
@@ -117,11 +117,11 @@ module _ {q : Row → Bool} {w : List ℕ} {i j : ℕ} {s ev₀ ev : List ℕ} (
         ∙ k .emitted
         ∙ sym (rw (e, append-nil))
 
-    pub sweeping-turn : {s′ x : List ℕ} {r : ℕ} → length s′ ≡ length s → length x ≡ length (rest (i - j) ev) → Swept q i j s s′ (rest (i - j) ev) x r
+    pub sweeping-iteration : {s′ x : List ℕ} {r : ℕ} → length s′ ≡ length s → length x ≡ length (rest (i - j) ev) → Swept q i j s s′ (rest (i - j) ev) x r
         → Sweeping q w (i + 1) r s′ ev₀ (take (34 * (i - j)) ev ++ (x ++ drop (length ev - 34 * (i - j)) (drop (34 * (i - j)) ev)))
-    sweeping-turn l m t =
+    sweeping-iteration l m t =
         record {
-          kept = keeping-turn (k .kept) b l (t .turned);
+          kept = keeping-iteration (k .kept) b l (t .turned);
           emitted = more (q row) refl (rw (keeping-row (k .kept) b) at (t .emitted)) ∙ ap (λ (y : List Row). put 0 (gone y) ev₀) (sym (keep-next q routesAt 32 w i));
           long =
               let few = keeping-few (k .kept) in
@@ -129,13 +129,13 @@ module _ {q : Row → Bool} {w : List ℕ} {i j : ℕ} {s ev₀ ev : List ℕ} (
         }
 
 -- all of them
-pub sweeping-end : (ip : ℕ) {w s ev₀ ev : List ℕ} {n j : ℕ} {st : State} → Sweeping (dependentOn ip) w n j s ev₀ ev → n ≡ routeCount w → Fits potential st w ev₀
+pub sweeping-end : (ip : ℕ) {w s ev₀ ev : List ℕ} {n j : ℕ} {st : State} → Sweeping (dependentOn ip) w n j s ev₀ ev → n ≡ routeCount w → RoomFor potential st w ev₀
     → EmitsWithin potential st (dependentsGo ip st) (set (put (routesAt + 32 * j) (zeros (32 * (n - j))) s) 1 j) ev₀ ev (n - j)
 sweeping-end ip {w} {ev₀ = ev₀} {n = n} {j = j} {st = st} k e f =
     let q : Row → Bool = dependentOn ip in
     let h = f .holds in
     let all : rowsOf routesAt 32 w n ≡ st .routes = ap (rowsOf routesAt 32 w) e ∙ routes-of h in
-    let same = all-go q (stray-named ip) st in
+    let same = all-go q (dependent-matches ip) st in
     let emitted : keep q (rowsOf routesAt 32 w n) ≡ keep q (st .routes) = ap (keep q) all in
     let count : n - j ≡ length (keep q (st .routes)) = omega (arith, sweeping-count k, ap length emitted) in
     let o = becomes (withRoutes (keep (λ x. not (q x)) (st .routes)) st) (map delRoute4 (keep q (st .routes))) in

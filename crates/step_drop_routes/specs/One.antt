@@ -21,7 +21,7 @@ use Rattle.definition.specs.Reference.Removal.{wanted, ofKind, dependentOn, fal
 use Rattle.definition.specs.Preservation.Shrinking.{potential, live, kernelDel4-away, disable-away}
 use Rattle.state.specs.Represents.{Represents}
 use Rattle.step_events.specs.EmitsWithin.{EmitsWithin}
-use Rattle.step_events.specs.Turns.{Like, like-refl, like-sym, like-trans, stays-also, also-like}
+use Rattle.step_events.specs.Iterations.{Like, like-refl, like-sym, like-trans, stays-also, also-like}
 
 -- ---- routes that none wants
 -- a route goes unless an address wants it
@@ -48,9 +48,9 @@ pub from-start : (l : List Row) (st : State) → from l 0 st ≡ through unlessW
 unfolding from
 from-start l st = refl
 
-pub from-turn : (l : List Row) (j : ℕ) → j < length l → (st : State) → Like (from l j st) (also (unlessWanted (getD l j []) st) (from l (j + 1)))
+pub from-iteration : (l : List Row) (j : ℕ) → j < length l → (st : State) → Like (from l j st) (also (unlessWanted (getD l j []) st) (from l (j + 1)))
 unfolding from through
-from-turn l j b st = rw (add-one, drop-cons l j [] b) (like-refl (also (unlessWanted (getD l j []) st) (through unlessWanted (drop (suc j) l))))
+from-iteration l j b st = rw (add-one, drop-cons l j [] b) (like-refl (also (unlessWanted (getD l j []) st) (through unlessWanted (drop (suc j) l))))
 
 pub from-end : (l : List Row) (j : ℕ) → length l ≤ j → (st : State) → Like (from l j st) (stays st)
 unfolding from through

@@ -11,14 +11,14 @@ ghost use Rattle.lists.specs.Laid.{Laid, Lays};
 ghost use Rattle.definition.specs.State.{State, through};
 ghost use Rattle.definition.specs.Reference.Removal.{wanted, dependentOn};
 ghost use Rattle.definition.specs.Preservation.Shrinking.{potential};
-ghost use Rattle.state.specs.Represents.{Represents, Valid};
-ghost use Rattle.step_events.specs.EmitsWithin.{Fits, Ready, EmitsWithin};
+ghost use Rattle.state.specs.Represents.{Represents, RepresentsSome};
+ghost use Rattle.step_events.specs.EmitsWithin.{RoomFor, SomeRoom, EmitsWithin};
 ghost use Rattle.step_drop_routes.specs.One.{unlessWanted, loses, fallFrom};
-ghost use Rattle.step_drop_routes.specs.Turns.{anyRow, routesGo};
+ghost use Rattle.step_drop_routes.specs.Iterations.{anyRow, routesGo};
 
 // Whether some address wants the route r.
 fn wanted_in(s: &[u32], r: &[u32]) -> bool
-    requires { ⌜ Valid (now s) ⌝ }
+    requires { ⌜ RepresentsSome (now s) ⌝ }
     requires { ⌜ length (now r) ≡ 32 ⌝ }
     ensures { λ b. ⌜ ((st : State) → Represents (now (s .entry)) st → b ≡ wanted (st .addresses) (now (r .entry))) ⌝ }
 {
@@ -27,9 +27,9 @@ fn wanted_in(s: &[u32], r: &[u32]) -> bool
 
 // A route goes unless an address wants it.
 fn unless_wanted(s: &mut [u32], ev: &mut [u32], r: &[u32]) -> usize
-    requires { ⌜ Ready potential (now s) (now ev) ⌝ }
+    requires { ⌜ SomeRoom potential (now s) (now ev) ⌝ }
     requires { ⌜ length (now r) ≡ 32 ⌝ }
-    ensures { λ n. ⌜ ((st : State) → Fits potential st (now (s .entry)) (now (ev .entry)) → EmitsWithin potential st (unlessWanted (now (r .entry)) st) (now (s .exit)) (now (ev .entry)) (now (ev .exit)) n) ⌝ }
+    ensures { λ n. ⌜ ((st : State) → RoomFor potential st (now (s .entry)) (now (ev .entry)) → EmitsWithin potential st (unlessWanted (now (r .entry)) st) (now (s .exit)) (now (ev .entry)) (now (ev .exit)) n) ⌝ }
 {
     if wanted_in(s, r) {
         return 0;
@@ -39,9 +39,9 @@ fn unless_wanted(s: &mut [u32], ev: &mut [u32], r: &[u32]) -> usize
 
 // The m routes in rows, one after the other.
 fn delete_unwanted(s: &mut [u32], ev: &mut [u32], rows: &[u32], m: usize) -> usize
-    requires { ⌜ Ready potential (now s) (now ev) ⌝ }
+    requires { ⌜ SomeRoom potential (now s) (now ev) ⌝ }
     requires { ⌜ (length (now rows) ≡ 32 * m) × Lays 32 anyRow (now rows) ⌝ }
-    ensures { λ n. ⌜ ((st : State) → Fits potential st (now (s .entry)) (now (ev .entry)) → (l : List Row) → Laid 32 anyRow (now (rows .entry)) l → EmitsWithin potential st (through unlessWanted l st) (now (s .exit)) (now (ev .entry)) (now (ev .exit)) n) ⌝ }
+    ensures { λ n. ⌜ ((st : State) → RoomFor potential st (now (s .entry)) (now (ev .entry)) → (l : List Row) → Laid 32 anyRow (now (rows .entry)) l → EmitsWithin potential st (through unlessWanted l st) (now (s .exit)) (now (ev .entry)) (now (ev .exit)) n) ⌝ }
 {
     let mut j = 0usize;
     let mut k = 0usize;
@@ -56,7 +56,7 @@ fn delete_unwanted(s: &mut [u32], ev: &mut [u32], rows: &[u32], m: usize) -> usi
 
 // Whether r is a /32 of a local route that no address wants.
 fn lost(s: &[u32], r: &[u32]) -> bool
-    requires { ⌜ Valid (now s) ⌝ }
+    requires { ⌜ RepresentsSome (now s) ⌝ }
     requires { ⌜ length (now r) ≡ 32 ⌝ }
     ensures { λ b. ⌜ ((st : State) → Represents (now (s .entry)) st → b ≡ loses (st .addresses) (now (r .entry))) ⌝ }
 {
@@ -69,7 +69,7 @@ fn lost(s: &[u32], r: &[u32]) -> bool
 
 // Whether such a route is among the m in rows.
 fn loses(s: &[u32], rows: &[u32], m: usize) -> bool
-    requires { ⌜ Valid (now s) ⌝ }
+    requires { ⌜ RepresentsSome (now s) ⌝ }
     requires { ⌜ (length (now rows) ≡ 32 * m) × Lays 32 anyRow (now rows) ⌝ }
     ensures { λ b. ⌜ ((st : State) → Represents (now (s .entry)) st → (l : List Row) → Laid 32 anyRow (now (rows .entry)) l → b ≡ any (loses (st .addresses)) l) ⌝ }
 {
@@ -87,7 +87,7 @@ fn loses(s: &[u32], rows: &[u32], m: usize) -> bool
 
 // Whether a main row has the preferred source ip.
 fn some_dependent(s: &[u32], ip: u32) -> bool
-    requires { ⌜ Valid (now s) ⌝ }
+    requires { ⌜ RepresentsSome (now s) ⌝ }
     ensures { λ b. ⌜ ((st : State) → Represents (now (s .entry)) st → b ≡ any (dependentOn ip) (st .routes)) ⌝ }
 {
     rows_wanted::dependents(state_read::routes(s), state::route_count(s), ip)
@@ -96,8 +96,8 @@ fn some_dependent(s: &[u32], ip: u32) -> bool
 // The main rows with the preferred source ip fall if a local route of it is lost and it is local no more. Most
 // sources have no such row, so that is asked before all else.
 fn fall(s: &mut [u32], ev: &mut [u32], ip: u32, lost: bool) -> usize
-    requires { ⌜ Ready potential (now s) (now ev) ⌝ }
-    ensures { λ n. ⌜ ((st : State) → Fits potential st (now (s .entry)) (now (ev .entry)) → EmitsWithin potential st (fallFrom ip lost st) (now (s .exit)) (now (ev .entry)) (now (ev .exit)) n) ⌝ }
+    requires { ⌜ SomeRoom potential (now s) (now ev) ⌝ }
+    ensures { λ n. ⌜ ((st : State) → RoomFor potential st (now (s .entry)) (now (ev .entry)) → EmitsWithin potential st (fallFrom ip lost st) (now (s .exit)) (now (ev .entry)) (now (ev .exit)) n) ⌝ }
 {
     if !lost {
         return 0;
@@ -116,9 +116,9 @@ fn fall(s: &mut [u32], ev: &mut [u32], ip: u32, lost: bool) -> usize
 
 // The routes of an address ip that is gone, m in rows, and what goes with them.
 pub fn take_routes(s: &mut [u32], ev: &mut [u32], rows: &[u32], m: usize, ip: u32) -> usize
-    requires { ⌜ Ready potential (now s) (now ev) ⌝ }
+    requires { ⌜ SomeRoom potential (now s) (now ev) ⌝ }
     requires { ⌜ (length (now rows) ≡ 32 * m) × Lays 32 anyRow (now rows) ⌝ }
-    ensures { λ n. ⌜ ((st : State) → Fits potential st (now (s .entry)) (now (ev .entry)) → (l : List Row) → Laid 32 anyRow (now (rows .entry)) l → EmitsWithin potential st (routesGo ip l st) (now (s .exit)) (now (ev .entry)) (now (ev .exit)) n) ⌝ }
+    ensures { λ n. ⌜ ((st : State) → RoomFor potential st (now (s .entry)) (now (ev .entry)) → (l : List Row) → Laid 32 anyRow (now (rows .entry)) l → EmitsWithin potential st (routesGo ip l st) (now (s .exit)) (now (ev .entry)) (now (ev .exit)) n) ⌝ }
 {
     let k = delete_unwanted(s, ev, rows, m);
     let lost = loses(s, rows, m);

@@ -22,7 +22,7 @@ use Rattle.state.specs.Represents.{Represents}
 abbrev pub rest : ℕ → List ℕ → List ℕ
 rest r ev = take (length ev - 34 * r) (drop (34 * r) ev)
 
--- the words hold o's state, and the r rows told stand at the start of the buffer, behind which nothing changed
+-- the words hold o's state, and the r rows emitted stand at the start of the buffer, behind which nothing changed
 pub record Emits (o : Out) (w ev₀ ev : List ℕ) (r : ℕ) : Type 0 where
   pub holds : Represents w (o .state)
   pub count : r ≡ length (o .emitted)

@@ -14,16 +14,16 @@ use Rattle.state.specs.Represents.{Represents}
 use Rattle.step_events.specs.Emits.{Emits, rest, does-same, does-none, does-one, does-length, does-rest, does-also}
 
 -- the words hold a state, and the buffer has room for as many rows as its weight
-pub record Fits (potential : State → ℕ) (st : State) (s ev : List ℕ) : Type 0 where
+pub record RoomFor (potential : State → ℕ) (st : State) (s ev : List ℕ) : Type 0 where
   pub holds : Represents s st
   pub room : 34 * potential st ≤ length ev
 
 -- some state does
-pub record Ready (potential : State → ℕ) (s ev : List ℕ) : Type 0 where
+pub record SomeRoom (potential : State → ℕ) (s ev : List ℕ) : Type 0 where
   pub state : State
-  pub fits : Fits potential state s ev
+  pub fits : RoomFor potential state s ev
 
--- a step from st came to o: the words hold o's state, and the r rows told stand at the start of the buffer, behind which nothing changed
+-- a step from st came to o: the words hold o's state, and the r rows emitted stand at the start of the buffer, behind which nothing changed
 pub record EmitsWithin (potential : State → ℕ) (st : State) (o : Out) (s ev₀ ev : List ℕ) (r : ℕ) : Type 0 where
   pub holds : Represents s (o .state)
   pub count : r ≡ length (o .emitted)
@@ -36,20 +36,20 @@ module _ (potential : State → ℕ) {st : State} where
   weighed : {o : Out} {s ev₀ ev : List ℕ} {r : ℕ} → Emits o s ev₀ ev r → r + potential (o .state) ≤ potential st → 34 * potential st ≤ length ev₀ → EmitsWithin potential st o s ev₀ ev r
   weighed d l m = record { holds = d .holds; count = d .count; wide = d .wide; words = d .words; less = l; room = m }
 
-  step-does : {o : Out} {s ev₀ ev : List ℕ} {r : ℕ} → EmitsWithin potential st o s ev₀ ev r → Emits o s ev₀ ev r
+  pub step-does : {o : Out} {s ev₀ ev : List ℕ} {r : ℕ} → EmitsWithin potential st o s ev₀ ev r → Emits o s ev₀ ev r
   step-does t = record { holds = t .holds; count = t .count; wide = t .wide; words = t .words; room = omega (arith, t .less, t .room) }
 
   pub step-same : {o p : Out} {s ev₀ ev : List ℕ} {r : ℕ} → o .state ≡ p .state → o .emitted ≡ p .emitted → EmitsWithin potential st o s ev₀ ev r → EmitsWithin potential st p s ev₀ ev r
   step-same e f t = weighed (does-same e f (step-does t)) (rw e at (t .less)) (t .room)
 
-  pub step-none : {s ev : List ℕ} → Fits potential st s ev → EmitsWithin potential st (stays st) s ev ev 0
+  pub step-none : {s ev : List ℕ} → RoomFor potential st s ev → EmitsWithin potential st (stays st) s ev ev 0
   step-none f = weighed (does-none st (f .holds)) (omega arith) (f .room)
 
-  pub step-one : {s s′ ev ev′ : List ℕ} (st′ : State) (row : Row) → Fits potential st s ev → Represents s′ st′ → length row ≡ 34 → 1 + potential st′ ≤ potential st
+  pub step-one : {s s′ ev ev′ : List ℕ} (st′ : State) (row : Row) → RoomFor potential st s ev → Represents s′ st′ → length row ≡ 34 → 1 + potential st′ ≤ potential st
       → ev′ ≡ put 0 row ev → EmitsWithin potential st (becomes st′ (row ∷ [])) s′ ev ev′ 1
   step-one st′ row f h e l w = weighed (does-one st′ row h e (omega (arith, f .room)) w) l (f .room)
 
-pub does-step : {o : Out} {w ev₀ ev : List ℕ} {r : ℕ} → Emits o w ev₀ ev r → (potential : State → ℕ) {st : State} {s : List ℕ} → Fits potential st s ev₀ → r + potential (o .state) ≤ potential st → EmitsWithin potential st o w ev₀ ev r
+pub does-step : {o : Out} {w ev₀ ev : List ℕ} {r : ℕ} → Emits o w ev₀ ev r → (potential : State → ℕ) {st : State} {s : List ℕ} → RoomFor potential st s ev₀ → r + potential (o .state) ≤ potential st → EmitsWithin potential st o w ev₀ ev r
 does-step d potential f l = weighed potential d l (f .room)
 
 module _ (potential : State → ℕ) {st : State} {o : Out} {s ev₀ ev : List ℕ} {r : ℕ} (t : EmitsWithin potential st o s ev₀ ev r) where
@@ -60,7 +60,7 @@ module _ (potential : State → ℕ) {st : State} {o : Out} {s ev₀ ev : List �
   step-length = does-length (step-does potential t)
 
   -- what is left after r rows still fits
-  pub rest-fits : Fits potential (o .state) s (rest r ev)
+  pub rest-fits : RoomFor potential (o .state) s (rest r ev)
   rest-fits = record { holds = t .holds; room = omega (arith, does-rest (step-does potential t), t .less, t .room) }
 
   -- a step on the part that is left, joined to what came before, is a step on the whole

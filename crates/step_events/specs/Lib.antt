@@ -1,6 +1,6 @@
 pub mod Row
 pub mod Emits
 pub mod EmitsWithin
-pub mod Turns
-pub mod EmitsOrFull
+pub mod Iterations
+pub mod Comes
 pub mod Through

@@ -10,25 +10,26 @@ use Rattle.lists.specs.Bools.{test-case, true-false, and-rest, and-right}
 use Rattle.lists.specs.Split.{take-more}
 use Rattle.definition.specs.State.{State, Out, sizes, stays, also, through}
 use Rattle.definition.specs.Words.{within}
+use Rattle.definition.specs.Reference.Addresses.{goes}
 use Rattle.state.specs.Represents.{Represents}
 use Rattle.step_events.specs.Emits.{does-same, rest}
-use Rattle.step_events.specs.Turns.{Like, like-refl, like-sym, like-trans, also-like, through-one, through-append}
-use Rattle.step_events.specs.EmitsOrFull.{EmitsOrFull, joined, within-also, adds-rows, adds-full, does-adds, full-adds, adds-none, adds-also}
-use Rattle.step_events.specs.declared.Told.{Told}
-use Rattle.step_events.specs.declared.Told.the-variants.{Rows, Full}
+use Rattle.step_events.specs.Iterations.{Like, like-refl, like-sym, like-trans, also-like, through-one, through-append}
+use Rattle.step_events.specs.Comes.{Comes, NoRows, joined, within-also, other-past, comes-full, adds-none, adds-also}
+use Rattle.step_events.specs.declared.Done.{Done}
+use Rattle.step_events.specs.declared.Done.the-variants.{Rows}
 
--- two steps that leave and tell the same, within the limits alike
+-- two steps that leave and emit the same, within the limits alike
 pub record Alike (o p : Out) : Type 0 where
   pub left : o .state ≡ p .state
   pub said : o .emitted ≡ p .emitted
   pub limits : within (o .peak) ≡ within (p .peak)
 
-pub adds-same : {o p : Out} {w ev₀ ev : List ℕ} {r : Told} → Alike o p → EmitsOrFull o w ev₀ ev r → EmitsOrFull p w ev₀ ev r
-adds-same {o} {p} {w} {ev₀} {ev} {r} s a = go r a
-  where
-    go : (r : Told) → EmitsOrFull o w ev₀ ev r → EmitsOrFull p w ev₀ ev r
-    go (Rows k) a = let b = adds-rows a in does-adds (sym (s .limits) ∙ b .0) (does-same (s .left) (s .said) (b .1))
-    go Full a = full-adds (sym (s .limits) ∙ adds-full a)
+pub adds-same : {o p : Out} {w ev₀ ev : List ℕ} {r : Done} → Alike o p → Comes (goes o) w ev₀ ev r → Comes (goes p) w ev₀ ev r
+adds-same s a =
+    record {
+      answer = a .answer ∙ rw (s .limits, s .said);
+      does = λ e. does-same (s .left) (s .said) (a .does (s .limits ∙ e));
+    }
 
 -- what a step leaves is no longer than its peak
 pub record Covered {A : Type 0} (f : A → State → Out) : Type 0 where
@@ -99,21 +100,21 @@ full-later f k (suc i) (x ∷ l) st s h =
 -- ---- loops: the first i elements, and one more on what is left of the buffer
 module _ {A : Type 0} (f : A → State → Out) (l : List A) (st : State) where
   module _ (k : Covered f) (s : within (sizes st) ≡ true) where
-    pub adds-next : (i : ℕ) (d : A) → i < length l → {w ev₀ ev w′ x : List ℕ} {n : ℕ} {r : Told} → EmitsOrFull (through f (take i l) st) w ev₀ ev (Rows n)
-        → EmitsOrFull (f (getD l i d) ((through f (take i l) st) .state)) w′ (rest n ev) x r
-        → EmitsOrFull (through f (take (i + 1) l) st) w′ ev₀ (take (34 * n) ev ++ (x ++ drop (length ev - 34 * n) (drop (34 * n) ev))) (joined n r)
+    pub adds-next : (i : ℕ) (d : A) → i < length l → {w ev₀ ev w′ x : List ℕ} {n : ℕ} {r : Done} → Comes (goes (through f (take i l) st)) w ev₀ ev (Rows n)
+        → Comes (goes (f (getD l i d) ((through f (take i l) st) .state))) w′ (rest n ev) x r
+        → Comes (goes (through f (take (i + 1) l) st)) w′ ev₀ (take (34 * n) ev ++ (x ++ drop (length ev - 34 * n) (drop (34 * n) ev))) (joined n r)
     adds-next i d h t u =
         rw (take-more l i d h) (adds-same (through-more f k (take i l) (getD l i d) st s) (adds-also t (f (getD l i d)) u))
 
     -- once there is no room, none comes back
-    pub adds-full-end : (i : ℕ) {w ev₀ ev w′ ev′ : List ℕ} → EmitsOrFull (through f (take i l) st) w ev₀ ev Full → EmitsOrFull (through f l st) w′ ev₀ ev′ Full
-    adds-full-end i a = full-adds (full-later f k i l st s (adds-full a))
+    pub adds-other-end : (i : ℕ) {w ev₀ ev w′ ev′ : List ℕ} {r : Done} → NoRows r → Comes (goes (through f (take i l) st)) w ev₀ ev r → Comes (goes (through f l st)) w′ ev₀ ev′ r
+    adds-other-end i other a = let p = other-past other a in rw (p .0) (comes-full (full-later f k i l st s (p .1)))
 
-  pub adds-start : {w ev : List ℕ} → Represents w st → EmitsOrFull (through f (take 0 l) st) w ev ev (Rows 0)
+  pub adds-start : {w ev : List ℕ} → Represents w st → Comes (goes (through f (take 0 l) st)) w ev ev (Rows 0)
   unfolding through
   adds-start h = adds-none st h
 
-  pub adds-end : (i : ℕ) → length l ≤ i → {w ev₀ ev : List ℕ} {r : Told} → EmitsOrFull (through f (take i l) st) w ev₀ ev r → EmitsOrFull (through f l st) w ev₀ ev r
+  pub adds-end : (i : ℕ) → length l ≤ i → {w ev₀ ev : List ℕ} {r : Done} → Comes (goes (through f (take i l) st)) w ev₀ ev r → Comes (goes (through f l st)) w ev₀ ev r
   adds-end i h t = rw (take-all i l h) at t
 
 -- ---- what is left is within the limits where the peak is

@@ -54,13 +54,7 @@ pub fn del_route4(ev: &mut [u32], r: &[u32])
     route_event(ev, event::DEL_ROUTE4, 0, r);
 }
 
-// What a step that adds came to: how many event rows it wrote, or that a list had no room.
-pub enum Told {
-    Rows(usize),
-    Full,
-}
-
-// What a request came to: how many event rows it wrote, the reference's refusal, or that a list had no room.
+// What a step came to: how many event rows it wrote, the reference's refusal, or that a list had no room.
 pub enum Done {
     Rows(usize),
     Refused(u32),

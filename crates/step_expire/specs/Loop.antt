@@ -26,13 +26,13 @@ use Rattle.definition.specs.Preservation.Rows.{deprecate-fit}
 use Rattle.definition.specs.Preservation.Shrinking.{potential}
 use Rattle.state.specs.Represents.{Represents, count-addresses}
 use Rattle.step_events.specs.Emits.{rest}
-use Rattle.step_events.specs.EmitsWithin.{Fits, Ready, EmitsWithin, step-one, step-none, step-also}
-use Rattle.step_events.specs.Turns.{like-refl, like-sym, like-trans, also-like, also-assoc, Going, going-start, going-end, going-fits}
+use Rattle.step_events.specs.EmitsWithin.{RoomFor, SomeRoom, EmitsWithin, step-one, step-none, step-also}
+use Rattle.step_events.specs.Iterations.{like-refl, like-sym, like-trans, also-like, also-assoc, Going, going-start, going-end, going-fits}
 use Rattle.step_drop_prefsrc.specs.Delete.{step-eq}
-use Rattle.step_drop_routes.specs.Turns.{step-facts}
+use Rattle.step_drop_routes.specs.Iterations.{step-facts}
 use Rattle.lists.specs.Front.{any-here}
 use Rattle.step_remove_v4.specs.One.{addressRow, lent-address, put-row}
-use Rattle.step_expire.specs.Turn.{expireTurn, Quiet, nextPlace, expire-turn, expire-none, live-lighter, turn-fewer}
+use Rattle.step_expire.specs.Iteration.{expireTurn, Quiet, nextPlace, expire-iteration, expire-none, live-lighter, iteration-fewer}
 
 -- ---- the tests
 pub due-is : (allowance now : ℕ) (a : Row) (over : Bool) → over ≡ reached allowance (valid a) (changed a) now
@@ -69,33 +69,33 @@ pub marked-fits : (a row : List ℕ) → fitAddress a ≡ true → row ≡ depre
 marked-fits a row f e = (ap length e ∙ length-address (deprecate a) (deprecate-fit a f), ap fitAddress e ∙ deprecate-fit a f)
 
 -- ---- the three turns
-pub some-room : {s ev : List ℕ} → Ready potential s ev → (i : ℕ) → i < addressCount s → 34 ≤ length ev
+pub some-room : {s ev : List ℕ} → SomeRoom potential s ev → (i : ℕ) → i < addressCount s → 34 ≤ length ev
 some-room y i b = omega (arith, y .fits .room, count-addresses (y .fits .holds))
 
-module _ (allowance now : ℕ) {st : State} {s ev : List ℕ} (row : Row) (i : ℕ) (b : i < addressCount s) (f : Fits potential st s ev) (q : row ≡ addressRow s i) where
+module _ (allowance now : ℕ) {st : State} {s ev : List ℕ} (row : Row) (i : ℕ) (b : i < addressCount s) (f : RoomFor potential st s ev) (q : row ≡ addressRow s i) where
   in-use : i < length (st .addresses)
   in-use = omega (arith, count-addresses (f .holds))
 
   same : row ≡ getD (st .addresses) i []
   same = q ∙ lent-address (f .holds) i in-use
 
-  pub turn-there : any (eqRow row) (st .addresses) ≡ true
-  turn-there = any-here (eqRow row) (st .addresses) i [] in-use (rw (← same) (eqRow-refl row))
+  pub iteration-there : any (eqRow row) (st .addresses) ≡ true
+  iteration-there = any-here (eqRow row) (st .addresses) i [] in-use (rw (← same) (eqRow-refl row))
 
   by-row : expireTurn allowance now i st ≡ cond (due allowance now row) (removeV4 row st) (cond (deprecates allowance now row) (becomes (withAddresses (set (st .addresses) i (deprecate row)) st) (newAddr4 (deprecate row) ∷ [])) (stays st))
   unfolding expireTurn
   by-row = ap (λ (a : Row). cond (due allowance now a) (removeV4 a st) (cond (deprecates allowance now a) (becomes (withAddresses (set (st .addresses) i (deprecate a)) st) (newAddr4 (deprecate a) ∷ [])) (stays st))) (sym same)
 
-  pub turn-due : {s′ ev′ : List ℕ} {r : ℕ} → due allowance now row ≡ true → EmitsWithin potential st (removeV4 row st) s′ ev ev′ r → EmitsWithin potential st (expireTurn allowance now i st) s′ ev ev′ r
-  turn-due d t = step-eq (by-row ∙ cond-true (due allowance now row) (removeV4 row st) _ d) t
+  pub iteration-due : {s′ ev′ : List ℕ} {r : ℕ} → due allowance now row ≡ true → EmitsWithin potential st (removeV4 row st) s′ ev ev′ r → EmitsWithin potential st (expireTurn allowance now i st) s′ ev ev′ r
+  iteration-due d t = step-eq (by-row ∙ cond-true (due allowance now row) (removeV4 row st) _ d) t
 
-  pub turn-stays : due allowance now row ≡ false → deprecates allowance now row ≡ false → EmitsWithin potential st (expireTurn allowance now i st) s ev ev 0
-  turn-stays d e = step-eq (by-row ∙ cond-false (due allowance now row) (removeV4 row st) _ d ∙ cond-false (deprecates allowance now row) _ (stays st) e) (step-none potential f)
+  pub iteration-stays : due allowance now row ≡ false → deprecates allowance now row ≡ false → EmitsWithin potential st (expireTurn allowance now i st) s ev ev 0
+  iteration-stays d e = step-eq (by-row ∙ cond-false (due allowance now row) (removeV4 row st) _ d ∙ cond-false (deprecates allowance now row) _ (stays st) e) (step-none potential f)
 
-  pub turn-deprecates : {s′ ev′ : List ℕ} → due allowance now row ≡ false → deprecates allowance now row ≡ true
+  pub iteration-deprecates : {s′ ev′ : List ℕ} → due allowance now row ≡ false → deprecates allowance now row ≡ true
       → Represents s′ (withAddresses (set (st .addresses) i (deprecate row)) st) → ev′ ≡ put 0 (newAddr4 (deprecate row)) ev → EmitsWithin potential st (expireTurn allowance now i st) s′ ev ev′ 1
   unfolding newAddr4
-  turn-deprecates d e h w =
+  iteration-deprecates d e h w =
       let fit : fitAddress (getD (st .addresses) i []) ≡ true = all-at fitAddress i (st .addresses) [] in-use (f .holds .addressesFit) in
       let fit′ : fitAddress row ≡ true = ap fitAddress same ∙ fit in
       let lighter : 1 + potential (withAddresses (set (st .addresses) i (deprecate (getD (st .addresses) i []))) st) ≤ potential st = live-lighter allowance now st i in-use fit (sym (ap (deprecates allowance now) same) ∙ e) in
@@ -108,18 +108,18 @@ module _ (allowance now : ℕ) {st : State} {s ev : List ℕ} (row : Row) (i : �
 abbrev pub Expiring : ℕ → ℕ → State → ℕ → ℕ → List ℕ → List ℕ → List ℕ → Type 0
 Expiring allowance now st i k s ev₀ ev = Going potential st (expire allowance now st) (expire allowance now) (Quiet allowance now i) s ev₀ ev k
 
-pub expiring-start : (allowance now : ℕ) {st : State} {s ev : List ℕ} → Fits potential st s ev → Expiring allowance now st 0 0 s ev ev
+pub expiring-start : (allowance now : ℕ) {st : State} {s ev : List ℕ} → RoomFor potential st s ev → Expiring allowance now st 0 0 s ev ev
 expiring-start allowance now {st} f =
     going-start potential (expire allowance now) (Quiet allowance now 0) f (like-refl (expire allowance now st)) (record { clean = refl; within = omega arith })
 
 module _ (allowance now i : ℕ) {st : State} {k : ℕ} {s ev₀ ev : List ℕ} (g : Expiring allowance now st i k s ev₀ ev) where
-  pub expiring-facts : {s₀ : List ℕ} → Fits potential st s₀ ev₀ → ((34 * k ≤ length ev) × (length s ≡ baseSize) × (length ev ≡ length ev₀) × (k ≤ 384)) × ((i ≤ addressCount s) × (addressCount s ≤ 64))
+  pub expiring-facts : {s₀ : List ℕ} → RoomFor potential st s₀ ev₀ → ((34 * k ≤ length ev) × (length s ≡ baseSize) × (length ev ≡ length ev₀) × (k ≤ 384)) × ((i ≤ addressCount s) × (addressCount s ≤ 64))
   expiring-facts f =
       let h = g .step .holds in
       (step-facts f (g .step), (omega (arith, count-addresses h, g .holding .within), omega (arith, count-addresses h, h .addressesWithin)))
 
   pub expiring-next : (n : ℕ) → n ≡ addressCount s → i < n → (j left : ℕ) {s′ x : List ℕ} {r : ℕ} → left ≡ addressCount s′ → j ≡ nextPlace i n left
-      → ((m : State) → Fits potential m s (rest k ev) → EmitsWithin potential m (expireTurn allowance now i m) s′ (rest k ev) x r)
+      → ((m : State) → RoomFor potential m s (rest k ev) → EmitsWithin potential m (expireTurn allowance now i m) s′ (rest k ev) x r)
       → Expiring allowance now st j (k + r) s′ ev₀ (take (34 * k) ev ++ (x ++ drop (length ev - 34 * k) (drop (34 * k) ev)))
   unfolding also
   expiring-next n en b j left {s′} el ej t =
@@ -127,17 +127,17 @@ module _ (allowance now i : ℕ) {st : State} {k : ℕ} {s ev₀ ev : List ℕ} 
       let m = o .state in
       let h = g .step .holds in
       let done = t m (going-fits potential g) in
-      let turn : State → Out = expireTurn allowance now i in
-      let place : j ≡ nextPlace i (length (m .addresses)) (length ((turn m) .state .addresses)) =
+      let iteration : State → Out = expireTurn allowance now i in
+      let place : j ≡ nextPlace i (length (m .addresses)) (length ((iteration m) .state .addresses)) =
       ej ∙ ap (λ (x : ℕ). nextPlace i x left) (en ∙ count-addresses h) ∙ ap (nextPlace i (length (m .addresses))) (el ∙ count-addresses (done .holds))
       in
-      let more = expire-turn allowance now i m (g .holding) (h .addressesFit) (omega (arith, count-addresses h)) j place in
+      let more = expire-iteration allowance now i m (g .holding) (h .addressesFit) (omega (arith, count-addresses h)) j place in
       record {
-        sofar = also o turn;
-        step = step-also potential (g .step) turn done;
+        sofar = also o iteration;
+        step = step-also potential (g .step) iteration done;
         goes =
-            like-trans (also-assoc o turn (expire allowance now))
-            (like-trans (like-sym (also-like (expire allowance now) (λ y. also (turn y) (expire allowance now)) (like-refl o) (more .0))) (g .goes));
+            like-trans (also-assoc o iteration (expire allowance now))
+            (like-trans (like-sym (also-like (expire allowance now) (λ y. also (iteration y) (expire allowance now)) (like-refl o) (more .0))) (g .goes));
         holding = more .1;
       }
 
@@ -145,10 +145,10 @@ module _ (allowance now i : ℕ) {st : State} {k : ℕ} {s ev₀ ev : List ℕ} 
   expiring-end b = going-end potential g (λ m h w. expire-none allowance now m i (h .clean) (omega (arith, count-addresses w)))
 
   -- no address comes
-  pub expiring-fewer : (n : ℕ) → n ≡ addressCount s → i < n → {s′ x : List ℕ} {r : ℕ} → ((m : State) → Fits potential m s (rest k ev) → EmitsWithin potential m (expireTurn allowance now i m) s′ (rest k ev) x r)
+  pub expiring-fewer : (n : ℕ) → n ≡ addressCount s → i < n → {s′ x : List ℕ} {r : ℕ} → ((m : State) → RoomFor potential m s (rest k ev) → EmitsWithin potential m (expireTurn allowance now i m) s′ (rest k ev) x r)
       → addressCount s′ ≤ n
   expiring-fewer n en b t =
       let m = g .sofar .state in
       let h = g .step .holds in
       let done = t m (going-fits potential g) in
-      omega (arith, count-addresses h, count-addresses (done .holds), turn-fewer allowance now i m (omega (arith, count-addresses h)))
+      omega (arith, count-addresses h, count-addresses (done .holds), iteration-fewer allowance now i m (omega (arith, count-addresses h)))

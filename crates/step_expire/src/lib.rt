@@ -1,4 +1,4 @@
-// Addresses at the end of their lives: one that is due goes, and all begins again; one that fades is marked and told.
+// Addresses at the end of their lives: one that is due goes, and all begins again; one that fades is marked and emitted.
 use layout::ADDRESS_WORDS;
 use layout::ADDRESSES_AT;
 use layout::EVENT_WORDS;
@@ -15,9 +15,9 @@ ghost use Rattle.definition.specs.State.{State, withAddresses};
 ghost use Rattle.definition.specs.Words.{addressCount};
 ghost use Rattle.definition.specs.Reference.Removal.{due, deprecates, deprecate, expire};
 ghost use Rattle.definition.specs.Preservation.Shrinking.{potential};
-ghost use Rattle.state.specs.Represents.{Represents, Valid};
-ghost use Rattle.step_events.specs.EmitsWithin.{Fits, Ready, EmitsWithin};
-ghost use Rattle.step_expire.specs.Turn.{expireTurn, nextPlace};
+ghost use Rattle.state.specs.Represents.{Represents, RepresentsSome};
+ghost use Rattle.step_events.specs.EmitsWithin.{RoomFor, SomeRoom, EmitsWithin};
+ghost use Rattle.step_expire.specs.Iteration.{expireTurn, nextPlace};
 
 // Its valid lifetime is reached; a permanent address never runs out.
 fn due(a: &[u32], allowance: Nanoseconds, clock: Nanoseconds) -> bool
@@ -44,9 +44,9 @@ fn deprecates(a: &[u32], allowance: Nanoseconds, clock: Nanoseconds) -> bool
     !lasting & !marked & over
 }
 
-// The address at i becomes the row a, marked, and is told.
+// The address at i becomes the row a, marked, and is emitted.
 fn mark(s: &mut [u32], ev: &mut [u32], i: usize, a: &[u32])
-    requires { ⌜ Valid (now s) ⌝ }
+    requires { ⌜ RepresentsSome (now s) ⌝ }
     requires { ⌜ (i < addressCount (now s)) × (34 ≤ length (now ev)) × (fitAddress (now a) ≡ true) ⌝ }
     ensures { λ _. ⌜ now (ev .exit) ≡ put 0 (newAddr4 (deprecate (now (a .entry)))) (now (ev .entry)) ⌝ }
     ensures { λ _. ⌜ ((st : State) → Represents (now (s .entry)) st → Represents (now (s .exit)) (withAddresses (set (st .addresses) i (deprecate (now (a .entry)))) st)) ⌝ }
@@ -57,17 +57,17 @@ fn mark(s: &mut [u32], ev: &mut [u32], i: usize, a: &[u32])
     state::replace_address(s, i, &row);
 }
 
-// What comes of the address at i; the number of rows told.
-fn turn(
+// What comes of the address at i; the number of rows emitted.
+fn iteration(
     s: &mut [u32],
     ev: &mut [u32],
     i: usize,
     allowance: Nanoseconds,
     clock: Nanoseconds,
 ) -> usize
-    requires { ⌜ Ready potential (now s) (now ev) ⌝ }
+    requires { ⌜ SomeRoom potential (now s) (now ev) ⌝ }
     requires { ⌜ i < addressCount (now s) ⌝ }
-    ensures { λ r. ⌜ ((st : State) → Fits potential st (now (s .entry)) (now (ev .entry)) → EmitsWithin potential st (expireTurn (allowance .0) (clock .0) i st) (now (s .exit)) (now (ev .entry)) (now (ev .exit)) r) ⌝ }
+    ensures { λ r. ⌜ ((st : State) → RoomFor potential st (now (s .entry)) (now (ev .entry)) → EmitsWithin potential st (expireTurn (allowance .0) (clock .0) i st) (now (s .exit)) (now (ev .entry)) (now (ev .exit)) r) ⌝ }
 {
     let at = ADDRESSES_AT + ADDRESS_WORDS * i;
     let end = at + ADDRESS_WORDS;
@@ -94,16 +94,16 @@ fn next(i: usize, was: usize, left: usize) -> usize
     i + 1
 }
 
-// Every address that is due goes, each that fades is marked; the number of rows told.
+// Every address that is due goes, each that fades is marked; the number of rows emitted.
 pub fn expire(s: &mut [u32], ev: &mut [u32], allowance: Nanoseconds, clock: Nanoseconds) -> usize
-    requires { ⌜ Ready potential (now s) (now ev) ⌝ }
-    ensures { λ r. ⌜ ((st : State) → Fits potential st (now (s .entry)) (now (ev .entry)) → EmitsWithin potential st (expire (allowance .0) (clock .0) st) (now (s .exit)) (now (ev .entry)) (now (ev .exit)) r) ⌝ }
+    requires { ⌜ SomeRoom potential (now s) (now ev) ⌝ }
+    ensures { λ r. ⌜ ((st : State) → RoomFor potential st (now (s .entry)) (now (ev .entry)) → EmitsWithin potential st (expire (allowance .0) (clock .0) st) (now (s .exit)) (now (ev .entry)) (now (ev .exit)) r) ⌝ }
 {
     let mut i = 0usize;
     let mut k = 0usize;
     let mut n = state::address_count(s);
     while i < n {
-        let r = turn(s, &mut ev[EVENT_WORDS * k..], i, allowance, clock);
+        let r = iteration(s, &mut ev[EVENT_WORDS * k..], i, allowance, clock);
         k += r;
         let left = state::address_count(s);
         i = next(i, n, left);

@@ -16,7 +16,7 @@ ghost use Rattle.layout.specs.Route.{fitRoute};
 ghost use Rattle.definition.specs.State.{State};
 ghost use Rattle.definition.specs.Words.{ordered, fitState};
 ghost use Rattle.definition.specs.Reference.Insert.{insert4};
-ghost use Rattle.state.specs.Represents.{Represents, Valid};
+ghost use Rattle.state.specs.Represents.{Represents, RepresentsSome};
 ghost use Rattle.step_insert.specs.Search.{inFront, inRun, runStart, runEnd, rowsRead};
 ghost use Rattle.step_insert.specs.Run.{Run};
 ghost use Rattle.step_insert.specs.Plan.{planned, placed, created, replacing, among, InsertedInto};
@@ -139,7 +139,7 @@ pub fn alike4(rows: &[u32], n: usize, new: &[u32]) -> Alike
     }
 }
 
-// What an insertion is to do: a row more at a place with the flags told, another row in place of one, nothing, or a refusal.
+// What an insertion is to do: a row more at a place with the flags emitted, another row in place of one, nothing, or a refusal.
 pub enum Plan {
     Add(usize, u32),
     Replace(usize),
@@ -234,9 +234,9 @@ fn plan4(rows: &[u32], n: usize, new: &[u32], flags: u32) -> Plan
 
 // A route put into its place: what came of it, the rows as the definition has them. A full list stays as it is.
 pub fn insert4(s: &mut [u32], new: &[u32], flags: u32) -> Inserted
-    requires { ⌜ Valid (now s) ⌝ }
+    requires { ⌜ RepresentsSome (now s) ⌝ }
     requires { ⌜ fitRoute (now new) ≡ true ⌝ }
-    ensures { λ r. ⌜ Valid (now (s .exit)) ⌝ }
+    ensures { λ r. ⌜ RepresentsSome (now (s .exit)) ⌝ }
     ensures { λ r. ⌜ ((st : State) → Represents (now (s .entry)) st → fitState st ≡ true → InsertedInto (now (new .entry)) flags st (now (s .exit)) r) ⌝ }
 {
     let n = state::route_count(s);

@@ -19,7 +19,7 @@ use Rattle.layout.specs.Event.{newAddr4}
 use Rattle.definition.specs.State.{State, Out, sizes, becomes, withAddresses}
 use Rattle.definition.specs.Words.{fitState, addressCount}
 use Rattle.definition.specs.Reference.Insert.{kernelAdd4, kernelDel4}
-use Rattle.definition.specs.Reference.Addresses.{prefixRoute, changedTo, reroutes, moved, changeV4, sameAddress}
+use Rattle.definition.specs.Reference.Addresses.{goes, prefixRoute, changedTo, reroutes, moved, changeV4, sameAddress}
 use Rattle.definition.specs.Preservation.Fit.{length-address, length-route, fields-address}
 use Rattle.definition.specs.Preservation.Rows.{subnet-fit, changedTo-fit}
 use Rattle.definition.specs.Preservation.Addresses.{moved-keeps}
@@ -27,13 +27,13 @@ use Rattle.definition.specs.Preservation.Shrinking.{kernelDel4-away}
 use Rattle.definition.specs.Preservation.Peaks.{kernelDel4-under}
 use Rattle.definition.specs.Preservation.Step.{covered}
 use Rattle.row_candidates.specs.Rows.{subnetRoute}
-use Rattle.state.specs.Represents.{Represents, count-addresses, Sound}
+use Rattle.state.specs.Represents.{Represents, count-addresses, RepresentsFit}
 use Rattle.state.specs.Change.{address-at}
 use Rattle.step_events.specs.Emits.{Emits, does-one, rest}
-use Rattle.step_events.specs.EmitsOrFull.{EmitsOrFull, holds-within, does-adds, adds-none, adds-also, adds-stop, adds-rows}
-use Rattle.step_events.specs.declared.Told.{Told}
-use Rattle.step_events.specs.declared.Told.the-variants.{Rows, Full}
-use Rattle.step_new_address.specs.Sound.{AddsFrom, adds-holds, adds-sound, also-leaves, kernelAdd4-leaves}
+use Rattle.step_events.specs.Comes.{Comes, NoRows, holds-within, goes-made, adds-none, adds-also, adds-stop, comes-rows}
+use Rattle.step_events.specs.declared.Done.{Done}
+use Rattle.step_events.specs.declared.Done.the-variants.{Rows}
+use Rattle.step_new_address.specs.Adding.{AddsFrom, adds-holds, adds-sound, also-leaves, kernelAdd4-leaves}
 use Rattle.step_new_address.specs.New.{length-emitted}
 
 -- ---- the prefix route that an address gets, as it is written into a block of its size
@@ -51,31 +51,31 @@ module _ (old : Row) (fit : fitAddress old ≡ true) (priority source : ℕ) (o 
   row-wide = length-route x row-fits
 
 -- ---- a route taken out never lacks room
-pub del-adds : (p : Row) (st : State) {w₀ w ev₀ ev : List ℕ} {r : ℕ} → Represents w₀ st → Emits (kernelDel4 p st) w ev₀ ev r → EmitsOrFull (kernelDel4 p st) w ev₀ ev (Rows r)
+pub del-adds : (p : Row) (st : State) {w₀ w ev₀ ev : List ℕ} {r : ℕ} → Represents w₀ st → Emits (kernelDel4 p st) w ev₀ ev r → Comes (goes (kernelDel4 p st)) w ev₀ ev (Rows r)
 del-adds p st h d =
-    does-adds (covered ((kernelDel4 p st) .peak) (sizes st) ((kernelDel4-under p st) .ever) (holds-within h)) d
+    goes-made (covered ((kernelDel4 p st) .peak) (sizes st) ((kernelDel4-under p st) .ever) (holds-within h)) d
 
 module _ (q old : Row) where
-  pub moved-none : reroutes q old ≡ false → (st : State) {w ev : List ℕ} → Represents w st → EmitsOrFull (moved q old st) w ev ev (Rows 0)
+  pub moved-none : reroutes q old ≡ false → (st : State) {w ev : List ℕ} → Represents w st → Comes (goes (moved q old st)) w ev ev (Rows 0)
   unfolding moved
   moved-none e st h = rw e (adds-none st h)
 
-  module _ (e : reroutes q old ≡ true) (fit : fitAddress old ≡ true) {new gone : Row} (a : new ≡ subnetRoute (Address.priority q) (local old) old) (b : gone ≡ subnetRoute (Address.priority old) (local old) old) {w₀ w ev₀ ev : List ℕ} {r : Told} (u : AddsFrom (kernelAdd4 new) w₀ w ev₀ ev r) where
+  module _ (e : reroutes q old ≡ true) (fit : fitAddress old ≡ true) {new gone : Row} (a : new ≡ subnetRoute (Address.priority q) (local old) old) (b : gone ≡ subnetRoute (Address.priority old) (local old) old) {w₀ w ev₀ ev : List ℕ} {r : Done} (u : AddsFrom (kernelAdd4 new) w₀ w ev₀ ev r) where
     added : AddsFrom (kernelAdd4 (subnetRoute (Address.priority q) (local old) old)) w₀ w ev₀ ev r
     added = rw a at u
 
-    pub moved-full : r ≡ Full → {w′ ev′ : List ℕ} → AddsFrom (moved q old) w₀ w′ ev₀ ev′ Full
+    pub moved-other : NoRows r → {w′ ev′ : List ℕ} → AddsFrom (moved q old) w₀ w′ ev₀ ev′ r
     unfolding moved
-    moved-full f st h g = rw e (adds-stop (rw f at (added st h g)) (kernelDel4 (prefixRoute (local old) old)))
+    moved-other other st h g = rw e (adds-stop other (added st h g) (kernelDel4 (prefixRoute (local old) old)))
 
     pub moved-both : (k m : ℕ) → r ≡ Rows k → {w′ x : List ℕ} → ((st : State) → Represents w st → Emits (kernelDel4 gone st) w′ (rest k ev) x m)
         → AddsFrom (moved q old) w₀ w′ ev₀ (take (34 * k) ev ++ (x ++ drop (length ev - 34 * k) (drop (34 * k) ev))) (Rows (k + m))
     unfolding moved prefixRoute
     moved-both k m f {w′} {x} d st h g =
-        let first : EmitsOrFull (kernelAdd4 (subnetRoute (Address.priority q) (local old) old) st) w ev₀ ev (Rows k) = rw f at (added st h g) in
+        let first : Comes (goes (kernelAdd4 (subnetRoute (Address.priority q) (local old) old) st)) w ev₀ ev (Rows k) = rw f at (added st h g) in
         let later = (kernelAdd4 (subnetRoute (Address.priority q) (local old) old) st) .state in
-        let there : Represents w later = (adds-rows first) .1 .holds in
-        let second : EmitsOrFull (kernelDel4 (subnetRoute (Address.priority old) (local old) old) later) w′ (rest k ev) x (Rows m) =
+        let there : Represents w later = (comes-rows first) .1 .holds in
+        let second : Comes (goes (kernelDel4 (subnetRoute (Address.priority old) (local old) old) later)) w′ (rest k ev) x (Rows m) =
         del-adds (subnetRoute (Address.priority old) (local old) old) later there (rw b at (d later there))
         in
         rw e (adds-also first (kernelDel4 (subnetRoute (Address.priority old) (local old) old)) second)
@@ -96,19 +96,18 @@ module _ (q : Row) (clock : ℕ) (old : Row) (g : fitAddV4 q ≡ true) (fit : fi
   pub changed-fit : fitAddress row ≡ true
   changed-fit = ap fitAddress changed-row ∙ changedTo-fit q old clock g fit
 
-  module _ {w₀ w ev₀ ev : List ℕ} {r : Told} (m : AddsFrom (moved q old) w₀ w ev₀ ev r) where
-    pub change-full : r ≡ Full → {w′ ev′ : List ℕ} (st : State) → Represents w₀ st → fitState st ≡ true → (there : Row) → old ≡ there → EmitsOrFull (changeV4 q there clock st) w′ ev₀ ev′ Full
+  module _ {w₀ w ev₀ ev : List ℕ} {r : Done} (m : AddsFrom (moved q old) w₀ w ev₀ ev r) where
+    pub change-other : NoRows r → {w′ ev′ : List ℕ} (st : State) → Represents w₀ st → fitState st ≡ true → (there : Row) → old ≡ there → Comes (goes (changeV4 q there clock st)) w′ ev₀ ev′ r
     unfolding changeV4
-    change-full f {w′} {ev′} st hs c there z =
-        let full : EmitsOrFull (moved q old st) w ev₀ ev Full = rw f at (m st hs c) in
-        subst (λ (a : Row). EmitsOrFull (changeV4 q a clock st) w′ ev₀ ev′ Full) z
-        (adds-stop full (λ later. becomes (withAddresses (replaceFirst (sameAddress q) (changedTo q old clock) (later .addresses)) later) (newAddr4 (changedTo q old clock) ∷ [])))
+    change-other other {w′} {ev′} st hs c there z =
+        subst (λ (a : Row). Comes (goes (changeV4 q a clock st)) w′ ev₀ ev′ r) z
+        (adds-stop other (m st hs c) (λ later. becomes (withAddresses (replaceFirst (sameAddress q) (changedTo q old clock) (later .addresses)) later) (newAddr4 (changedTo q old clock) ∷ [])))
 
     module _ (k : ℕ) (f : r ≡ Rows k) where
       went : AddsFrom (moved q old) w₀ w ev₀ ev (Rows k)
       went = rw f at m
 
-      pub change-sound : Sound w₀ → Sound w
+      pub change-sound : RepresentsFit w₀ → RepresentsFit w
       change-sound v = adds-sound (moved q old) (moved-keeps q old fit) went v
 
       pub change-count : (st : State) → Represents w₀ st → fitState st ≡ true → addressCount w ≡ addressCount w₀
@@ -117,21 +116,21 @@ module _ (q : Row) (clock : ℕ) (old : Row) (g : fitAddV4 q ≡ true) (fit : fi
 
       pub change-done : (i : ℕ) {w′ x : List ℕ} → ((st : State) → Represents w st → Represents w′ (withAddresses (set (st .addresses) i row) st))
           → 34 ≤ length (rest k ev) → x ≡ put 0 (newAddr4 row) (rest k ev) → (st : State) → Represents w₀ st → fitState st ≡ true → i ≡ placeOf (sameAddress q) (st .addresses) → (there : Row) → old ≡ there
-          → EmitsOrFull (changeV4 q there clock st) w′ ev₀ (take (34 * k) ev ++ (x ++ drop (length ev - 34 * k) (drop (34 * k) ev))) (Rows (k + 1))
+          → Comes (goes (changeV4 q there clock st)) w′ ev₀ (take (34 * k) ev ++ (x ++ drop (length ev - 34 * k) (drop (34 * k) ev))) (Rows (k + 1))
       unfolding changeV4
       change-done i {w′} {x} s room emitted st hs c at mine z =
           let new = changedTo q old clock in
           let later = (moved q old st) .state in
-          let first : EmitsOrFull (moved q old st) w ev₀ ev (Rows k) = went st hs c in
+          let first : Comes (goes (moved q old st)) w ev₀ ev (Rows k) = went st hs c in
           let place : replaceFirst (sameAddress q) new (later .addresses) ≡ set (later .addresses) i new =
           replace-at (sameAddress q) new (later .addresses) ∙ ap (λ (n : ℕ). set (later .addresses) n new) (ap (placeOf (sameAddress q)) (moved-leaves q old st) ∙ sym at)
           in
-          let there : Represents w′ (withAddresses (set (later .addresses) i new) later) = rw changed-row at (s later ((adds-rows first) .1 .holds)) in
+          let there : Represents w′ (withAddresses (set (later .addresses) i new) later) = rw changed-row at (s later ((comes-rows first) .1 .holds)) in
           let there′ : Represents w′ (withAddresses (replaceFirst (sameAddress q) new (later .addresses)) later) = subst (λ (l : List Row). Represents w′ (withAddresses l later)) (sym place) there in
           let emitted′ : x ≡ put 0 (newAddr4 new) (rest k ev) = rw changed-row at emitted in
-          subst (λ (a : Row). EmitsOrFull (changeV4 q a clock st) w′ ev₀ (take (34 * k) ev ++ (x ++ drop (length ev - 34 * k) (drop (34 * k) ev))) (Rows (k + 1))) z
+          subst (λ (a : Row). Comes (goes (changeV4 q a clock st)) w′ ev₀ (take (34 * k) ev ++ (x ++ drop (length ev - 34 * k) (drop (34 * k) ev))) (Rows (k + 1))) z
           (adds-also first (λ later. becomes (withAddresses (replaceFirst (sameAddress q) new (later .addresses)) later) (newAddr4 new ∷ []))
-          (does-adds (holds-within there′)
+          (goes-made (holds-within there′)
           (does-one (withAddresses (replaceFirst (sameAddress q) new (later .addresses)) later) (newAddr4 new) there′ (length-emitted new (length-address new (changedTo-fit q old clock g fit))) room emitted′)))
 
 -- ---- row i, copied
@@ -145,12 +144,12 @@ module _ {w : List ℕ} (i : ℕ) (b : i < addressCount w) (o : List ℕ) (e : l
       let there : x ≡ put 0 (getD (st .addresses) i []) o = rw row at g in
       there ∙ put-whole (getD (st .addresses) i []) o (length-address (getD (st .addresses) i []) (all-at fitAddress i (st .addresses) [] b′ (h .addressesFit)) ∙ sym e)
 
-  pub old-fit : Sound w → fitAddress x ≡ true
+  pub old-fit : RepresentsFit w → fitAddress x ≡ true
   old-fit v =
       let b′ : i < length (v .state .addresses) = omega (arith, count-addresses (v .holds)) in
       ap fitAddress (old-row (v .state) (v .holds)) ∙ all-at fitAddress i (v .state .addresses) [] b′ (v .holds .addressesFit)
 
-  pub old-long : Sound w → length x ≡ 20
+  pub old-long : RepresentsFit w → length x ≡ 20
   old-long v = length-address x (old-fit v)
 
 pub row-room : (at : ℕ) (w : List ℕ) → 0 + length (take (at + 20 - at) (drop at w)) ≤ 20

@@ -1,4 +1,4 @@
-pub mod Sound
-pub mod Bring
+pub mod Adding
+pub mod Install
 pub mod New
 pub mod Change

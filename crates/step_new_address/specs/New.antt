@@ -1,4 +1,4 @@
--- A new address: put in and told, then the routes that it brings.
+-- A new address: put in with its event, then the routes that it brings.
 -- Assumes nothing.
 use Prim.Native.Nat.{ℕ, _+_, _-_, _*_, _≤_}
 use native.Mathlib.Omega.{arith}
@@ -17,7 +17,7 @@ use Rattle.layout.specs.Route.{fitRoute}
 use Rattle.layout.specs.Event.{newAddr4}
 use Rattle.definition.specs.State.{State, becomes, withAddresses}
 use Rattle.definition.specs.Words.{fitState, addressCount}
-use Rattle.definition.specs.Reference.Addresses.{candidates, bring, place4, newAddress}
+use Rattle.definition.specs.Reference.Addresses.{goes, candidates, install, place4, newAddress}
 use Rattle.definition.specs.Preservation.Fit.{fit-state, state-fit, length-address, fields-address}
 use Rattle.definition.specs.Preservation.Keeps.{fit-addresses}
 use Rattle.definition.specs.Preservation.Rows.{candidates-fit}
@@ -25,11 +25,11 @@ use Rattle.definition.specs.Preservation.Addresses.{place4-fit}
 use Rattle.definition.specs.Preservation.Growing.{length-place4}
 use Rattle.state.specs.Represents.{Represents, count-addresses}
 use Rattle.step_events.specs.Emits.{does-one, rest}
-use Rattle.step_events.specs.EmitsOrFull.{EmitsOrFull, joined, holds-within, does-adds, full-adds, adds-also, adds-stop}
-use Rattle.step_events.specs.declared.Told.{Told}
-use Rattle.step_events.specs.declared.Told.the-variants.{Rows, Full}
-use Rattle.step_new_address.specs.Sound.{AddsFrom}
-use Rattle.step_new_address.specs.Bring.{block-rows, block-ready}
+use Rattle.step_events.specs.Comes.{Comes, joined, holds-within, goes-made, comes-full, full-no-rows, adds-also, adds-stop}
+use Rattle.step_events.specs.declared.Done.{Done}
+use Rattle.step_events.specs.declared.Done.the-variants.{Rows, Full}
+use Rattle.step_new_address.specs.Adding.{AddsFrom}
+use Rattle.step_new_address.specs.Install.{block-rows, block-ready}
 
 pub length-emitted : (a : Row) → length a ≡ 20 → length (newAddr4 a) ≡ 34
 unfolding newAddr4
@@ -48,14 +48,14 @@ too-many a b c h = rw h
 
 module _ (new : Row) (up : Bool) (st : State) where
   -- there are as many as may be
-  pub new-full : 64 ≤ length (st .addresses) → {w ev₀ ev : List ℕ} → EmitsOrFull (newAddress new up st) w ev₀ ev Full
+  pub new-full : 64 ≤ length (st .addresses) → {w ev₀ ev : List ℕ} → Comes (goes (newAddress new up st)) w ev₀ ev Full
   unfolding newAddress
   new-full h {w} {ev₀} {ev} =
       let past : leb (length (place4 new (st .addresses))) 64 ≡ false = lt-leb (length (place4 new (st .addresses))) 64 (omega (arith, length-place4 new (st .addresses))) in
-      let full : EmitsOrFull (becomes (placed new st) (newAddr4 new ∷ [])) w ev₀ ev Full =
-      full-adds (too-many (leb (length (place4 new (st .addresses))) 64) (leb (length (st .routes)) 256) (leb (length (st .tables)) 32) past)
+      let full : Comes (goes (becomes (placed new st) (newAddr4 new ∷ []))) w ev₀ ev Full =
+      comes-full (too-many (leb (length (place4 new (st .addresses))) 64) (leb (length (st .routes)) 256) (leb (length (st .tables)) 32) past)
       in
-      adds-stop full (bring (candidates (place4 new (st .addresses)) up new))
+      adds-stop full-no-rows full (install (candidates (place4 new (st .addresses)) up new))
 
   pub placed-fit : fitAddress new ≡ true → fitState st ≡ true → fitState (placed new st) ≡ true
   placed-fit g h =
@@ -69,7 +69,7 @@ module _ (new : Row) (up : Bool) (st : State) where
     pub placed-count : addressCount w ≡ length (st .addresses) + 1
     placed-count = count-addresses placed-holds ∙ omega (arith, length-place4 new (st .addresses))
 
-    -- what candidates wrote is what bring takes
+    -- what candidates wrote is what install takes
     module _ (fit : fitAddress new ≡ true) (k : ℕ) (o x : List ℕ) (c : (k ≡ length (candidates (place4 new (st .addresses)) up new)) × (x ≡ put 0 (flat (candidates (place4 new (st .addresses)) up new)) o)) where
       routes-fit : all fitRoute (candidates (place4 new (st .addresses)) up new) ≡ true
       routes-fit = candidates-fit (place4 new (st .addresses)) up new ((fields-address new fit) .short)
@@ -77,13 +77,13 @@ module _ (new : Row) (up : Bool) (st : State) where
       pub new-ready : (length (take (32 * k - 0) (drop 0 x)) ≡ 32 * k) × Lays 32 fitRoute (take (32 * k - 0) (drop 0 x))
       new-ready = block-ready (candidates (place4 new (st .addresses)) up new) routes-fit k (c .0) o (c .1)
 
-      pub new-done : fitState st ≡ true → {ev₀ ev : List ℕ} → 34 ≤ length ev₀ → ev ≡ put 0 (newAddr4 new) ev₀ → {w′ x′ : List ℕ} {r : Told}
-          → ((rows : List Row) → Laid 32 fitRoute (take (32 * k - 0) (drop 0 x)) rows → AddsFrom (bring rows) w w′ (rest 1 ev) x′ r)
-          → (z : Told) → z ≡ joined 1 r → EmitsOrFull (newAddress new up st) w′ ev₀ (take 34 ev ++ (x′ ++ drop (length ev - 34) (drop 34 ev))) z
+      pub new-done : fitState st ≡ true → {ev₀ ev : List ℕ} → 34 ≤ length ev₀ → ev ≡ put 0 (newAddr4 new) ev₀ → {w′ x′ : List ℕ} {r : Done}
+          → ((rows : List Row) → Laid 32 fitRoute (take (32 * k - 0) (drop 0 x)) rows → AddsFrom (install rows) w w′ (rest 1 ev) x′ r)
+          → (z : Done) → z ≡ joined 1 r → Comes (goes (newAddress new up st)) w′ ev₀ (take 34 ev ++ (x′ ++ drop (length ev - 34) (drop 34 ev))) z
       unfolding newAddress
       new-done f {ev₀} {ev} room emitted {w′} {x′} {r} b z same =
           let rows = candidates (place4 new (st .addresses)) up new in
-          let first : EmitsOrFull (becomes (placed new st) (newAddr4 new ∷ [])) w ev₀ ev (Rows 1) =
-          does-adds (holds-within placed-holds) (does-one (placed new st) (newAddr4 new) placed-holds (length-emitted new (length-address new fit)) room emitted)
+          let first : Comes (goes (becomes (placed new st) (newAddr4 new ∷ []))) w ev₀ ev (Rows 1) =
+          goes-made (holds-within placed-holds) (does-one (placed new st) (newAddr4 new) placed-holds (length-emitted new (length-address new fit)) room emitted)
           in
-          rw same (adds-also first (bring rows) (b rows (block-rows rows routes-fit k (c .0) o (c .1)) (placed new st) placed-holds (placed-fit fit f)))
+          rw same (adds-also first (install rows) (b rows (block-rows rows routes-fit k (c .0) o (c .1)) (placed new st) placed-holds (placed-fit fit f)))

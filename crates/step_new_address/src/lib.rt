@@ -6,7 +6,7 @@ use layout::EVENT_WORDS;
 use layout::ROUTE_WORDS;
 use layout::address;
 use life::Nanoseconds;
-use step_events::Told;
+use step_events::Done;
 ghost use mathlib.Core.Path.{_≡_};
 ghost use mathlib.Core.Bool.{true};
 ghost use mathlib.Core.List.{List, []};
@@ -20,29 +20,29 @@ ghost use Rattle.layout.specs.Route.{fitRoute};
 ghost use Rattle.layout.specs.Request.{fitAddV4};
 ghost use Rattle.definition.specs.State.{State};
 ghost use Rattle.definition.specs.Words.{fitState, addressCount};
-ghost use Rattle.definition.specs.Reference.Addresses.{bring, newAddress, moved, changeV4, sameAddress};
-ghost use Rattle.state.specs.Represents.{Represents, Sound};
-ghost use Rattle.step_events.specs.EmitsOrFull.{EmitsOrFull, rowsOf, joined};
-ghost use Rattle.step_new_address.specs.Sound.{AddsFrom};
+ghost use Rattle.definition.specs.Reference.Addresses.{goes, install, newAddress, moved, changeV4, sameAddress};
+ghost use Rattle.state.specs.Represents.{Represents, RepresentsFit};
+ghost use Rattle.step_events.specs.Comes.{Comes, rowsOf, joined};
+ghost use Rattle.step_new_address.specs.Adding.{AddsFrom};
 
-// The answer of one step after another that told k rows.
-pub fn joined(k: usize, emitted: Told) -> Told
-    requires { ⌜ k + rowsOf emitted ≤ 1000 ⌝ }
-    ensures { λ r. ⌜ r ≡ joined k emitted ⌝ }
+// The answer of one step after another that emitted k rows.
+pub fn joined(k: usize, came: Done) -> Done
+    requires { ⌜ k + rowsOf came ≤ 1000 ⌝ }
+    ensures { λ r. ⌜ r ≡ joined k came ⌝ }
 {
-    match emitted {
-        Told::Rows(m) => Told::Rows(k + m),
-        Told::Full => Told::Full,
-    }
+    let Done::Rows(m) = came else {
+        return came;
+    };
+    Done::Rows(k + m)
 }
 
 // The k routes laid out in a block, in order.
-pub fn bring(s: &mut [u32], ev: &mut [u32], block: &[u32], k: usize) -> Told
-    requires { ⌜ Sound (now s) ⌝ }
+pub fn install(s: &mut [u32], ev: &mut [u32], block: &[u32], k: usize) -> Done
+    requires { ⌜ RepresentsFit (now s) ⌝ }
     requires { ⌜ (length (now block) ≡ 32 * k) × Lays 32 fitRoute (now block) ⌝ }
     requires { ⌜ (34 * k ≤ length (now ev)) × (k ≤ 100) ⌝ }
     ensures { λ r. ⌜ rowsOf r ≤ k ⌝ }
-    ensures { λ r. ⌜ ((rows : List Row) → Laid 32 fitRoute (now (block .entry)) rows → AddsFrom (bring rows) (now (s .entry)) (now (s .exit)) (now (ev .entry)) (now (ev .exit)) r) ⌝ }
+    ensures { λ r. ⌜ ((rows : List Row) → Laid 32 fitRoute (now (block .entry)) rows → AddsFrom (install rows) (now (s .entry)) (now (s .exit)) (now (ev .entry)) (now (ev .exit)) r) ⌝ }
 {
     let mut emitted = 0usize;
     let mut i = 0usize;
@@ -50,22 +50,18 @@ pub fn bring(s: &mut [u32], ev: &mut [u32], block: &[u32], k: usize) -> Told
         let at = ROUTE_WORDS * i;
         let from = EVENT_WORDS * emitted;
         let came = step_kernel_add::kernel_add4(s, &mut ev[from..], &block[at..at + ROUTE_WORDS]);
-        match came {
-            Told::Rows(m) => {
-                emitted += m;
-            }
-            Told::Full => {
-                return Told::Full;
-            }
-        }
+        let Done::Rows(m) = came else {
+            return came;
+        };
+        emitted += m;
         i += 1;
     }
-    Told::Rows(emitted)
+    Done::Rows(emitted)
 }
 
-// An address put in its place and told, then the routes that it brings.
-pub fn new_address(s: &mut [u32], ev: &mut [u32], new: &[u32], up: bool) -> Told
-    requires { ⌜ Sound (now s) ⌝ }
+// An address put in its place with its event, then the routes that it brings.
+pub fn new_address(s: &mut [u32], ev: &mut [u32], new: &[u32], up: bool) -> Done
+    requires { ⌜ RepresentsFit (now s) ⌝ }
     requires { ⌜ fitAddress (now new) ≡ true ⌝ }
     requires { ⌜ 170 ≤ length (now ev) ⌝ }
     ensures { λ r. ⌜ rowsOf r ≤ 5 ⌝ }
@@ -73,7 +69,7 @@ pub fn new_address(s: &mut [u32], ev: &mut [u32], new: &[u32], up: bool) -> Told
 {
     let n = state::address_count(s);
     if ADDRESS_LIMIT <= n {
-        return Told::Full;
+        return Done::Full;
     }
     let place = rows_place::place4(state_read::addresses(s), n, new);
     state::insert_address(s, place, new);
@@ -81,13 +77,13 @@ pub fn new_address(s: &mut [u32], ev: &mut [u32], new: &[u32], up: bool) -> Told
     let mut block = [0u32; 128];
     let k = row_candidates::candidates(state_read::addresses(s), n + 1, new, up, &mut block);
     let end = ROUTE_WORDS * k;
-    let came = bring(s, &mut ev[EVENT_WORDS..], &block[0..end], k);
+    let came = install(s, &mut ev[EVENT_WORDS..], &block[0..end], k);
     joined(1, came)
 }
 
 // An address's prefix route with a request's priority put in, and then the one with its own taken out.
-fn moved(s: &mut [u32], ev: &mut [u32], q: &[u32], old: &[u32]) -> Told
-    requires { ⌜ Sound (now s) ⌝ }
+fn moved(s: &mut [u32], ev: &mut [u32], q: &[u32], old: &[u32]) -> Done
+    requires { ⌜ RepresentsFit (now s) ⌝ }
     requires { ⌜ length (now q) ≡ 18 ⌝ }
     requires { ⌜ length (now old) ≡ 20 ⌝ }
     requires { ⌜ fitAddress (now old) ≡ true ⌝ }
@@ -96,7 +92,7 @@ fn moved(s: &mut [u32], ev: &mut [u32], q: &[u32], old: &[u32]) -> Told
     ensures { λ r. ⌜ AddsFrom (moved (now (q .entry)) (now (old .entry))) (now (s .entry)) (now (s .exit)) (now (ev .entry)) (now (ev .exit)) r ⌝ }
 {
     if !rows_place::reroutes(q, old) {
-        return Told::Rows(0);
+        return Done::Rows(0);
     }
     let mut new = [0u32; ROUTE_WORDS];
     row_candidates::prefix_route4(&mut new, 0, old, q[address::PRIORITY], old[address::LOCAL]);
@@ -109,24 +105,22 @@ fn moved(s: &mut [u32], ev: &mut [u32], q: &[u32], old: &[u32]) -> Told
         old[address::LOCAL],
     );
     let came = step_kernel_add::kernel_add4(s, ev, &new);
-    match came {
-        Told::Rows(k) => {
-            let from = EVENT_WORDS * k;
-            let went = step_kernel_del::kernel_del4(s, &mut ev[from..], &gone);
-            Told::Rows(k + went)
-        }
-        Told::Full => Told::Full,
-    }
+    let Done::Rows(k) = came else {
+        return came;
+    };
+    let from = EVENT_WORDS * k;
+    let went = step_kernel_del::kernel_del4(s, &mut ev[from..], &gone);
+    Done::Rows(k + went)
 }
 
 // Address i, which is the requested one, with the request's priority, proto and lifetimes.
-pub fn change_v4(s: &mut [u32], ev: &mut [u32], i: usize, q: &[u32], clock: Nanoseconds) -> Told
-    requires { ⌜ Sound (now s) ⌝ }
+pub fn change_v4(s: &mut [u32], ev: &mut [u32], i: usize, q: &[u32], clock: Nanoseconds) -> Done
+    requires { ⌜ RepresentsFit (now s) ⌝ }
     requires { ⌜ i < addressCount (now s) ⌝ }
     requires { ⌜ (length (now q) ≡ 18) × (fitAddV4 (now q) ≡ true) ⌝ }
     requires { ⌜ 102 ≤ length (now ev) ⌝ }
     ensures { λ r. ⌜ rowsOf r ≤ 3 ⌝ }
-    ensures { λ r. ⌜ ((st : State) → Represents (now (s .entry)) st → fitState st ≡ true → i ≡ placeOf (sameAddress (now (q .entry))) (st .addresses) → EmitsOrFull (changeV4 (now (q .entry)) (getD (st .addresses) i []) (clock .0) st) (now (s .exit)) (now (ev .entry)) (now (ev .exit)) r) ⌝ }
+    ensures { λ r. ⌜ ((st : State) → Represents (now (s .entry)) st → fitState st ≡ true → i ≡ placeOf (sameAddress (now (q .entry))) (st .addresses) → Comes (goes (changeV4 (now (q .entry)) (getD (st .addresses) i []) (clock .0) st)) (now (s .exit)) (now (ev .entry)) (now (ev .exit)) r) ⌝ }
 {
     let at = ADDRESSES_AT + ADDRESS_WORDS * i;
     let mut old = [0u32; ADDRESS_WORDS];
@@ -134,13 +128,11 @@ pub fn change_v4(s: &mut [u32], ev: &mut [u32], i: usize, q: &[u32], clock: Nano
     let mut row = [0u32; ADDRESS_WORDS];
     row_update::changed_to(q, &old, clock, &mut row);
     let came = moved(s, ev, q, &old);
-    match came {
-        Told::Rows(k) => {
-            state::replace_address(s, i, &row);
-            let from = EVENT_WORDS * k;
-            step_events::new_addr4(&mut ev[from..], &row);
-            Told::Rows(k + 1)
-        }
-        Told::Full => Told::Full,
-    }
+    let Done::Rows(k) = came else {
+        return came;
+    };
+    state::replace_address(s, i, &row);
+    let from = EVENT_WORDS * k;
+    step_events::new_addr4(&mut ev[from..], &row);
+    Done::Rows(k + 1)
 }

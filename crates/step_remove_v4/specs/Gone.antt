@@ -17,7 +17,7 @@ use Rattle.definition.specs.State.{State, Out, stays, also, through}
 use Rattle.definition.specs.Reference.Addresses.{sameSubnet}
 use Rattle.definition.specs.Reference.Removal.{removeOne, goneWith, removeV4}
 use Rattle.definition.specs.Preservation.Shrinking.{removeOne-removes}
-use Rattle.step_events.specs.Turns.{Like, like-refl, like-sym, like-trans, like-eq, stays-also, also-like, through-one, through-append}
+use Rattle.step_events.specs.Iterations.{Like, like-refl, like-sym, like-trans, like-eq, stays-also, also-like, through-one, through-append}
 use Rattle.lists.specs.Front.{remove-front, front-more, keep-here, keep-past, take-removed, drop-removed}
 
 -- b goes with the primary a
@@ -146,8 +146,8 @@ module _ (a : Row) where
           record { clean = rw next (front-more (goesWith a) i (st .addresses) [] clean b e); most = h .most; least = omega (arith, h .least) },
         )
 
-    pub gone-turn : j < n → Like (pass n j st) (also (goneTurn i st) (pass n (j + 1))) × Passed n (j + 1) ((goneTurn i st) .state)
-    gone-turn b =
+    pub gone-iteration : j < n → Like (pass n j st) (also (goneTurn i st) (pass n (j + 1))) × Passed n (j + 1) ((goneTurn i st) .state)
+    gone-iteration b =
         let in-use : i < length (st .addresses) = omega arith in
         test-case (goesWith a (getD (st .addresses) i [])) (λ e. rw e (one-goes in-use e)) (λ e. rw e (one-stays in-use e))
 

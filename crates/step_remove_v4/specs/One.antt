@@ -1,4 +1,4 @@
--- One address goes: itself, told, and then what goes with it.
+-- One address goes: itself, emitted, and then what goes with it.
 -- Assumes nothing.
 use Prim.Native.Nat.{ℕ, suc, _+_, _-_, _*_, _≤_, _<_}
 use mathlib.Core.Path.{_≡_, refl, sym, ap, _∙_}
@@ -35,21 +35,21 @@ use Rattle.definition.specs.Preservation.Shrinking.{potential, live}
 use Rattle.state.specs.Represents.{Represents, holds-long, count-addresses}
 use Rattle.state.specs.Change.{address-at, fit-address-at}
 use Rattle.step_events.specs.Emits.{rest}
-use Rattle.step_events.specs.EmitsWithin.{Fits, Ready, EmitsWithin, rest-fits, step-same, step-one, step-also, step-none}
-use Rattle.step_events.specs.Turns.{Like, like-refl, like-sym, like-trans, like-eq, also-like, also-assoc, Going, going-start, going-turn, going-end}
+use Rattle.step_events.specs.EmitsWithin.{RoomFor, SomeRoom, EmitsWithin, rest-fits, step-same, step-one, step-also, step-none}
+use Rattle.step_events.specs.Iterations.{Like, like-refl, like-sym, like-trans, like-eq, also-like, also-assoc, Going, going-start, going-iteration, going-end}
 use Rattle.row_candidates.specs.Laws.{route-long}
 use Rattle.step_drop_prefsrc.specs.Delete.{step-eq}
 use Rattle.step_drop_routes.specs.One.{unlessWanted, unwanted-turns, loses, fallFrom, fall-from}
-use Rattle.step_drop_routes.specs.Turns.{anyRow, routesGo, step-facts}
-use Rattle.step_remove_v4.specs.Gone.{goesWith, goneTurn, secondaries, remove-parts, primary-there, pass, Passed, pass-start, gone-turn, pass-end}
+use Rattle.step_drop_routes.specs.Iterations.{anyRow, routesGo, step-facts}
+use Rattle.step_remove_v4.specs.Gone.{goesWith, goneTurn, secondaries, remove-parts, primary-there, pass, Passed, pass-start, gone-iteration, pass-end}
 
 -- ---- an address that is there
 pub record Present (a : Row) (s ev : List ℕ) : Type 0 where
   pub state : State
-  pub fits : Fits potential state s ev
+  pub fits : RoomFor potential state s ev
   pub there : any (eqRow a) (state .addresses) ≡ true
 
--- it goes, and is told
+-- it goes, and is emitted
 abbrev pub goneFrom : Row → State → Out
 goneFrom a st = becomes (withAddresses (removeFirst (eqRow a) (st .addresses)) st) (delAddr4 a ∷ [])
 
@@ -89,7 +89,7 @@ lent-address {s} {st} h i b =
     let whole : 3 + 20 * i + 20 - (3 + 20 * i) ≡ 20 = omega arith in
     rw whole (address-at h i b)
 
-pub address-end : {s ev : List ℕ} → Ready potential s ev → (i : ℕ) → i < addressCount s → (3 + 20 * i + 20 ≤ length s) × (i < 64) × (fitAddress (addressRow s i) ≡ true) × (length (addressRow s i) ≡ 20)
+pub address-end : {s ev : List ℕ} → SomeRoom potential s ev → (i : ℕ) → i < addressCount s → (3 + 20 * i + 20 ≤ length s) × (i < 64) × (fitAddress (addressRow s i) ≡ true) × (length (addressRow s i) ≡ 20)
 unfolding span
 address-end {s} y i b =
     let h = y .fits .holds in
@@ -160,7 +160,7 @@ present-fit {a} p = go (p .state .addresses) (p .fits .holds .addressesFit) (p .
         or-case (eqRow a b) (any (eqRow a) l) e (λ q. rw (eqRow-true a b q) (all-head fitAddress b l h)) (λ q. go l (all-tail fitAddress b l h) q)
 
 -- the address itself
-pub gone-step : {st : State} {s s′ ev ev′ : List ℕ} (a : Row) (i : ℕ) → Fits potential st s ev → any (eqRow a) (st .addresses) ≡ true → fitAddress a ≡ true
+pub gone-step : {st : State} {s s′ ev ev′ : List ℕ} (a : Row) (i : ℕ) → RoomFor potential st s ev → any (eqRow a) (st .addresses) ≡ true → fitAddress a ≡ true
     → i ≡ placeOf (eqRow a) (st .addresses) → Represents s′ (withAddresses (removeAt i (st .addresses)) st) → ev′ ≡ put 0 (delAddr4 a) ev
     → EmitsWithin potential st (goneFrom a st) s′ ev ev′ 1
 unfolding removeAt delAddr4
@@ -179,7 +179,7 @@ present-room {a} p =
 pub present-place : {a : Row} {s ev : List ℕ} (p : Present a s ev) (i : ℕ) → i ≡ placeOf (eqRow a) (p .state .addresses) → i < addressCount s
 present-place {a} p i e = omega (arith, any-at (eqRow a) (p .state .addresses) (p .there), count-addresses (p .fits .holds))
 
-pub present-ready : {a : Row} {s ev : List ℕ} → Present a s ev → Ready potential s ev
+pub present-ready : {a : Row} {s ev : List ℕ} → Present a s ev → SomeRoom potential s ev
 present-ready p = record { state = p .state; fits = p .fits }
 
 -- with what goes with it
@@ -191,7 +191,7 @@ one-step {st} a t u =
     step-same potential (e .leaves) (e .sameEmitted) (step-also potential t (routesGo (local a) (leaving (st .addresses) a)) u)
 
 -- ---- a primary and its secondaries
-pub secondary-goes : {st : State} {s s′ ev ev′ : List ℕ} {r : ℕ} (a row : Row) (i : ℕ) → i < addressCount s → Fits potential st s ev → row ≡ addressRow s i → goesWith a row ≡ true
+pub secondary-goes : {st : State} {s s′ ev ev′ : List ℕ} {r : ℕ} (a row : Row) (i : ℕ) → i < addressCount s → RoomFor potential st s ev → row ≡ addressRow s i → goesWith a row ≡ true
     → (any (eqRow row) (st .addresses) ≡ true → EmitsWithin potential st (removeOne row st) s′ ev ev′ r) → EmitsWithin potential st (goneTurn a i st) s′ ev ev′ r
 secondary-goes {st} a row i b f q e t =
     let here : i < length (st .addresses) = omega (arith, count-addresses (f .holds)) in
@@ -200,14 +200,14 @@ secondary-goes {st} a row i b f q e t =
     step-eq (cond-true (goesWith a (getD (st .addresses) i [])) (removeOne (getD (st .addresses) i []) st) (stays st) g ∙ ap (λ (x : Row). removeOne x st) (sym same))
     (t (any-here (eqRow row) (st .addresses) i [] here (rw (← same) (eqRow-refl row))))
 
-pub other-stays : {st : State} {s ev : List ℕ} (a row : Row) (i : ℕ) → i < addressCount s → Fits potential st s ev → row ≡ addressRow s i → goesWith a row ≡ false
+pub other-stays : {st : State} {s ev : List ℕ} (a row : Row) (i : ℕ) → i < addressCount s → RoomFor potential st s ev → row ≡ addressRow s i → goesWith a row ≡ false
     → EmitsWithin potential st (goneTurn a i st) s ev ev 0
 other-stays {st} a row i b f q e =
     let here : i < length (st .addresses) = omega (arith, count-addresses (f .holds)) in
     let same : row ≡ getD (st .addresses) i [] = q ∙ lent-address (f .holds) i here in
     step-eq (cond-false (goesWith a (getD (st .addresses) i [])) (removeOne (getD (st .addresses) i []) st) (stays st) (sym (ap (goesWith a) same) ∙ e)) (step-none potential f)
 
-pub row-present : {s ev : List ℕ} (y : Ready potential s ev) (row : Row) (i : ℕ) → i < addressCount s → row ≡ addressRow s i → Present row s ev
+pub row-present : {s ev : List ℕ} (y : SomeRoom potential s ev) (row : Row) (i : ℕ) → i < addressCount s → row ≡ addressRow s i → Present row s ev
 row-present y row i b q =
     let f = y .fits in
     let here : i < length (y .state .addresses) = omega (arith, count-addresses (f .holds)) in
@@ -218,23 +218,23 @@ row-present y row i b q =
 abbrev pub Going1 : Row → State → ℕ → ℕ → ℕ → List ℕ → List ℕ → List ℕ → Type 0
 Going1 a st n j k s ev₀ ev = Going potential st (secondaries a st) (pass a n j) (Passed a n j) s ev₀ ev k
 
-pub gone-start : {st : State} {s ev : List ℕ} (a : Row) (n : ℕ) → n ≡ addressCount s → Fits potential st s ev → Going1 a st n 0 0 s ev ev
+pub gone-start : {st : State} {s ev : List ℕ} (a : Row) (n : ℕ) → n ≡ addressCount s → RoomFor potential st s ev → Going1 a st n 0 0 s ev ev
 gone-start {st} a n e f =
     let all : n ≡ length (st .addresses) = e ∙ count-addresses (f .holds) in
     let p = pass-start a st in
     going-start potential (pass a n 0) (Passed a n 0) f (rw all (p .0)) (rw all (p .1))
 
 module _ (a : Row) (n j : ℕ) {st : State} {k : ℕ} {s ev₀ ev : List ℕ} (g : Going1 a st n j k s ev₀ ev) where
-  pub gone-facts : {s₀ : List ℕ} → Fits potential st s₀ ev₀ → ((34 * k ≤ length ev) × (length s ≡ baseSize) × (length ev ≡ length ev₀) × (k ≤ 384)) × ((addressCount s ≤ n) × (n ≤ j + addressCount s))
+  pub gone-facts : {s₀ : List ℕ} → RoomFor potential st s₀ ev₀ → ((34 * k ≤ length ev) × (length s ≡ baseSize) × (length ev ≡ length ev₀) × (k ≤ 384)) × ((addressCount s ≤ n) × (n ≤ j + addressCount s))
   gone-facts f =
       let c = count-addresses (g .step .holds) in
       (step-facts f (g .step), (omega (arith, c, g .holding .most), omega (arith, c, g .holding .least)))
 
-  pub gone-next : j < n → (i : ℕ) → i + n ≡ j + addressCount s → {s′ x : List ℕ} {r : ℕ} → ((m : State) → Fits potential m s (rest k ev) → EmitsWithin potential m (goneTurn a i m) s′ (rest k ev) x r)
+  pub gone-next : j < n → (i : ℕ) → i + n ≡ j + addressCount s → {s′ x : List ℕ} {r : ℕ} → ((m : State) → RoomFor potential m s (rest k ev) → EmitsWithin potential m (goneTurn a i m) s′ (rest k ev) x r)
       → Going1 a st n (j + 1) (k + r) s′ ev₀ (take (34 * k) ev ++ (x ++ drop (length ev - 34 * k) (drop (34 * k) ev)))
   gone-next b i e t =
-      going-turn potential g (goneTurn a i) (pass a n (j + 1)) (Passed a n (j + 1)) (λ m h f. t m f)
-      (λ m h w q. gone-turn a n j i m h (omega (arith, count-addresses w)) b)
+      going-iteration potential g (goneTurn a i) (pass a n (j + 1)) (Passed a n (j + 1)) (λ m h f. t m f)
+      (λ m h w q. gone-iteration a n j i m h (omega (arith, count-addresses w)) b)
 
   pub gone-last : n ≤ j → EmitsWithin potential st (secondaries a st) s ev₀ ev k
   gone-last b = going-end potential g (λ m h w. pass-end a n j m h b)
@@ -244,7 +244,7 @@ pub primary-present : {st : State} {s ev₀ ev : List ℕ} {k : ℕ} (a : Row) �
 primary-present {st} a t u = record { state = (secondaries a st) .state; fits = rest-fits potential u; there = primary-there a st t }
 
 pub removed-step : {st : State} {s₁ s₂ ev₀ ev₁ x : List ℕ} {k n : ℕ} (a : Row) → any (eqRow a) (st .addresses) ≡ true → EmitsWithin potential st (secondaries a st) s₁ ev₀ ev₁ k
-    → ((m : State) → Fits potential m s₁ (rest k ev₁) → any (eqRow a) (m .addresses) ≡ true → EmitsWithin potential m (removeOne a m) s₂ (rest k ev₁) x n)
+    → ((m : State) → RoomFor potential m s₁ (rest k ev₁) → any (eqRow a) (m .addresses) ≡ true → EmitsWithin potential m (removeOne a m) s₂ (rest k ev₁) x n)
     → EmitsWithin potential st (removeV4 a st) s₂ ev₀ (take (34 * k) ev₁ ++ (x ++ drop (length ev₁ - 34 * k) (drop (34 * k) ev₁))) (k + n)
 removed-step {st} a t u v =
     let e = like-sym (remove-parts a st) in

@@ -17,7 +17,7 @@ ghost use Rattle.definition.specs.State.{State};
 ghost use Rattle.definition.specs.Words.{addressCount};
 ghost use Rattle.definition.specs.Reference.Removal.{removeOne, removeV4};
 ghost use Rattle.definition.specs.Preservation.Shrinking.{potential};
-ghost use Rattle.step_events.specs.EmitsWithin.{Fits, Ready, EmitsWithin};
+ghost use Rattle.step_events.specs.EmitsWithin.{RoomFor, SomeRoom, EmitsWithin};
 ghost use Rattle.step_remove_v4.specs.Gone.{goesWith, goneTurn, secondaries};
 ghost use Rattle.step_remove_v4.specs.One.{Present, goneFrom};
 
@@ -38,11 +38,11 @@ fn place_of(rows: &[u32], n: usize, a: &[u32]) -> usize
     n
 }
 
-// The first row equal to a goes, and is told; one row.
+// The first row equal to a goes, and is emitted; one row.
 fn take_out(s: &mut [u32], ev: &mut [u32], a: &[u32]) -> usize
     requires { ⌜ Present (now a) (now s) (now ev) ⌝ }
     ensures { λ r. ⌜ r ≡ 1 ⌝ }
-    ensures { λ r. ⌜ ((st : State) → Fits potential st (now (s .entry)) (now (ev .entry)) → any (eqRow (now (a .entry))) (st .addresses) ≡ true → EmitsWithin potential st (goneFrom (now (a .entry)) st) (now (s .exit)) (now (ev .entry)) (now (ev .exit)) r) ⌝ }
+    ensures { λ r. ⌜ ((st : State) → RoomFor potential st (now (s .entry)) (now (ev .entry)) → any (eqRow (now (a .entry))) (st .addresses) ≡ true → EmitsWithin potential st (goneFrom (now (a .entry)) st) (now (s .exit)) (now (ev .entry)) (now (ev .exit)) r) ⌝ }
 {
     let i = place_of(state_read::addresses(s), state::address_count(s), a);
     step_events::del_addr4(ev, a);
@@ -53,7 +53,7 @@ fn take_out(s: &mut [u32], ev: &mut [u32], a: &[u32]) -> usize
 // The address a goes, its routes that none wants, and what falls with it.
 pub fn remove_one(s: &mut [u32], ev: &mut [u32], a: &[u32]) -> usize
     requires { ⌜ Present (now a) (now s) (now ev) ⌝ }
-    ensures { λ r. ⌜ ((st : State) → Fits potential st (now (s .entry)) (now (ev .entry)) → any (eqRow (now (a .entry))) (st .addresses) ≡ true → EmitsWithin potential st (removeOne (now (a .entry)) st) (now (s .exit)) (now (ev .entry)) (now (ev .exit)) r) ⌝ }
+    ensures { λ r. ⌜ ((st : State) → RoomFor potential st (now (s .entry)) (now (ev .entry)) → any (eqRow (now (a .entry))) (st .addresses) ≡ true → EmitsWithin potential st (removeOne (now (a .entry)) st) (now (s .exit)) (now (ev .entry)) (now (ev .exit)) r) ⌝ }
 {
     let mut block = [0u32; 128];
     let n = state::address_count(s);
@@ -83,11 +83,11 @@ fn goes_with(a: &[u32], b: &[u32]) -> bool
 }
 
 // The address at i goes if it goes with the primary a.
-fn gone_turn(s: &mut [u32], ev: &mut [u32], a: &[u32], i: usize) -> usize
-    requires { ⌜ Ready potential (now s) (now ev) ⌝ }
+fn gone_iteration(s: &mut [u32], ev: &mut [u32], a: &[u32], i: usize) -> usize
+    requires { ⌜ SomeRoom potential (now s) (now ev) ⌝ }
     requires { ⌜ i < addressCount (now s) ⌝ }
     requires { ⌜ fitAddress (now a) ≡ true ⌝ }
-    ensures { λ r. ⌜ ((st : State) → Fits potential st (now (s .entry)) (now (ev .entry)) → EmitsWithin potential st (goneTurn (now (a .entry)) i st) (now (s .exit)) (now (ev .entry)) (now (ev .exit)) r) ⌝ }
+    ensures { λ r. ⌜ ((st : State) → RoomFor potential st (now (s .entry)) (now (ev .entry)) → EmitsWithin potential st (goneTurn (now (a .entry)) i st) (now (s .exit)) (now (ev .entry)) (now (ev .exit)) r) ⌝ }
 {
     let at = ADDRESSES_AT + ADDRESS_WORDS * i;
     let end = at + ADDRESS_WORDS;
@@ -101,16 +101,16 @@ fn gone_turn(s: &mut [u32], ev: &mut [u32], a: &[u32], i: usize) -> usize
 
 // The secondaries that go with the primary a, in their order.
 fn remove_secondaries(s: &mut [u32], ev: &mut [u32], a: &[u32]) -> usize
-    requires { ⌜ Ready potential (now s) (now ev) ⌝ }
+    requires { ⌜ SomeRoom potential (now s) (now ev) ⌝ }
     requires { ⌜ fitAddress (now a) ≡ true ⌝ }
-    ensures { λ r. ⌜ ((st : State) → Fits potential st (now (s .entry)) (now (ev .entry)) → EmitsWithin potential st (secondaries (now (a .entry)) st) (now (s .exit)) (now (ev .entry)) (now (ev .exit)) r) ⌝ }
+    ensures { λ r. ⌜ ((st : State) → RoomFor potential st (now (s .entry)) (now (ev .entry)) → EmitsWithin potential st (secondaries (now (a .entry)) st) (now (s .exit)) (now (ev .entry)) (now (ev .exit)) r) ⌝ }
 {
     let n = state::address_count(s);
     let mut j = 0usize;
     let mut k = 0usize;
     while j < n {
         let i = j + state::address_count(s) - n;
-        k += gone_turn(s, &mut ev[EVENT_WORDS * k..], a, i);
+        k += gone_iteration(s, &mut ev[EVENT_WORDS * k..], a, i);
         j += 1;
     }
     k
@@ -119,7 +119,7 @@ fn remove_secondaries(s: &mut [u32], ev: &mut [u32], a: &[u32]) -> usize
 // The address a goes; a primary takes its secondaries with it, which go first.
 pub fn remove_v4(s: &mut [u32], ev: &mut [u32], a: &[u32]) -> usize
     requires { ⌜ Present (now a) (now s) (now ev) ⌝ }
-    ensures { λ r. ⌜ ((st : State) → Fits potential st (now (s .entry)) (now (ev .entry)) → any (eqRow (now (a .entry))) (st .addresses) ≡ true → EmitsWithin potential st (removeV4 (now (a .entry)) st) (now (s .exit)) (now (ev .entry)) (now (ev .exit)) r) ⌝ }
+    ensures { λ r. ⌜ ((st : State) → RoomFor potential st (now (s .entry)) (now (ev .entry)) → any (eqRow (now (a .entry))) (st .addresses) ≡ true → EmitsWithin potential st (removeV4 (now (a .entry)) st) (now (s .exit)) (now (ev .entry)) (now (ev .exit)) r) ⌝ }
 {
     let k = remove_secondaries(s, ev, a);
     k + remove_one(s, &mut ev[EVENT_WORDS * k..], a)

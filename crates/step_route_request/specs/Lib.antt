@@ -1,4 +1,4 @@
-pub mod Done
+pub mod Ways
 pub mod Delete
 pub mod Check
 pub mod Add

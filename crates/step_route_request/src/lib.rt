@@ -17,21 +17,21 @@ ghost use Rattle.definition.specs.State.{State};
 ghost use Rattle.definition.specs.Reference.Routes.{by, tableNamed, insertedAs, askedRoute, addRoute4, delRoute4Request};
 ghost use Rattle.definition.specs.Reference.Lookup.{listed};
 ghost use Rattle.definition.specs.Reference.Insert.{listTable, create4, insert4};
-ghost use Rattle.state.specs.Represents.{Represents, Valid, Sound};
+ghost use Rattle.state.specs.Represents.{Represents, RepresentsSome, RepresentsFit};
 ghost use Rattle.state_tables.specs.Listed.{tablesOf};
 ghost use Rattle.request_gateway.specs.Rows.{reachedOf};
 ghost use Rattle.layout.specs.Route.{fitRoute};
 ghost use Rattle.definition.specs.Words.{fitState};
-ghost use Rattle.step_route_request.specs.Done.{Requested};
-ghost use Rattle.step_route_request.specs.Add.{fullOf, Tells};
+ghost use Rattle.step_events.specs.Comes.{ComesWhole};
+ghost use Rattle.step_route_request.specs.Add.{fullOf, Emission};
 ghost use Rattle.step_route_request.specs.Check.{prefsrcCheck, checkAll};
 
 // The first row that the request names goes. No table is listed.
 pub fn del_route4(s: &mut [u32], ev: &mut [u32], q: &[u32]) -> Done
-    requires { ⌜ Valid (now s) ⌝ }
+    requires { ⌜ RepresentsSome (now s) ⌝ }
     requires { ⌜ (length (now q) ≡ 49) × (fitDelRoute4 (now q) ≡ true) ⌝ }
     requires { ⌜ 34 ≤ length (now ev) ⌝ }
-    ensures { λ r. ⌜ ((st : State) → Represents (now (s .entry)) st → Requested (delRoute4Request (now (q .entry)) st) st (now (s .exit)) (now (ev .entry)) (now (ev .exit)) r) ⌝ }
+    ensures { λ r. ⌜ ((st : State) → Represents (now (s .entry)) st → ComesWhole st (delRoute4Request (now (q .entry)) st) (now (s .exit)) (now (ev .entry)) (now (ev .exit)) r) ⌝ }
 {
     let t = request_route::table_named(q);
     if !state_tables::listed(s, t) {
@@ -53,7 +53,7 @@ pub fn del_route4(s: &mut [u32], ev: &mut [u32], q: &[u32]) -> Done
 
 // The preferred source, once the table is listed.
 fn prefsrc_check(s: &[u32], q: &[u32], t: u32, local: bool, linked: bool) -> Reached
-    requires { ⌜ Valid (now s) ⌝ }
+    requires { ⌜ RepresentsSome (now s) ⌝ }
     requires { ⌜ (length (now q) ≡ 34) × (t ≡ tableNamed (now q)) ⌝ }
     ensures { λ r. ⌜ ((st : State) → Represents (now (s .entry)) st → local ≡ (listed 255 st || eqb 255 t) → reachedOf r ≡ prefsrcCheck (now (q .entry)) (by linked) (create4 (tableNamed (now (q .entry))) st)) ⌝ }
 {
@@ -71,7 +71,7 @@ fn prefsrc_check(s: &[u32], q: &[u32], t: u32, local: bool, linked: bool) -> Rea
 
 // Every check before the insertion, as it comes out once the table is listed: nothing is written yet.
 fn check(s: &[u32], q: &[u32]) -> Reached
-    requires { ⌜ Valid (now s) ⌝ }
+    requires { ⌜ RepresentsSome (now s) ⌝ }
     requires { ⌜ (length (now q) ≡ 34) × (fitAddRoute4 (now q) ≡ true) ⌝ }
     ensures { λ r. ⌜ ((st : State) → Represents (now (s .entry)) st → reachedOf r ≡ checkAll (now (q .entry)) (create4 (tableNamed (now (q .entry))) st)) ⌝ }
 {
@@ -101,10 +101,10 @@ fn full(i: Inserted) -> bool
     }
 }
 
-// What an insertion comes to, a row put in told of.
+// What an insertion comes to, with the event of a row put in.
 fn tell(ev: &mut [u32], new: &[u32], i: Inserted) -> Done
     requires { ⌜ (34 ≤ length (now ev)) × (length (now new) ≡ 32) ⌝ }
-    ensures { λ r. ⌜ Tells (now (new .entry)) i (now (ev .entry)) (now (ev .exit)) r ⌝ }
+    ensures { λ r. ⌜ Emission (now (new .entry)) i (now (ev .entry)) (now (ev .exit)) r ⌝ }
 {
     match i {
         Inserted::Put(flags) => {
@@ -119,11 +119,11 @@ fn tell(ev: &mut [u32], new: &[u32], i: Inserted) -> Done
 
 // The row is put in before its table is listed: where it has no room, nothing is written.
 fn add_checked(s: &mut [u32], ev: &mut [u32], q: &[u32], t: u32, linked: bool) -> Done
-    requires { ⌜ Sound (now s) ⌝ }
+    requires { ⌜ RepresentsFit (now s) ⌝ }
     requires { ⌜ length (listTable t (tablesOf (now s))) ≤ 32 ⌝ }
     requires { ⌜ (length (now q) ≡ 34) × (fitRoute (askedRoute (now q) linked) ≡ true) ⌝ }
     requires { ⌜ 34 ≤ length (now ev) ⌝ }
-    ensures { λ r. ⌜ ((st : State) → Represents (now (s .entry)) st → fitState st ≡ true → Requested (insertedAs (askedRoute (now (q .entry)) linked) (insert4 (askedRoute (now (q .entry)) linked) (nlmFlags (now (q .entry))) (st .routes)) (create4 t st)) st (now (s .exit)) (now (ev .entry)) (now (ev .exit)) r) ⌝ }
+    ensures { λ r. ⌜ ((st : State) → Represents (now (s .entry)) st → fitState st ≡ true → ComesWhole st (insertedAs (askedRoute (now (q .entry)) linked) (insert4 (askedRoute (now (q .entry)) linked) (nlmFlags (now (q .entry))) (st .routes)) (create4 t st)) (now (s .exit)) (now (ev .entry)) (now (ev .exit)) r) ⌝ }
 {
     let mut new = [0u32; ROUTE_WORDS];
     request_route::asked_route(q, linked, &mut new);
@@ -137,10 +137,10 @@ fn add_checked(s: &mut [u32], ev: &mut [u32], q: &[u32], t: u32, linked: bool) -
 
 // The table is listed whatever comes of it, unless a list has no room.
 pub fn add_route4(s: &mut [u32], ev: &mut [u32], q: &[u32]) -> Done
-    requires { ⌜ Sound (now s) ⌝ }
+    requires { ⌜ RepresentsFit (now s) ⌝ }
     requires { ⌜ (length (now q) ≡ 34) × (fitAddRoute4 (now q) ≡ true) ⌝ }
     requires { ⌜ 34 ≤ length (now ev) ⌝ }
-    ensures { λ r. ⌜ ((st : State) → Represents (now (s .entry)) st → fitState st ≡ true → Requested (addRoute4 (now (q .entry)) st) st (now (s .exit)) (now (ev .entry)) (now (ev .exit)) r) ⌝ }
+    ensures { λ r. ⌜ ((st : State) → Represents (now (s .entry)) st → fitState st ≡ true → ComesWhole st (addRoute4 (now (q .entry)) st) (now (s .exit)) (now (ev .entry)) (now (ev .exit)) r) ⌝ }
 {
     let t = request_route::table_named(q);
     if TABLE_LIMIT < state_tables::tables_after(s, t) {

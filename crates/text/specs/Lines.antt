@@ -23,7 +23,7 @@ module _ (n : ℕ) (w : List ℕ) (i : ℕ) (k : i < n) where
       (each-append line (take i (chop 32 n w)) (take (32 * i + 32 - 32 * i) (drop (32 * i) w) ∷ [])
       ∙ ap (λ (x : List ℕ). each line (take i (chop 32 n w)) ++ x) (append-nil (line (take (32 * i + 32 - 32 * i) (drop (32 * i) w)))))
 
-  -- a turn
+  -- an iteration
   pub line-more : (at p r : ℕ) (l m o : List ℕ) → Wrote at (each line (take i (chop 32 n w))) p l m
       → r ≡ p + length (line (take (32 * i + 32 - 32 * i) (drop (32 * i) w))) → o ≡ put p (line (take (32 * i + 32 - 32 * i) (drop (32 * i) w))) m
       → r ≤ length l → Wrote at (each line (take (i + 1) (chop 32 n w))) r l o

@@ -2,6 +2,8 @@
 //! doing the port's job on lent words (plainly, and tuned), the port on
 //! words, on bytes and through `Addresses`. The tables are Markdown.
 mod measure;
+mod messages;
+mod reader;
 mod same_job;
 mod states;
 
@@ -18,7 +20,7 @@ const USAGE: &str = "usage: bench [--addresses] [--rounds N] [--only TEXT]
                  the Rust on its own lists
   --rounds N     501 if it isn't said
   --only TEXT    only calls whose name has TEXT in it; check: the check of a
-                 state alone";
+                 state alone; read: messages";
 /// Cases on which the Rust on lent words is first compared with the model.
 const COMPARED: usize = 3_000;
 
@@ -60,8 +62,8 @@ fn main() -> ExitCode {
     if addresses {
         return swap(&usual, &special, rounds);
     }
-    let check = "check".contains(only.as_str());
-    if usual.is_empty() && special.is_empty() && !check {
+    let [check, read] = ["check", "read"].map(|name| name.contains(only.as_str()));
+    if usual.is_empty() && special.is_empty() && !check && !read {
         eprintln!("no call has {only} in its name\n{USAGE}");
         return ExitCode::FAILURE;
     }
@@ -91,6 +93,9 @@ fn main() -> ExitCode {
              the difference:\n"
         );
         check_alone(rounds);
+    }
+    if read {
+        messages::table(&states::changing(), rounds);
     }
     ExitCode::SUCCESS
 }

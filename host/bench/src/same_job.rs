@@ -30,8 +30,9 @@ pub fn call<const TUNED: bool>(call: &Call, state: &mut [u32], buffer: &mut [u32
     if !row || (!stateless && !well_formed::<TUNED>(state)) {
         return Reply::refused(201);
     }
-    let Some(request) = fit::request(call) else {
-        return Reply::refused(202);
+    let request = match fit::request(call) {
+        Ok(request) => request,
+        Err(number) => return Reply::refused(number),
     };
     let arguments = Arguments::of(&request);
     let [reads_addresses, reads_routes] = if TUNED { reads(call) } else { [true; 2] };

@@ -84,6 +84,12 @@ pub fn usual() -> Vec<Measured> {
     all
 }
 
+/// The calls that messages for new addresses and routes lead to.
+pub fn changing() -> Vec<Measured> {
+    let of = |one: &Measured| matches!(one.call, Call::AddV4 { .. } | Call::AddRoute4 { .. });
+    usual().into_iter().filter(of).collect()
+}
+
 /// The call of this code that is measured: one that is accepted, wherever
 /// the state has what it asks for.
 fn usual_call(code: usize) -> Call {

@@ -4,9 +4,10 @@
 //! faults that MOCK_FAULT names, ones that only a boundary can have, it
 //! must find that.
 use oracle::call::{Buffer, Call};
+use oracle::message::{self, Reader};
 use oracle::model::model;
-use oracle::port::{Bytes, Model, make};
-use std::slice::from_raw_parts_mut;
+use oracle::port::{self, Bytes, Model, make};
+use std::slice::{from_raw_parts, from_raw_parts_mut};
 
 #[repr(C)]
 pub struct Reply {
@@ -14,6 +15,17 @@ pub struct Reply {
     present: u32,
     value: u32,
     second: u32,
+}
+
+impl From<oracle::call::Reply> for Reply {
+    fn from(reply: oracle::call::Reply) -> Self {
+        Self {
+            number: reply.number,
+            present: reply.present,
+            value: reply.value,
+            second: reply.second,
+        }
+    }
 }
 
 /// What a call is lent; what it isn't lent is empty.
@@ -32,6 +44,7 @@ trait Element: Copy + Default {
         request: &[Self],
         buffer: &mut [Self],
     ) -> oracle::call::Reply;
+    fn read(message: &[u8], request: &mut [Self], up: u32) -> oracle::call::Reply;
 }
 
 impl Element for u8 {
@@ -43,6 +56,9 @@ impl Element for u8 {
         buffer: &mut [u8],
     ) -> oracle::call::Reply {
         make(&mut Bytes(Model), &call, state, request, buffer)
+    }
+    fn read(message: &[u8], request: &mut [u8], up: u32) -> oracle::call::Reply {
+        message::Model.read(message, request, up)
     }
 }
 
@@ -58,6 +74,12 @@ impl Element for u32 {
             *words = request.to_vec();
         }
         model(&call, state, buffer)
+    }
+    fn read(message: &[u8], request: &mut [u32], up: u32) -> oracle::call::Reply {
+        let mut bytes = port::bytes(request);
+        let reply = message::Model.read(message, &mut bytes, up);
+        request.copy_from_slice(&port::words(&bytes));
+        reply
     }
 }
 
@@ -86,12 +108,7 @@ fn run<E: Element>(call: Call, lent: Lent<E>) -> Reply {
     } else {
         E::model(call, &mut lent.state.to_vec(), lent.request, lent.buffer)
     };
-    let mut reply = Reply {
-        number: reply.number,
-        present: reply.present,
-        value: reply.value,
-        second: reply.second,
-    };
+    let mut reply = Reply::from(reply);
     match fault.as_str() {
         "swapped reply" => (reply.value, reply.second) = (reply.second, reply.value),
         // SAFETY: none, this is the fault; the comparison lends guarded slices
@@ -108,6 +125,32 @@ fn run<E: Element>(call: Call, lent: Lent<E>) -> Reply {
         _ => {}
     }
     reply
+}
+
+/// The reader of messages.
+fn read<E: Element>(message: &[u8], request: &mut [E], up: u32) -> Reply {
+    let fault = fault();
+    let reply = match fault.as_str() {
+        "a message's last byte lost" => {
+            E::read(&message[..message.len().saturating_sub(1)], request, up)
+        }
+        "the host's word lost" => E::read(message, request, 0),
+        _ => E::read(message, request, up),
+    };
+    match fault.as_str() {
+        // SAFETY: none, this is the fault
+        "past the request" => unsafe {
+            request.as_mut_ptr_range().end.write(E::default());
+        },
+        "the request cleared behind" if reply.number == 0 => {
+            let Some(last) = request.last_mut() else {
+                return reply.into();
+            };
+            *last = E::default();
+        }
+        _ => {}
+    }
+    reply.into()
 }
 
 /// The check alone: what `local4` refuses.
@@ -172,6 +215,21 @@ macro_rules! all {
         pub unsafe extern "C" fn check(state: *mut $element, length: usize) -> Reply {
             checked(unsafe { local4(state, length, 0) })
         }
+
+        /// # Safety
+        /// Each pointer and length are those of one slice.
+        #[unsafe(export_name = concat!($prefix, "read"))]
+        pub unsafe extern "C" fn read(
+            message: *const u8,
+            message_length: usize,
+            request: *mut $element,
+            request_length: usize,
+            up: u32,
+        ) -> Reply {
+            let message = unsafe { from_raw_parts(message, message_length) };
+            let request = unsafe { from_raw_parts_mut(request, request_length) };
+            super::read::<$element>(message, request, up)
+        }
     };
 }
 
@@ -180,4 +238,19 @@ pub mod bytes {
 }
 pub mod words {
     all! { u32, "interface4w_" }
+}
+
+/// What the library says of itself.
+#[unsafe(export_name = "interface4_sizes")]
+pub extern "C" fn sizes() -> Reply {
+    Reply {
+        number: 0,
+        present: 1,
+        value: if fault() == "other sizes" {
+            9_509
+        } else {
+            9_507
+        },
+        second: 384,
+    }
 }

@@ -3,7 +3,7 @@ use crate::layout::{self, ADDRESSES_AT, ROUTES_AT, TABLES_AT};
 use crate::records::{Ask4, Event, Lifetimes, Route4, Select4, V4};
 use crate::rows::{AddressIter, RouteIter};
 use crate::{EVENT_BUFFER_WORDS, EVENT_WORDS, LISTING_BUFFER_WORDS, ROUTE_WORDS};
-use crate::{Refused, Reply, STATE_WORDS, words};
+use crate::{Refused, Reply, Request, STATE_WORDS, words};
 use alloc::boxed::Box;
 use alloc::vec;
 use alloc::vec::Vec;
@@ -120,8 +120,23 @@ impl Addresses {
     /// there if `replace`. `new.life` isn't looked at.
     ///
     /// # Errors
-    /// [`Refused::THERE_ALREADY`]; [`Refused::UNFIT_REQUEST`] for a prefix
-    /// over 32 or a label over 15; [`Refused::NO_SPACE`].
+    /// [`Refused::UNFIT_REQUEST`] for a prefix over 32 or a label over 15;
+    /// [`Refused::INVALID`] for lifetimes that Linux turns down, valid 0 or
+    /// preferred above valid, whether the address is there or not;
+    /// [`Refused::NO_SPACE`]; [`Refused::THERE_ALREADY`].
+    ///
+    /// ```
+    /// use core::net::Ipv4Addr;
+    /// use naskrefim::{Addresses, Lifetimes, Refused, SCOPE_UNIVERSE, V4};
+    /// let mut lo = Addresses::new();
+    /// let own = Ipv4Addr::new(10, 1, 0, 5);
+    /// let new = V4::new(own, own, 24, SCOPE_UNIVERSE);
+    /// let lifetimes = Lifetimes { valid: 10, preferred: 20 };
+    /// let told = lo.add_v4(new.clone(), lifetimes, false, false, 0);
+    /// assert_eq!(told, Err(Refused::INVALID));
+    /// let lifetimes = Lifetimes { valid: 10, preferred: 10 };
+    /// assert!(lo.add_v4(new, lifetimes, false, false, 0).is_ok());
+    /// ```
     pub fn add_v4(
         &mut self,
         new: V4,
@@ -194,6 +209,55 @@ impl Addresses {
         let (state, events) = self.lent();
         let reply = words::del_route4(state, &request, events);
         self.told(reply)
+    }
+
+    /// Reads one rtnetlink message and does what it asks for at `now`: see
+    /// [`Request::read`], which also says what a host looks at itself.
+    /// A message isn't acknowledged, nor are its events told to anybody:
+    /// that is the host's.
+    ///
+    /// # Errors
+    /// [`Refused::BAD_LENGTH`], [`Refused::NOT_IPV4`] or
+    /// [`Refused::BAD_ATTRIBUTE`] for a message that can't be read; else
+    /// what [`Self::add_v4`], [`Self::del_v4`], [`Self::add_route4`] or
+    /// [`Self::del_route4`] gives.
+    ///
+    /// ```
+    /// use core::net::Ipv4Addr;
+    /// use naskrefim::{Addresses, Event, Refused};
+    /// let mut lo = Addresses::new();
+    /// lo.up(0)?;
+    /// // ip addr add 10.1.0.5/24 dev lo
+    /// let message = [
+    ///     40, 0, 0, 0, 20, 0, 0x05, 0x06, 0, 0, 0, 0, 0, 0, 0, 0, // length, type, flags
+    ///     2, 24, 0, 0, 1, 0, 0, 0, // family, prefix, flags, scope, index
+    ///     8, 0, 2, 0, 10, 1, 0, 5, // local
+    ///     8, 0, 1, 0, 10, 1, 0, 5, // address
+    /// ];
+    /// let told = lo.perform(&message, true, 1_000)?;
+    /// assert!(matches!(&told[0], Event::NewAddr4(new) if new.prefix == 24));
+    /// assert!(lo.local4(Ipv4Addr::new(10, 1, 0, 5)));
+    /// let again = lo.perform(&message, true, 2_000);
+    /// assert_eq!(again, Err(Refused::THERE_ALREADY));
+    /// # Ok::<(), Refused>(())
+    /// ```
+    pub fn perform(&mut self, message: &[u8], up: bool, now: u64) -> Result<Vec<Event>, Refused> {
+        match Request::read(message, up)? {
+            Request::NewAddress {
+                new,
+                lifetimes,
+                replace,
+                up,
+            } => self.add_v4(new, lifetimes, replace, up, now),
+            Request::DelAddress {
+                local,
+                address,
+                prefix,
+                label,
+            } => self.del_v4(local, address, prefix, label.as_deref()),
+            Request::NewRoute { ask, up } => self.add_route4(&ask, up),
+            Request::DelRoute(select) => self.del_route4(&select),
+        }
     }
 
     /// The routes of all listed tables, in the order of a dump.

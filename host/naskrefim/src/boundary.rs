@@ -9,8 +9,8 @@
 
 use crate::Refused;
 
-/// What every call replies: `number` is 0, or document 01's number of the
-/// refusal, and then the rest is 0.
+/// What every call replies: `number` is 0, or the number of the refusal, and
+/// then the rest is 0.
 #[repr(C)]
 #[derive(Clone, Copy, Debug, Default, PartialEq, Eq, Hash)]
 pub struct Reply {
@@ -20,7 +20,7 @@ pub struct Reply {
     pub present: u32,
     /// What the call answers: see there.
     pub value: u32,
-    /// The valid lifetime, of `left`.
+    /// The valid lifetime, of `left`; the words written, of `read`.
     pub second: u32,
 }
 
@@ -42,6 +42,8 @@ impl Reply {
     }
 }
 
+/// How a slice is lent: for reading or for writing, or bytes for reading
+/// beside whatever the call is on.
 macro_rules! lent {
     (read $element:ty) => {
         &[$element]
@@ -49,10 +51,22 @@ macro_rules! lent {
     (write $element:ty) => {
         &mut [$element]
     };
+    (bytes $element:ty) => {
+        &[u8]
+    };
 }
 macro_rules! raw {
-    (read $of:ty) => { *const $of };
-    (write $of:ty) => { *mut $of };
+    (read $element:ty) => { *const $element };
+    (write $element:ty) => { *mut $element };
+    (bytes $element:ty) => { *const u8 };
+}
+macro_rules! pointer {
+    (write $slice:ident) => {
+        ptr::from_mut($slice)
+    };
+    ($other:ident $slice:ident) => {
+        ptr::from_ref($slice)
+    };
 }
 
 /// A safe function for each exported one: slices, then numbers.
@@ -62,6 +76,8 @@ macro_rules! calls {
         $name:ident($($slice:ident: $how:ident),*; $($number:ident: $of:ty),*);
     )*) => {
         use super::Reply;
+        #[allow(unused_imports)]
+        use core::ptr;
 
         mod library {
             use super::Reply;
@@ -78,7 +94,7 @@ macro_rules! calls {
             #[doc = concat!("Calls `", $prefix, stringify!($name), "`.")]
             #[must_use = "a refusal is told by nothing else"]
             pub fn $name($($slice: lent!($how $element),)* $($number: $of),*) -> Reply {
-                $(let $slice: raw!($how [$element]) = $slice;)*
+                $(let $slice = pointer!($how $slice);)*
                 // SAFETY: each pointer and length are those of one borrowed
                 // slice, borrowed as the library asks and for the whole call
                 unsafe { library::$name($($slice.cast(), $slice.len(),)* $($number),*) }
@@ -148,6 +164,15 @@ macro_rules! exported {
             /// a wrong length, 201 for words that are not well-formed,
             /// else 0.
             check(state: read;);
+            /// One rtnetlink message is read, and the request that it
+            /// carries written from the start of `request`, which has room
+            /// for [`DEL_ROUTE4_WORDS`](crate::DEL_ROUTE4_WORDS): see
+            /// [`Request::read`](crate::Request::read). `value` is the
+            /// message's type (20, 21, 24 or 25: a request to `add_v4`,
+            /// `del_v4`, `add_route4` or `del_route4`), `second` the number
+            /// of words written. `up` becomes the request's last word where
+            /// it has one for it.
+            read(message: bytes, request: write; up: u32);
         }
     };
 }
@@ -175,4 +200,41 @@ pub mod bytes {
 /// ```
 pub mod words {
     exported! { u32, "interface4w_" }
+}
+
+/// What the library says of itself, once for both.
+mod library {
+    calls! { u8, "interface4_":
+        /// Its sizes.
+        sizes(;);
+    }
+}
+
+/// The sizes that a library means: see [`sizes`].
+#[derive(Clone, Copy, Debug, PartialEq, Eq, Hash)]
+pub struct Sizes {
+    /// The words of a state.
+    pub state_words: usize,
+    /// The fewest rows of an event buffer.
+    pub event_rows: usize,
+    /// The last of document 02's papers that the library has.
+    pub paper: u32,
+}
+
+/// The sizes that the linked library means, which must be this crate's.
+///
+/// ```
+/// use naskrefim::{EVENT_LIMIT, STATE_WORDS, sizes};
+/// let sizes = sizes();
+/// assert_eq!((sizes.state_words, sizes.event_rows), (STATE_WORDS, EVENT_LIMIT));
+/// assert_eq!(sizes.paper, 1);
+/// ```
+#[must_use]
+pub fn sizes() -> Sizes {
+    let reply = library::sizes();
+    Sizes {
+        state_words: reply.value as usize,
+        event_rows: reply.second as usize,
+        paper: reply.present,
+    }
 }

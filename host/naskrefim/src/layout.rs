@@ -1,7 +1,9 @@
 //! Records as document 01's words, and back.
-use crate::records::{Ask4, Event, Kind, Life, Lifetimes, Route4, Select4, V4};
+use crate::records::{Ask4, Event, Kind, Life, Lifetimes, Metrics, Route4, Select4, V4};
 use crate::{ADD_ROUTE4_WORDS, ADD_V4_WORDS, DEL_ROUTE4_WORDS, DEL_V4_WORDS};
 use crate::{ADDRESS_LIMIT, ADDRESS_WORDS, EVENT_WORDS, ROUTE_LIMIT, ROUTE_WORDS};
+use crate::{Refused, Request};
+use alloc::vec::Vec;
 use core::net::Ipv4Addr;
 
 /// Where a state's lists begin, behind its three counts.
@@ -145,7 +147,7 @@ fn whole(low: u32, high: u32) -> u64 {
     u64::from(low) | u64::from(high) << 32
 }
 
-/// A byte field of a row that the library wrote.
+/// A byte field of words that the library wrote.
 fn byte(word: u32) -> u8 {
     u8::try_from(word).expect("a byte field of a well-formed row")
 }
@@ -154,50 +156,117 @@ fn there(present: u32, value: u32) -> Option<Ipv4Addr> {
     (present == 1).then(|| value.into())
 }
 
-/// The address of a well-formed row.
-pub(crate) fn address(row: &[u32; ADDRESS_WORDS]) -> V4 {
+/// The first bytes of a label's words.
+fn label(length: u32, words: &[u32]) -> Vec<u8> {
     let mut label = [0; 16];
-    for (four, word) in label.as_chunks_mut().0.iter_mut().zip(&row[9..13]) {
+    for (four, word) in label.as_chunks_mut().0.iter_mut().zip(words) {
         *four = word.to_le_bytes();
     }
+    label[..length as usize].to_vec()
+}
+
+/// The address of the 14 words that a request and a row have in common.
+fn address_of(words: &[u32], life: Life) -> V4 {
     V4 {
-        local: row[0].into(),
-        address: row[1].into(),
-        prefix: byte(row[2]),
-        broadcast: there(row[3], row[4]),
-        scope: byte(row[5]),
-        flags: row[6],
-        proto: byte(row[7]),
-        label: label[..row[8] as usize].to_vec(),
-        priority: row[13],
-        life: Life {
-            valid: row[14],
-            preferred: row[15],
-            created: whole(row[16], row[17]),
-            changed: whole(row[18], row[19]),
-        },
+        local: words[0].into(),
+        address: words[1].into(),
+        prefix: byte(words[2]),
+        broadcast: there(words[3], words[4]),
+        scope: byte(words[5]),
+        flags: words[6],
+        proto: byte(words[7]),
+        label: label(words[8], &words[9..13]),
+        priority: words[13],
+        life,
     }
+}
+
+/// The address of a well-formed row.
+pub(crate) fn address(row: &[u32; ADDRESS_WORDS]) -> V4 {
+    let life = Life {
+        valid: row[14],
+        preferred: row[15],
+        created: whole(row[16], row[17]),
+        changed: whole(row[18], row[19]),
+    };
+    address_of(row, life)
+}
+
+/// A route or a request for one: the twelve words that each begins with,
+/// but for the kind, and what else it has.
+macro_rules! of_route_words {
+    ($of:ident, $words:ident: $($rest:tt)*) => {
+        $of {
+            table: $words[0],
+            dst: $words[1].into(),
+            len: byte($words[2]),
+            tos: byte($words[3]),
+            priority: $words[4],
+            proto: byte($words[6]),
+            scope: byte($words[7]),
+            prefsrc: there($words[8], $words[9]),
+            gateway: there($words[10], $words[11]),
+            $($rest)*
+        }
+    };
 }
 
 /// The route of a well-formed row.
 pub(crate) fn route(row: &[u32; ROUTE_WORDS]) -> Route4 {
-    let mut metrics = [0; 17];
-    metrics.copy_from_slice(&row[15..ROUTE_WORDS]);
-    Route4 {
-        table: row[0],
-        dst: row[1].into(),
-        len: byte(row[2]),
-        tos: byte(row[3]),
-        priority: row[4],
+    of_route_words! { Route4, row:
         kind: Kind::of(byte(row[5])).expect("a kind of a well-formed row"),
-        proto: byte(row[6]),
-        scope: byte(row[7]),
-        prefsrc: there(row[8], row[9]),
-        gateway: there(row[10], row[11]),
         device: row[12] == 1,
         onlink: row[13] == 1,
         uses_gateway: row[14] == 1,
-        metrics,
+        metrics: metrics(&row[15..]),
+    }
+}
+
+fn metrics(words: &[u32]) -> Metrics {
+    words.try_into().expect("as many words as metrics")
+}
+
+/// The request that `read` wrote for a message of type `of`.
+pub(crate) fn request(of: u32, words: &[u32; DEL_ROUTE4_WORDS]) -> Request {
+    match of {
+        20 => Request::NewAddress {
+            new: address_of(words, Life::default()),
+            lifetimes: Lifetimes {
+                valid: words[14],
+                preferred: words[15],
+            },
+            replace: words[16] == 1,
+            up: words[17] == 1,
+        },
+        21 => Request::DelAddress {
+            local: there(words[0], words[1]),
+            address: there(words[2], words[3]),
+            prefix: byte(words[4]),
+            label: (words[5] == 1).then(|| label(words[6], &words[7..11])),
+        },
+        24 => Request::NewRoute {
+            ask: of_route_words! { Ask4, words:
+                kind: byte(words[5]),
+                oif: words[12],
+                flags: words[13],
+                request: u16::try_from(words[14]).expect("a header's flags have 16 bits"),
+                metrics: match Refused::of(words[15]) {
+                    None => Ok(metrics(&words[16..33])),
+                    Some(error) => Err(error),
+                },
+            },
+            up: words[33] == 1,
+        },
+        25 => {
+            let pairs = &words[15..].as_chunks().0[..words[14] as usize];
+            let pair = |&[index, value]: &[u32; 2]| (index as usize, value);
+            Request::DelRoute(of_route_words! { Select4, words:
+                kind: byte(words[5]),
+                oif: words[12],
+                metrics: (words[13] == 1).then(|| pairs.iter().map(pair).collect()),
+            })
+        }
+        other => panic!("a message that is read has type 20, 21, 24 or 25, not {other}"),
     }
 }
 

@@ -3,10 +3,12 @@
 //! The code behind it is a static library in which every function is proved
 //! to meet its contract; this crate is the way in from Rust. [`Addresses`]
 //! is what a host wants: it has the names and types of paludarium's
-//! `Addresses`, and refusals are document 01's numbers ([`Refused`]).
+//! `Addresses`, and refusals are the documents' numbers ([`Refused`]).
 //! [`words`] and [`bytes`] are the calls as the library has them, on lent
-//! slices, for hosts that keep the state elsewhere. No function of this
-//! crate is unsafe, whatever it is given.
+//! slices, for hosts that keep the state elsewhere. [`Request`] is what an
+//! rtnetlink message asks for, as it comes off the socket, and
+//! [`Addresses::perform`] does it. No function of this crate is unsafe,
+//! whatever it is given.
 //!
 //! ```
 //! use core::net::Ipv4Addr;
@@ -62,6 +64,7 @@
 //! | `select4` | 4,096 | 40,960 |
 //! | `left` | 4,096 | 4,096 |
 //! | `check` | 4,096 | 40,960 |
+//! | `read` | 4,096 | 4,096 |
 //!
 //! [`Addresses`] calls [`words`], and needs less than 4,096 bytes of its
 //! own. The numbers are those of the C header; `host/c/stack` finds them
@@ -78,10 +81,11 @@ mod constants;
 mod layout;
 mod records;
 mod refused;
+mod request;
 mod rows;
 
 pub use addresses::Addresses;
-pub use boundary::{Reply, bytes, words};
+pub use boundary::{Reply, Sizes, bytes, sizes, words};
 pub use constants::{
     DEPRECATED, F_APPEND, F_CREATE, F_EXCL, F_REPLACE, FOREVER, NO_METRICS, NO_PREFIX_ROUTE,
     PERMANENT, PROTO_KERNEL, SCOPE_HOST, SCOPE_LINK, SCOPE_NOWHERE, SCOPE_UNIVERSE, SECONDARY,
@@ -89,6 +93,7 @@ pub use constants::{
 };
 pub use records::{Ask4, Event, Kind, Life, Lifetimes, Metrics, Route4, Select4, V4};
 pub use refused::Refused;
+pub use request::Request;
 pub use rows::{AddressIter, RouteIter};
 
 /// The file that was linked.

@@ -98,7 +98,9 @@ impl Life {
     }
 }
 
-/// The lifetimes that a request asks for, in seconds.
+/// The lifetimes that a request asks for, in seconds. As in Linux, `valid`
+/// is not 0 and `preferred` at most `valid`, else the request is refused
+/// with [`Refused::INVALID`].
 #[derive(Clone, Copy, Debug, PartialEq, Eq, Hash)]
 pub struct Lifetimes {
     /// Until the address goes.

@@ -2,8 +2,8 @@
 use core::fmt;
 use core::num::NonZero;
 
-/// A refusal: one of document 01's numbers, or the metrics error that a
-/// request carried in. Nothing was changed, except that the table which a
+/// A refusal: one of the numbers of documents 01 and 02, or the metrics
+/// error that a request carried in. Nothing was changed, except that the table which a
 /// request to add a route names may be listed now.
 ///
 /// ```
@@ -45,8 +45,9 @@ numbers! {
     THERE_ALREADY = 17, "an address or a route that is there already";
     /// ENODEV: the device isn't the loopback.
     WRONG_DEVICE = 19, "wrong device";
-    /// EINVAL: a bad route request; or a blackhole that a lookup meets.
-    INVALID = 22, "a bad route request, or a blackhole";
+    /// EINVAL: a bad route request; lifetimes that Linux turns down; or a
+    /// blackhole that a lookup meets.
+    INVALID = 22, "a bad route request, bad lifetimes, or a blackhole";
     /// EOPNOTSUPP: a kind of route that isn't supported.
     NOT_SUPPORTED = 95, "a kind of route that is not supported";
     /// EADDRNOTAVAIL: a deletion finds no such address.
@@ -67,6 +68,15 @@ numbers! {
     /// There would have been more than 64 addresses, 256 routes or 32
     /// tables.
     NO_SPACE = 203, "no space: 64 addresses, 256 routes, 32 tables";
+    /// A message of under 16 bytes, or a length in it that passes the end
+    /// or is below its header.
+    BAD_LENGTH = 204, "a message with a bad length in it";
+    /// A message of another type than 20, 21, 24 and 25, or of another
+    /// family than IPv4.
+    NOT_IPV4 = 205, "a message of another type or family";
+    /// A message with an attribute of the wrong size, or for a new address
+    /// without the local one.
+    BAD_ATTRIBUTE = 206, "an attribute of the wrong size, or no local address";
 }
 
 impl Refused {
@@ -78,7 +88,7 @@ impl Refused {
             None => None,
         }
     }
-    /// Document 01's number.
+    /// Its number.
     #[must_use]
     pub const fn number(self) -> u32 {
         self.0.get()

@@ -120,6 +120,23 @@ fn lifetimes_end() {
 }
 
 #[test]
+fn lifetimes_that_linux_turns_down() {
+    let mut lo = up();
+    let of = |valid, preferred| Lifetimes { valid, preferred };
+    for lifetimes in [of(0, 0), of(10, 20), of(10, FOREVER)] {
+        for (new, replace) in [(v4("10.1.0.5", 24), false), (v4("127.0.0.1", 8), true)] {
+            let told = lo.add_v4(new, lifetimes, replace, true, 0);
+            assert_eq!(told, Err(Refused::INVALID));
+        }
+        let told = lo.add_v4(v4("10.1.0.5", 33), lifetimes, false, true, 0);
+        assert_eq!(told, Err(Refused::UNFIT_REQUEST));
+    }
+    assert_eq!(lo, up());
+    let told = lo.add_v4(v4("10.1.0.5", 24), of(10, 10), false, true, 0);
+    assert_eq!(told.unwrap().len(), 4);
+}
+
+#[test]
 fn p7_a_request_carries_no_life() {
     let mut lo = Addresses::new();
     let mut new = v4("10.1.0.5", 24);

@@ -24,7 +24,7 @@ fn defined() -> BTreeMap<String, usize> {
 }
 
 #[test]
-fn sizes() {
+fn sizes_are_the_crates_and_the_librarys() {
     let defined = defined();
     let of = |name: &str| defined[&format!("INTERFACE4_{name}")];
     assert_eq!(of("ADDRESSES"), ADDRESS_LIMIT);
@@ -43,6 +43,7 @@ fn sizes() {
         ("DEL_V4", DEL_V4_WORDS),
         ("ADD_ROUTE4", ADD_ROUTE4_WORDS),
         ("DEL_ROUTE4", DEL_ROUTE4_WORDS),
+        ("REQUEST_BUFFER", DEL_ROUTE4_WORDS),
     ] {
         assert_eq!(of(&format!("{name}_WORDS")), words, "{name}");
         assert_eq!(of(&format!("{name}_BYTES")), 4 * words, "{name}");
@@ -50,6 +51,10 @@ fn sizes() {
     assert_eq!(of("ADDRESSES_AT"), 3);
     assert_eq!(of("ROUTES_AT"), 3 + ADDRESS_LIMIT * ADDRESS_WORDS);
     assert_eq!(of("TABLES_AT"), STATE_WORDS - TABLE_LIMIT);
+    let sizes = sizes();
+    assert_eq!(of("STATE_WORDS"), sizes.state_words);
+    assert_eq!(of("EVENTS"), sizes.event_rows);
+    assert_eq!(of("PAPER"), sizes.paper as usize);
     assert_eq!(
         size_of::<Reply>(),
         16,
@@ -67,6 +72,7 @@ fn refusals() {
         NO_CREATE_FLAG NO_SUCH_ROUTE PROHIBITED THERE_ALREADY WRONG_DEVICE INVALID NOT_SUPPORTED
         NO_SUCH_ADDRESS DOWN NO_ROUTE_TO_NETWORK UNREACHABLE
         UNFIT_BUFFER UNFIT_STATE UNFIT_REQUEST NO_SPACE
+        BAD_LENGTH NOT_IPV4 BAD_ATTRIBUTE
     };
     let defined = defined();
     for (name, number) in all {
@@ -87,6 +93,10 @@ fn stack() {
         let Some(call) = name.strip_prefix("INTERFACE4_STACK_") else {
             continue;
         };
+        if call == "SIZES" {
+            assert_eq!(*bytes, 4_096, "what every call may need");
+            continue;
+        }
         let words = defined[&format!("INTERFACE4W_STACK_{call}")];
         let row = format!(
             "//! | `{}` | {} | {} |",
@@ -97,5 +107,5 @@ fn stack() {
         assert!(docs.lines().any(|line| line == row), "{row}");
         rows += 1;
     }
-    assert_eq!(rows, 16);
+    assert_eq!(rows, 17);
 }

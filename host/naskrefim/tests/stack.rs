@@ -47,6 +47,14 @@ fn day() -> (usize, usize) {
     assert!(lo.local4(to) && lo.select4(Some(to), SCOPE_HOST).is_some());
     assert_eq!(lo.v4()[1].left(0), Ok((1, 1)));
     lo.del_route4(&Select4::new(net(255), 24)).unwrap();
+    // a new route 14.0.0.0/24 of link scope through the loopback, and its end
+    let mut message = [
+        44, 0, 0, 0, 24, 0, 0x05, 0x06, 0, 0, 0, 0, 0, 0, 0, 0, 2, 24, 0, 0, 254, 3, 253, 1, 0, 0,
+        0, 0, 8, 0, 1, 0, 14, 0, 0, 0, 8, 0, 4, 0, 1, 0, 0, 0,
+    ];
+    assert_eq!(lo.perform(&message, true, 0).unwrap().len(), 1);
+    message[4] = 25;
+    assert_eq!(lo.perform(&message, true, 0).unwrap().len(), 1);
     lo.down();
     lo.del_v4(Some(Ipv4Addr::LOCALHOST), None, 0, None).unwrap();
     lo.expire(2_000_000_000).unwrap();

@@ -145,27 +145,40 @@ fn two_addresses(checks: &mut Checks) {
     );
 }
 
-fn lifetimes(checks: &mut Checks) {
-    let mut s = Script::default();
-    let ends = NewAddress {
-        valid: 10,
+/// A row of 10.1.0.5/24 with both lifetimes from `changed` on: no request may
+/// ask for 0 (P13).
+fn lasting(valid: u32, changed: u64) -> Script {
+    let new = NewAddress {
+        valid,
+        preferred: valid,
         ..address("10.1.0.5/24")
     };
-    s.add_at(ends, 0);
+    let stamp = [changed as u32, (changed >> 32) as u32];
+    let mut row = [0; words::ADDRESS_WORDS];
+    row[..16].copy_from_slice(&new.words()[..16]);
+    row[16..].copy_from_slice([stamp; 2].as_flattened());
+    Script {
+        state: encode(&Lists {
+            addresses: vec![row],
+            ..Lists::default()
+        }),
+    }
+}
+
+fn lifetimes(checks: &mut Checks) {
+    let mut s = Script::default();
+    s.add(NewAddress {
+        valid: 10,
+        preferred: 10,
+        ..address("10.1.0.5/24")
+    });
     s.expire(9_979_999_999);
     checks.same("+ valid 10 at 9,979,999,999", s.addresses(), 1);
     s.expire(9_980_000_000);
     checks.same("+ valid 10 at 9,980,000,000", s.addresses(), 0);
     for (valid, kept) in [(0, 0), (1, 1)] {
-        let mut s = Script::default();
         let changed = 100_000_000_000;
-        s.add_at(
-            NewAddress {
-                valid,
-                ..address("10.1.0.5/24")
-            },
-            changed,
-        );
+        let mut s = lasting(valid, changed);
         s.expire(changed - 50_000_000_000);
         checks.same(
             &format!("a clock behind changed, valid {valid}"),

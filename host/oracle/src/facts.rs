@@ -5,7 +5,7 @@ use crate::checks::{Checks, lines};
 use crate::fit::CLOCK_LIMIT;
 use crate::generate::{calls, states};
 use crate::rng::Rng;
-use crate::script::{NewAddress, Route, Script, address, any, ip, route, started};
+use crate::script::{FOREVER, NewAddress, Route, Script, address, any, ip, route, started};
 use crate::words::{self, encode};
 use reference::{Answer, Arguments, Lists, Native, Request, RouteRow};
 
@@ -21,6 +21,7 @@ pub fn check(checks: &mut Checks) {
     unfit(checks);
     ipv6_events(checks);
     by_the_calls(checks);
+    lifetimes(checks);
 }
 
 fn refusal_order(checks: &mut Checks) {
@@ -502,6 +503,7 @@ fn unfit(checks: &mut Checks) {
     refused("P5 a metric's index 17", s, call, 202);
     s.add(NewAddress {
         valid: 1,
+        preferred: 1,
         ..address("10.1.0.5/24").up()
     });
     let now = CLOCK_LIMIT + 1;
@@ -554,5 +556,83 @@ fn by_the_calls(checks: &mut Checks) {
         "P12 bindable4 by the calls",
         both(bindable),
         (2_000, true, true),
+    );
+}
+
+/// Document 02, Paper 2: what Linux turns down, the port does; the Rust takes
+/// it.
+fn lifetimes(checks: &mut Checks) {
+    let of = |valid, preferred| NewAddress {
+        valid,
+        preferred,
+        ..address("10.1.0.5/24")
+    };
+    let refused = Reply::refused(22);
+    for (valid, preferred) in [(0, 0), (10, 20), (10, FOREVER)] {
+        let name = format!("P13 valid {valid}, preferred {preferred}");
+        let new = of(valid, preferred);
+        let request = new.words();
+        let (request, now) = (request[..].try_into().expect("18 words"), 0);
+        let rust = reference::run(&Lists::default(), &Request::AddV4 { request, now });
+        let told = matches!(rust.answer, Answer::Events(_));
+        checks.same(
+            &format!("{name}: the Rust takes it"),
+            (rust.lists.addresses.len(), told),
+            (1, true),
+        );
+        let mut s = Script::default();
+        checks.same(&name, s.add(new).reply, refused);
+        checks.same(
+            &format!("{name}: nothing changed"),
+            s.state == words::empty(),
+            true,
+        );
+        let unfit = NewAddress { prefix: 33, ..new };
+        checks.same(
+            &format!("{name}, prefix 33"),
+            Script::default().add(unfit).reply,
+            Reply::refused(202),
+        );
+        checks.same(
+            &format!("{name}, all lists full"),
+            script(&filled(64, 256, (1000..1032).collect()))
+                .add(new.up())
+                .reply,
+            refused,
+        );
+        // there already
+        let mut s = Script::default();
+        s.add(address("10.1.0.5/24"));
+        let before = s.state.clone();
+        for replace in [false, true] {
+            let told = s.add(NewAddress { replace, ..new });
+            checks.same(
+                &format!("{name}, there already, replace {replace}"),
+                (told.reply, s.state == before),
+                (refused, true),
+            );
+        }
+    }
+    for (valid, preferred) in [(1, 0), (10, 10), (FOREVER, 0), (FOREVER, FOREVER)] {
+        checks.same(
+            &format!("P13 valid {valid}, preferred {preferred} is taken"),
+            Script::default().add(of(valid, preferred)).reply,
+            Reply::value(2),
+        );
+    }
+    // a state that holds such a row is as it was
+    let mut lists = filled(2, 0, vec![254, 255]);
+    lists.addresses[1][14..16].copy_from_slice(&[10, FOREVER]);
+    let mut s = script(&lists);
+    checks.same(
+        "P13 a row of valid 0 goes at the first clock call",
+        (s.expire(0).text, s.addresses()),
+        (lines(&["DelAddr4 12.0.0.1/24"]), 1),
+    );
+    s.expire(9_980_000_000);
+    checks.same(
+        "P13 a row preferred for longer goes in its time",
+        s.addresses(),
+        0,
     );
 }

@@ -1,6 +1,7 @@
-//! Whether a call's arguments are fit (else 202), and the request that the
-//! Rust then gets.
+//! Whether a call's arguments are fit (else 202), lifetimes that Linux turns
+//! down (22), and the request that the Rust then gets.
 use crate::call::Call;
+use crate::model::{INVALID, UNFIT_REQUEST};
 use crate::well_formed::{byte, label, optional};
 use reference::Request;
 
@@ -11,9 +12,21 @@ pub const CLOCK_LIMIT: u64 = 18_446_744_073_689_551_615;
 pub const ERROR_LIMIT: u32 = 133;
 pub const METRICS: u32 = 17;
 
-/// The request, or `None` for 202. Lengths are right, a handed row is fit.
-pub fn request(call: &Call) -> Option<Request<'_>> {
-    let fit = match call {
+/// The request, or the number that refuses it. Lengths are right, a handed
+/// row is fit.
+pub fn request(call: &Call) -> Result<Request<'_>, u32> {
+    if !fits(call) {
+        return Err(UNFIT_REQUEST);
+    }
+    match call {
+        Call::AddV4 { request, .. } if !lasts(request) => Err(INVALID),
+        _ => Ok(typed(call)),
+    }
+}
+
+/// Whether each field keeps to its range.
+pub fn fits(call: &Call) -> bool {
+    match call {
         Call::AddV4 { request, .. } => add_v4(request),
         Call::DelV4 { request } => del_v4(request),
         Call::AddRoute4 { request } => add_route4(request),
@@ -26,8 +39,13 @@ pub fn request(call: &Call) -> Option<Request<'_>> {
             scope,
         } => optional(*present, *dst) && byte(*scope),
         _ => true,
-    };
-    fit.then(|| typed(call))
+    }
+}
+
+/// Document 02, Paper 2: Linux refuses valid 0, and preferred above valid.
+fn lasts(w: &[u32]) -> bool {
+    let [valid, preferred] = [w[14], w[15]];
+    valid != 0 && preferred <= valid
 }
 
 fn add_v4(w: &[u32]) -> bool {
@@ -76,7 +94,8 @@ fn array<const N: usize>(words: &[u32]) -> &[u32; N] {
     words.try_into().expect("lengths were checked")
 }
 
-fn typed(call: &Call) -> Request<'_> {
+/// What the Rust gets, fit or not.
+pub fn typed(call: &Call) -> Request<'_> {
     match call {
         Call::Up { now } => Request::Up { now: *now },
         Call::Down => Request::Down,

@@ -3,6 +3,8 @@
 use crate::call::Call;
 use crate::compare::Case;
 use crate::generate::cases::{Cases, Weights};
+use crate::generate::messages::{MessageCase, Messages};
+use crate::message::read;
 use crate::model::model;
 use crate::rng::Rng;
 use crate::script::written;
@@ -30,6 +32,24 @@ pub fn run(count: usize, seed: u64, large: usize) {
             println!("{}", line(&case));
             printed += 1;
         }
+    }
+}
+
+/// Prints `count` messages with what they are read as.
+pub fn messages(count: usize, seed: u64) {
+    let mut messages = Messages::new(seed);
+    for _ in 0..count {
+        let MessageCase { message, up, .. } = messages.next_case();
+        let (number, kind, words) = match read(&message, up) {
+            Ok((kind, words)) => (0, kind, words),
+            Err(number) => (number, 0, Vec::new()),
+        };
+        println!(
+            "{{\"message\":{message:?},\"up\":{up},\"expect\":{{\"number\":{number},\"value\":{kind},\
+             \"second\":{},\"words\":{}}}}}",
+            words.len(),
+            array(&words)
+        );
     }
 }
 

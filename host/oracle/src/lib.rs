@@ -14,6 +14,8 @@ pub mod fit;
 pub mod generate;
 pub mod json;
 pub mod linux;
+pub mod message;
+pub mod messages;
 pub mod model;
 pub mod pairs;
 pub mod port;

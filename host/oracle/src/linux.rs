@@ -3,7 +3,7 @@
 //! Linux does was observed on a kernel and is not run here.
 use crate::call::{Call, Reply};
 use crate::checks::{Checks, lines};
-use crate::script::{FOREVER, NewAddress, Route, Script, address, any, ip, route, started};
+use crate::script::{NewAddress, Route, Script, address, any, ip, route, started};
 use crate::words;
 
 pub fn check(checks: &mut Checks) {
@@ -36,18 +36,6 @@ fn new_addresses(checks: &mut Checks) {
         s.up(0).text.first().cloned(),
         Some("NewAddr4 127.0.0.1/8 secondary".to_string()),
     );
-    for (valid, preferred) in [(0, 0), (10, 20), (10, FOREVER)] {
-        let told = Script::default().add(NewAddress {
-            valid,
-            preferred,
-            ..address("10.1.0.5/24")
-        });
-        checks.same(
-            &format!("L2 valid {valid}, preferred {preferred}"),
-            told.reply.number,
-            0,
-        );
-    }
     for flags in [0x95e, 0x400] {
         let mut s = Script::default();
         s.add(NewAddress {

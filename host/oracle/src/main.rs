@@ -1,7 +1,7 @@
 //! The oracle's commands. Every one ends with a line of counts; the exit
 //! status is 0 only if nothing failed.
 use oracle::{
-    checks, coverage, document, examples, facts, faults, json, linux, pairs, rfc, vectors,
+    checks, coverage, document, examples, facts, faults, json, linux, messages, pairs, rfc, vectors,
 };
 use std::process::ExitCode;
 use std::time::Instant;
@@ -14,6 +14,8 @@ const USAGE: &str = "usage: oracle COMMAND
   document [N] [SEED]    sentences of document 01 on N generated cases
   generator [N] [SEED]   what N generated cases reach
   pairs [N] [SEED]       document 01's claim about two runs, on N pairs
+  messages [N] [SEED]    the reader of messages: by hand, on N generated ones,
+                         and with planted faults
   selftest [SEED]        planted faults, which the comparison must find
   vectors FOLDER [SEED]  writes the fixed list of answers, and damaged ones
   replay FILE            replays such a list against the model and against
@@ -21,9 +23,10 @@ const USAGE: &str = "usage: oracle COMMAND
                          of each call must be in it
   cases N SEED [--large PERCENT]
                          prints N random cases as JSON lines
+  message-cases N SEED   prints N random messages as JSON lines
   all                    all of examples, linux, rfc, facts, document,
-                         generator, pairs, selftest, and a list of answers
-                         replayed";
+                         generator, pairs, messages, selftest, and a list of
+                         answers replayed";
 
 const CASES: usize = 30_000;
 const PAIRS: usize = 2_000;
@@ -44,7 +47,7 @@ fn main() -> ExitCode {
 
 fn command(arguments: &[String]) -> Result<bool, String> {
     let (name, rest) = arguments.split_first().ok_or(USAGE)?;
-    if name != "cases" {
+    if !name.ends_with("cases") {
         println!("interface.rs: sha256 {}", reference::INTERFACE_SHA256);
     }
     let most = |n: usize| {
@@ -77,6 +80,11 @@ fn command(arguments: &[String]) -> Result<bool, String> {
             most(2)?;
             Ok(pairs::run(number(rest, 0, PAIRS)?, number(rest, 1, SEED)?))
         }
+        "messages" => {
+            most(2)?;
+            let (count, seed) = (number(rest, 0, CASES)?, number(rest, 1, SEED)?);
+            Ok(messages::run(count, seed))
+        }
         "selftest" => {
             most(1)?;
             Ok(faults::selftest(number(rest, 0, SEED)?))
@@ -93,6 +101,13 @@ fn command(arguments: &[String]) -> Result<bool, String> {
             replayed(&oracle::port::words(&data))
         }
         "cases" => cases(rest),
+        "message-cases" => match rest {
+            [_, _] => {
+                json::messages(number(rest, 0, 0)?, number(rest, 1, SEED)?);
+                Ok(true)
+            }
+            _ => Err(USAGE.to_string()),
+        },
         "all" => most(0).and_then(|()| all()),
         _ => Err(USAGE.to_string()),
     }
@@ -136,7 +151,7 @@ type Part = dyn Fn() -> Result<bool, String>;
 /// Everything, and one line of counts for each part.
 fn all() -> Result<bool, String> {
     let begin = Instant::now();
-    let parts: [(&str, &Part); 9] = [
+    let parts: [(&str, &Part); 10] = [
         ("examples", &|| Ok(checks::run("examples", examples::check))),
         ("linux", &|| Ok(checks::run("linux", linux::check))),
         ("rfc", &|| Ok(checks::run("rfc", rfc::check))),
@@ -144,6 +159,7 @@ fn all() -> Result<bool, String> {
         ("document", &|| Ok(document::run(CASES, SEED))),
         ("generator", &|| Ok(coverage::run(CASES, SEED))),
         ("pairs", &|| Ok(pairs::run(PAIRS, SEED))),
+        ("messages", &|| Ok(messages::run(CASES, SEED))),
         ("selftest", &|| Ok(faults::selftest(SEED))),
         ("replay", &|| replayed(&vectors::vectors(vectors::SEED))),
     ];

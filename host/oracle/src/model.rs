@@ -1,10 +1,13 @@
-//! The model: what each call does to lent words. 200, 201, 202 and 203 in
-//! that order, then the Rust on the decoded lists, then back to words.
+//! The model: what each call does to lent words. 200, 201, 202, lifetimes
+//! that Linux turns down (22) and 203 in that order, then the Rust on the
+//! decoded lists, then back to words.
 use crate::call::{Call, Reply};
 use crate::words::{LIMITS, STATE_WORDS, decode, encode_into};
 use crate::{fit, well_formed};
 use reference::{Answer, Lists, Outcome};
 
+/// Linux's EINVAL.
+pub const INVALID: u32 = 22;
 pub const UNFIT_BUFFER: u32 = 200;
 pub const UNFIT_STATE: u32 = 201;
 pub const UNFIT_REQUEST: u32 = 202;
@@ -20,11 +23,11 @@ pub fn model(call: &Call, state: &mut [u32], buffer: &mut [u32]) -> Reply {
     }
 }
 
-/// What the Rust makes of the call, or 200, 201 or 202.
+/// What the Rust makes of the call, or 200, 201, 202 or the 22 of lifetimes.
 pub fn outcome(call: &Call, state: &[u32], buffer: usize) -> Result<Outcome, u32> {
     lengths(call, state, buffer)?;
     standing(call, state)?;
-    let request = fit::request(call).ok_or(UNFIT_REQUEST)?;
+    let request = fit::request(call)?;
     let lists = if matches!(call, Call::Left { .. }) {
         Lists::default()
     } else {

@@ -124,7 +124,7 @@ pub fn bytes(words: &[u32]) -> Vec<u8> {
     bytes
 }
 
-fn write_back(words: &[u32], bytes: &mut [u8]) {
+pub fn write_back(words: &[u32], bytes: &mut [u8]) {
     for (four, word) in bytes.as_chunks_mut().0.iter_mut().zip(words) {
         *four = word.to_le_bytes();
     }

@@ -3,5 +3,6 @@
 pub mod constants;
 pub mod guarded;
 pub mod library;
+pub mod messages;
 pub mod records;
 pub mod typed;

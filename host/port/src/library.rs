@@ -3,6 +3,7 @@ use crate::guarded::Guard;
 use crate::guarded::Lent::{Read, Write};
 use naskrefim::{bytes, words};
 use oracle::call::{Call, Reply};
+use oracle::message::{Reader, WordReader};
 use oracle::port::{Port, WordPort};
 
 /// What guards hold: no row has such words by chance.
@@ -34,8 +35,8 @@ fn reply(reply: naskrefim::Reply) -> Reply {
     }
 }
 
-fn named(what: &str, guard: &Guard) -> String {
-    match guard.amiss {
+fn named(what: &str, amiss: Option<&str>) -> String {
+    match amiss {
         None => what.to_string(),
         Some(amiss) => format!("{what} ({amiss})"),
     }
@@ -47,7 +48,7 @@ pub struct OnBytes(Guard);
 
 impl Port for OnBytes {
     fn name(&self) -> String {
-        named("the library on bytes", &self.0)
+        named("the library on bytes", self.0.amiss)
     }
     fn up(&mut self, state: &mut [u8], events: &mut [u8], now: u64) -> Reply {
         let lent = [Write(state), Write(events)];
@@ -116,16 +117,33 @@ impl Port for OnBytes {
     }
 }
 
+impl Reader for OnBytes {
+    fn name(&self) -> String {
+        Port::name(self)
+    }
+    fn read(&mut self, message: &[u8], request: &mut [u8], up: u32) -> Reply {
+        let lent = [Read(message), Write(request)];
+        reply(self.0.lend(BYTE, lent, |[m, r]| bytes::read(m, r, up)))
+    }
+}
+
 /// The library on words.
 #[derive(Default)]
-pub struct OnWords(Guard);
+pub struct OnWords {
+    words: Guard,
+    /// Of messages, which are bytes here too.
+    bytes: Guard,
+}
 
 impl WordPort for OnWords {
     fn name(&self) -> String {
-        named("the library on words", &self.0)
+        named(
+            "the library on words",
+            self.words.amiss.or(self.bytes.amiss),
+        )
     }
     fn call(&mut self, call: &Call, state: &mut [u32], buffer: &mut [u32]) -> Reply {
-        let given = &mut self.0;
+        let given = &mut self.words;
         let lent = call.lent().unwrap_or(&[]);
         reply(match *call {
             Call::Up { now } => given.lend(WORD, [Write(state), Write(buffer)], |[s, e]| {
@@ -183,5 +201,20 @@ impl WordPort for OnWords {
             }
             Call::Left { now, .. } => given.lend(WORD, [Read(lent)], |[r]| words::left(r, now)),
         })
+    }
+}
+
+impl WordReader for OnWords {
+    fn name(&self) -> String {
+        WordPort::name(self)
+    }
+    fn read(&mut self, message: &[u8], request: &mut [u32], up: u32) -> Reply {
+        let Self {
+            words: given,
+            bytes,
+        } = self;
+        reply(given.lend(WORD, [Write(request)], |[r]| {
+            bytes.lend(BYTE, [Read(message)], |[m]| words::read(m, r, up))
+        }))
     }
 }

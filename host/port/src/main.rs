@@ -1,9 +1,10 @@
 //! Holds the linked library against the Rust: on bytes, on words, and
 //! through `Addresses`. The exit status is 0 only if nothing was found.
 use oracle::call::{KINDS, NAMES};
-use oracle::campaign::{Campaign, Kinds, Summary};
-use oracle::port::{Bytes, Port};
+use oracle::campaign::{self, Campaign, Kinds};
+use oracle::port::Bytes;
 use port::library::{OnBytes, OnWords};
+use port::messages::{Boundary, Comparison, Summary};
 use port::typed::Typed;
 use std::process::ExitCode;
 use std::time::{Duration, Instant, SystemTime};
@@ -12,20 +13,24 @@ const USAGE: &str = "usage: port [OPTION VALUE]..
   --seconds S        generated cases and pairs for S seconds (60 if nothing
                      is said), in place of counts
   --cases N          N generated cases, and
-  --pairs N          N pairs of runs
+  --pairs N          N pairs of runs, and
+  --messages N       N messages, read and performed
   --seed N           where they come from; a fresh seed if it isn't given
-  --calls A,B,..     only these calls (then no pairs)
+  --calls A,B,..     only these calls (then no pairs); read: messages
   --boundary WHICH   bytes, words or addresses; all if it isn't given";
 
 /// What comes between two looks at the clock.
 const BATCH: usize = 500;
 const PAIRS_PER_BATCH: usize = 3;
+/// What the reading of messages is called beside the other calls.
+const READ: &str = "read";
 
 struct Options {
     seconds: u64,
-    counts: Option<(usize, usize)>,
+    counts: Option<[usize; 3]>,
     seed: u64,
     calls: Kinds,
+    read: bool,
     /// One of [`BOUNDARIES`], or all.
     boundary: Option<String>,
 }
@@ -49,6 +54,7 @@ fn options(arguments: &[String]) -> Result<Options, String> {
         counts: None,
         seed: fresh(),
         calls: [true; KINDS],
+        read: true,
         boundary: None,
     };
     if !arguments.len().is_multiple_of(2) {
@@ -56,13 +62,14 @@ fn options(arguments: &[String]) -> Result<Options, String> {
     }
     for pair in arguments.chunks_exact(2) {
         let value = &pair[1];
-        let (cases, pairs) = options.counts.unwrap_or_default();
+        let [cases, pairs, messages] = options.counts.unwrap_or_default();
         match pair[0].as_str() {
             "--seconds" => options.seconds = number(value)?,
-            "--cases" => options.counts = Some((number(value)?, pairs)),
-            "--pairs" => options.counts = Some((cases, number(value)?)),
+            "--cases" => options.counts = Some([number(value)?, pairs, messages]),
+            "--pairs" => options.counts = Some([cases, number(value)?, messages]),
+            "--messages" => options.counts = Some([cases, pairs, number(value)?]),
             "--seed" => options.seed = number(value)?,
-            "--calls" => options.calls = kinds(value)?,
+            "--calls" => (options.calls, options.read) = kinds(value)?,
             "--boundary" if BOUNDARIES.contains(&value.as_str()) => {
                 options.boundary = Some(value.clone());
             }
@@ -77,13 +84,13 @@ fn number<T: std::str::FromStr>(text: &str) -> Result<T, String> {
         .map_err(|_| format!("not a number: {text}\n{USAGE}"))
 }
 
-fn kinds(text: &str) -> Result<Kinds, String> {
+fn kinds(text: &str) -> Result<(Kinds, bool), String> {
     let mut kinds = [false; KINDS];
-    for name in text.split(',') {
+    for name in text.split(',').filter(|name| *name != READ) {
         let kind = NAMES.iter().position(|known| *known == name);
         kinds[kind.ok_or_else(|| format!("no such call: {name}\n{USAGE}"))?] = true;
     }
-    Ok(kinds)
+    Ok((kinds, text.split(',').any(|name| name == READ)))
 }
 
 /// A seed that another run will not have.
@@ -98,21 +105,37 @@ fn run(options: &Options) -> Result<(), String> {
     println!("seed {}", options.seed);
     println!("compared: {}", compared(options));
     port::constants::compare()?;
-    let mut ports: [Box<dyn Port>; 3] = [
+    let mut ports = boundaries(options);
+    let mut campaign = Campaign::new(options.seed, options.calls);
+    for port in &mut ports {
+        campaign = campaign.with(&mut **port);
+    }
+    let mut messages = Comparison::new(options.seed);
+    let begin = Instant::now();
+    let found = compare(&mut campaign, &mut messages, options, begin);
+    say(&campaign.summary, begin.elapsed(), options.seed);
+    if options.read {
+        let Summary {
+            read,
+            performed,
+            calls,
+        } = &messages.summary;
+        println!("messages read {read:?}, performed {performed:?}; {calls} calls of the library");
+    }
+    found.inspect(|()| println!("port: nothing found"))
+}
+
+/// Those that are asked for.
+fn boundaries(options: &Options) -> Vec<Box<dyn Boundary>> {
+    let all: [Box<dyn Boundary>; 3] = [
         Box::new(OnBytes::default()),
         Box::new(Bytes(OnWords::default())),
         Box::new(Bytes(Typed::default())),
     ];
-    let mut campaign = Campaign::new(options.seed, options.calls);
-    for (name, port) in BOUNDARIES.iter().zip(&mut ports) {
-        if options.boundary.as_ref().is_none_or(|asked| asked == name) {
-            campaign = campaign.with(&mut **port);
-        }
-    }
-    let begin = Instant::now();
-    let found = compare(&mut campaign, options, begin);
-    say(&campaign.summary, begin.elapsed(), options.seed);
-    found.inspect(|()| println!("port: nothing found"))
+    let named = BOUNDARIES.iter().zip(all);
+    let asked =
+        named.filter(|(name, _)| options.boundary.as_ref().is_none_or(|asked| asked == *name));
+    asked.map(|(_, boundary)| boundary).collect()
 }
 
 /// Which calls, and on what.
@@ -122,24 +145,37 @@ fn compared(options: &Options) -> String {
         return format!("all calls, on {on}");
     }
     let asked = NAMES.iter().zip(options.calls).filter(|(_, asked)| *asked);
-    let names: Vec<&str> = asked.map(|(name, _)| *name).collect();
+    let mut names: Vec<&str> = asked.map(|(name, _)| *name).collect();
+    names.extend(options.read.then_some(READ));
     format!("only {}, on {on}, and no pairs of runs", names.join(", "))
 }
 
-fn compare(campaign: &mut Campaign, options: &Options, begin: Instant) -> Result<(), String> {
+fn compare(
+    campaign: &mut Campaign,
+    messages: &mut Comparison,
+    options: &Options,
+    begin: Instant,
+) -> Result<(), String> {
     campaign.by_hand()?;
-    if let Some((cases, pairs)) = options.counts {
+    let mut readers = boundaries(options);
+    if options.read {
+        messages.swept(&mut readers)?;
+    }
+    let mut part = |[cases, pairs, read]: [usize; 3]| {
         campaign.cases(cases)?;
-        return campaign.pairs(pairs);
+        campaign.pairs(pairs)?;
+        messages.generated(&mut readers, if options.read { read } else { 0 })
+    };
+    if let Some(counts) = options.counts {
+        return part(counts);
     }
     while begin.elapsed() < Duration::from_secs(options.seconds) {
-        campaign.cases(BATCH)?;
-        campaign.pairs(PAIRS_PER_BATCH)?;
+        part([BATCH, PAIRS_PER_BATCH, BATCH])?;
     }
     Ok(())
 }
 
-fn say(summary: &Summary, time: Duration, seed: u64) {
+fn say(summary: &campaign::Summary, time: Duration, seed: u64) {
     for name in NAMES {
         let answers = summary
             .answers

@@ -1,6 +1,6 @@
 //! Words as `naskrefim`'s records, and back: written once more, so that the
 //! interface's own way between them is compared too.
-use naskrefim::{Ask4, Event, Kind, Life, Refused, Route4, Select4, V4};
+use naskrefim::{Ask4, Event, Kind, Life, Refused, Request, Route4, Select4, V4};
 use std::net::Ipv4Addr;
 
 fn byte(word: u32) -> u8 {
@@ -95,30 +95,98 @@ fn push(words: &mut Vec<u32>, value: Option<Ipv4Addr>) {
     words.push(value.map_or(0, u32::from));
 }
 
-pub fn address_words(a: &V4) -> Vec<u32> {
+/// A label's length and its words.
+fn label_words(label: &[u8]) -> Vec<u32> {
+    let mut words = vec![label.len() as u32];
+    let mut bytes = label.to_vec();
+    bytes.resize(16, 0);
+    words.extend(oracle::port::words(&bytes));
+    words
+}
+
+/// The 14 words of a request and a row.
+fn named_words(a: &V4) -> Vec<u32> {
     let mut words = vec![a.local.into(), a.address.into(), a.prefix.into()];
     push(&mut words, a.broadcast);
     words.extend([a.scope.into(), a.flags, a.proto.into()]);
-    words.push(a.label.len() as u32);
-    let mut label = a.label.clone();
-    label.resize(16, 0);
-    words.extend(oracle::port::words(&label));
-    words.extend([a.priority, a.life.valid, a.life.preferred]);
+    words.extend(label_words(&a.label));
+    words.push(a.priority);
+    words
+}
+
+pub fn address_words(a: &V4) -> Vec<u32> {
+    let mut words = named_words(a);
+    words.extend([a.life.valid, a.life.preferred]);
     for stamp in [a.life.created, a.life.changed] {
         words.extend([stamp as u32, (stamp >> 32) as u32]);
     }
     words
 }
 
+/// The twelve words with which a route and a request for one begin.
+macro_rules! twelve {
+    ($r:expr, $kind:expr) => {{
+        let r = $r;
+        let mut words = vec![r.table, r.dst.into(), r.len.into(), r.tos.into()];
+        words.extend([r.priority, $kind.into(), r.proto.into(), r.scope.into()]);
+        push(&mut words, r.prefsrc);
+        push(&mut words, r.gateway);
+        words
+    }};
+}
+
 pub fn route_words(r: &Route4) -> Vec<u32> {
-    let mut words = vec![r.table, r.dst.into(), r.len.into(), r.tos.into()];
-    words.extend([r.priority, r.kind.code().into(), r.proto.into()]);
-    words.push(r.scope.into());
-    push(&mut words, r.prefsrc);
-    push(&mut words, r.gateway);
+    let mut words: Vec<u32> = twelve!(r, r.kind.code());
     words.extend([r.device, r.onlink, r.uses_gateway].map(u32::from));
     words.extend(r.metrics);
     words
+}
+
+/// The type and the words of a request.
+pub fn request_words(request: &Request) -> (u32, Vec<u32>) {
+    match request {
+        Request::NewAddress {
+            new,
+            lifetimes,
+            replace,
+            up,
+        } => {
+            let mut words = named_words(new);
+            words.extend([lifetimes.valid, lifetimes.preferred]);
+            words.extend([*replace, *up].map(u32::from));
+            (20, words)
+        }
+        Request::DelAddress {
+            local,
+            address,
+            prefix,
+            label,
+        } => {
+            let mut words = Vec::new();
+            push(&mut words, *local);
+            push(&mut words, *address);
+            words.extend([u32::from(*prefix), label.is_some().into()]);
+            words.extend(label_words(label.as_deref().unwrap_or_default()));
+            (21, words)
+        }
+        Request::NewRoute { ask, up } => {
+            let mut words: Vec<u32> = twelve!(ask, ask.kind);
+            words.extend([ask.oif, ask.flags, ask.request.into()]);
+            words.push(ask.metrics.map_or_else(Refused::number, |_| 0));
+            words.extend(ask.metrics.unwrap_or_default());
+            words.push((*up).into());
+            (24, words)
+        }
+        Request::DelRoute(select) => {
+            let mut words: Vec<u32> = twelve!(select, select.kind);
+            let pairs = select.metrics.as_deref().unwrap_or_default();
+            words.extend([select.oif, select.metrics.is_some().into()]);
+            words.push(pairs.len() as u32);
+            words.extend(pairs.iter().flat_map(|&(i, value)| [i as u32, value]));
+            words.resize(49, 0);
+            (25, words)
+        }
+    }
 }
 
 pub fn event_words(event: &Event) -> Vec<u32> {

@@ -3,9 +3,11 @@
 //! their width) by the words.
 use crate::library::OnWords;
 use crate::records::{address, address_words, ask, event_words, label};
-use crate::records::{route, route_words, select, there};
-use naskrefim::{Addresses, Ask4, Event, Lifetimes, PERMANENT, Refused, Route4, Select4, V4};
-use oracle::call::{Call, Reply};
+use crate::records::{request_words, route, route_words, select, there};
+use naskrefim::{Addresses, Ask4, Event, Lifetimes, PERMANENT, Refused, Request, Route4};
+use naskrefim::{Select4, V4};
+use oracle::call::{Call, DEL_ROUTE4_WORDS, Reply};
+use oracle::message::WordReader;
 use oracle::port::WordPort;
 use oracle::words::{ADDRESSES_AT, ROUTES_AT, STATE_WORDS, TABLES_AT};
 use oracle::{fit, well_formed};
@@ -45,6 +47,28 @@ impl WordPort for Typed {
     }
 }
 
+impl WordReader for Typed {
+    fn name(&self) -> String {
+        WordPort::name(self)
+    }
+    fn read(&mut self, message: &[u8], request: &mut [u32], up: u32) -> Reply {
+        if up > 1 || request.len() < DEL_ROUTE4_WORDS {
+            return WordReader::read(&mut self.0, message, request, up);
+        }
+        match Request::read(message, up == 1) {
+            Err(refused) => Reply::refused(refused.number()),
+            Ok(read) => {
+                let (kind, words) = request_words(&read);
+                request[..words.len()].copy_from_slice(&words);
+                Reply {
+                    second: words.len() as u32,
+                    ..Reply::value(kind)
+                }
+            }
+        }
+    }
+}
+
 /// Whether records can say the call: its lengths are right, its fields
 /// within their widths, and a row handed in has a kind.
 fn sayable(call: &Call, state: usize, buffer: usize) -> bool {
@@ -54,7 +78,7 @@ fn sayable(call: &Call, state: usize, buffer: usize) -> bool {
         _ => call.request_whole(),
     };
     let state = state == STATE_WORDS || matches!(call, Call::Left { .. });
-    row && state && buffer >= call.buffer().least() && fit::request(call).is_some()
+    row && state && buffer >= call.buffer().least() && fit::fits(call)
 }
 
 /// Whether the rows and tables that `lo` shows are those of `state`.

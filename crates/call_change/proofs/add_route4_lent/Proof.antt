@@ -12,7 +12,7 @@ use Rattle.definition.specs.Reference.Insert.{insert4}
 use Rattle.definition.specs.Preservation.Numbers.{insert-number, added-number}
 use Rattle.call_read.specs.Laws.{passed, lent}
 use Rattle.call_change.specs.Laws.{request-checked, sizes, sound, answers-refused, answers-passed}
-use Rattle.call_change.specs.Steps.{requested-answers}
+use Rattle.call_change.specs.Steps.{whole-answers}
 use borrow.Author.Needs.{needs}
 use Rattle.call_change.proofs.add_route4_lent.Statement.{statement}
 use Rattle.call_change.proofs.add_route4_lent.Tie as tie
@@ -118,7 +118,7 @@ returns-2 c =
     in
     let p = passed (call .checks) w n-is (at-step .before .before .before .if1 .left) in
     answers-passed call w p
-    (requested-answers w (addRoute4 q (stateOf w)) (at-step .add-route4 .result) p (added-number insert4 insert-number q (stateOf w) (unless-passed (fitAddRoute4 q) (p .fit)))
+    (whole-answers p (addRoute4 q (stateOf w)) (added-number insert4 insert-number q (stateOf w) (unless-passed (fitAddRoute4 q) (p .fit)))
     (at-step .add-route4 .ensures (stateOf w) (p .holds) (p .good .fits)) (c .of-done .ensures))
 
 pub add-route4-lent-spec : {M : Type 1} → statement M

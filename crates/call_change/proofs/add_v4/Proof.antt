@@ -3,17 +3,16 @@
 use native.Mathlib.Omega.{arith}
 use mathlib.Core.Path.{sym}
 use lib.ListN.{length}
-use Rattle.layout.specs.Request.{addV4Size, fitAddV4}
+use Rattle.layout.specs.Request.{addV4Size}
 use Rattle.definition.specs.Call as Call
 use Rattle.definition.specs.Words.{stateOf}
-use Rattle.definition.specs.Step.{unless, eventsFit, semantics, addV4Call}
+use Rattle.definition.specs.Step.{addV4Refusal, eventsFit, semantics, addV4Call}
 use Rattle.definition.specs.Reference.Addresses.{addV4}
-use Rattle.definition.specs.Preservation.Change.{unless-passed}
+use Rattle.definition.specs.Preservation.Change.{addV4-refusal-passed}
 use Rattle.definition.specs.Preservation.Numbers.{addV4-number}
-use Rattle.definition.specs.Laws.Refusals.{addV4-leaves}
 use Rattle.call_read.specs.Laws.{passed, lent}
 use Rattle.call_change.specs.Laws.{request-checked, sizes, sound, answers-refused, answers-passed}
-use Rattle.call_change.specs.Steps.{added-answers}
+use Rattle.call_change.specs.Steps.{whole-answers}
 use borrow.Author.Needs.{needs}
 use Rattle.call_change.proofs.add_v4.Statement.{statement}
 use Rattle.call_change.proofs.add_v4.Tie as tie
@@ -37,7 +36,7 @@ returns c =
     let w = a .state .now in
     let ev = a .events .now in
     let call = semantics (Call.addV4 q (length ev) (a .clock)) in
-    let n-is = request-checked addV4Size q (eventsFit (length ev)) (unless (fitAddV4 q) 202) w (at-check .checked .ensures) (at-fit .fit-add-v4 .ensures) in
+    let n-is = request-checked addV4Size q (eventsFit (length ev)) (addV4Refusal q) w (at-check .checked .ensures) (at-fit .fit-add-v4 .ensures) in
     answers-refused call w ev n-is (c .if1 .taken)
 
 slice-relend-prefix-add-v4 : tie.Need-slice-relend-prefix-add-v4
@@ -49,7 +48,7 @@ slice-relend-prefix-add-v4 c =
     let w = a .state .now in
     let ev = a .events .now in
     let call = semantics (Call.addV4 q (length ev) (a .clock)) in
-    let n-is = request-checked addV4Size q (eventsFit (length ev)) (unless (fitAddV4 q) 202) w (at-check .checked .ensures) (at-fit .fit-add-v4 .ensures) in
+    let n-is = request-checked addV4Size q (eventsFit (length ev)) (addV4Refusal q) w (at-check .checked .ensures) (at-fit .fit-add-v4 .ensures) in
     let p = passed (call .checks) w n-is (c .if1 .left) in
     omega (arith, p .long)
 
@@ -62,7 +61,7 @@ slice-aggregate-add-v4 c =
     let w = a .state .now in
     let ev = a .events .now in
     let call = semantics (Call.addV4 q (length ev) (a .clock)) in
-    let n-is = request-checked addV4Size q (eventsFit (length ev)) (unless (fitAddV4 q) 202) w (at-check .checked .ensures) (at-fit .fit-add-v4 .ensures) in
+    let n-is = request-checked addV4Size q (eventsFit (length ev)) (addV4Refusal q) w (at-check .checked .ensures) (at-fit .fit-add-v4 .ensures) in
     let p = passed (call .checks) w n-is (c .before .if1 .left) in
     sym (lent p)
 
@@ -75,10 +74,10 @@ add-v4-requires c κs =
     let w = a .state .now in
     let ev = a .events .now in
     let call = semantics (Call.addV4 q (length ev) (a .clock)) in
-    let n-is = request-checked addV4Size q (eventsFit (length ev)) (unless (fitAddV4 q) 202) w (at-check .checked .ensures) (at-fit .fit-add-v4 .ensures) in
+    let n-is = request-checked addV4Size q (eventsFit (length ev)) (addV4Refusal q) w (at-check .checked .ensures) (at-fit .fit-add-v4 .ensures) in
     let p = passed (call .checks) w n-is (c .before .before .if1 .left) in
     let size = sizes addV4Size q (length ev) (p .room) in
-    (sound p, ((size .long, unless-passed (fitAddV4 q) (p .fit)), omega (arith, size .room)))
+    (sound p, ((size .long, addV4-refusal-passed q (p .fit)), omega (arith, size .room)))
 
 of-done-requires : tie.Need-of-done-requires
 of-done-requires c κs = search needs
@@ -100,11 +99,11 @@ returns-2 c =
     let w = a .state .now in
     let ev = a .events .now in
     let call = semantics (Call.addV4 q (length ev) (a .clock)) in
-    let n-is = request-checked addV4Size q (eventsFit (length ev)) (unless (fitAddV4 q) 202) w (at-check .checked .ensures) (at-fit .fit-add-v4 .ensures) in
+    let n-is = request-checked addV4Size q (eventsFit (length ev)) (addV4Refusal q) w (at-check .checked .ensures) (at-fit .fit-add-v4 .ensures) in
     let p = passed (call .checks) w n-is (at-step .before .before .before .if1 .left) in
     answers-passed call w p
-    (added-answers w (addV4 q (a .clock) (stateOf w)) (at-step .add-v4 .result) p (addV4-number q (a .clock) (stateOf w)) (addV4-leaves q (a .clock) (stateOf w))
-    (at-step .add-v4 .ensures .1 .1 (stateOf w) (p .holds) (p .good .fits)) (at-step .add-v4 .ensures .1 .0) (c .of-done .ensures))
+    (whole-answers p (addV4 q (a .clock) (stateOf w)) (addV4-number q (a .clock) (stateOf w))
+    (at-step .add-v4 .ensures .1 (stateOf w) (p .holds) (p .good .fits)) (c .of-done .ensures))
 
 pub add-v4-spec : {M : Type 1} → statement M
 add-v4-spec =

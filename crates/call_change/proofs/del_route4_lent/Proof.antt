@@ -9,10 +9,10 @@ use Rattle.definition.specs.Step.{unless, eventsFit, semantics, delRoute4Call}
 use Rattle.definition.specs.Reference.Routes.{delRoute4Request}
 use Rattle.definition.specs.Preservation.Change.{unless-passed}
 use Rattle.definition.specs.Preservation.Numbers.{delRoute4-number}
-use Rattle.state.specs.Represents.{sound-valid}
+use Rattle.state.specs.Represents.{fit-some}
 use Rattle.call_read.specs.Laws.{passed, lent}
 use Rattle.call_change.specs.Laws.{request-checked, sizes, sound, answers-refused, answers-passed}
-use Rattle.call_change.specs.Steps.{requested-answers}
+use Rattle.call_change.specs.Steps.{whole-answers}
 use borrow.Author.Needs.{needs}
 use Rattle.call_change.proofs.del_route4_lent.Statement.{statement}
 use Rattle.call_change.proofs.del_route4_lent.Tie as tie
@@ -90,7 +90,7 @@ del-route4-requires c κs =
     in
     let p = passed (call .checks) w n-is (c .before .before .if1 .left) in
     let size = sizes delRoute4Size q (a .room) (p .room) in
-    (sound-valid (sound p), ((size .long, unless-passed (fitDelRoute4 q) (p .fit)), omega (arith, start .pre (size .room))))
+    (fit-some (sound p), ((size .long, unless-passed (fitDelRoute4 q) (p .fit)), omega (arith, start .pre (size .room))))
 
 of-done-requires : tie.Need-of-done-requires
 of-done-requires c κs = search needs
@@ -118,7 +118,7 @@ returns-2 c =
     in
     let p = passed (call .checks) w n-is (at-step .before .before .before .if1 .left) in
     answers-passed call w p
-    (requested-answers w (delRoute4Request q (stateOf w)) (at-step .del-route4 .result) p (delRoute4-number q (stateOf w))
+    (whole-answers p (delRoute4Request q (stateOf w)) (delRoute4-number q (stateOf w))
     (at-step .del-route4 .ensures (stateOf w) (p .holds)) (c .of-done .ensures))
 
 pub del-route4-lent-spec : {M : Type 1} → statement M

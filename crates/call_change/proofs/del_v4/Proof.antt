@@ -8,9 +8,10 @@ use Rattle.definition.specs.Call as Call
 use Rattle.definition.specs.Words.{stateOf}
 use Rattle.definition.specs.Step.{unless, eventsFit, semantics, delV4Call}
 use Rattle.definition.specs.Reference.Removal.{delV4}
+use Rattle.definition.specs.Preservation.Numbers.{delV4-number}
 use Rattle.call_read.specs.Laws.{passed, lent}
 use Rattle.call_change.specs.Laws.{request-checked, sizes, answers-refused, answers-passed}
-use Rattle.call_change.specs.Steps.{fitting, deletes-answers}
+use Rattle.call_change.specs.Steps.{fitting, whole-answers}
 use borrow.Author.Needs.{needs}
 use Rattle.call_change.proofs.del_v4.Statement.{statement}
 use Rattle.call_change.proofs.del_v4.Tie as tie
@@ -100,7 +101,7 @@ returns-2 c =
     let n-is = request-checked delV4Size q (eventsFit (length ev)) (unless (fitDelV4 q) 202) w (at-check .checked .ensures) (at-fit .fit-del-v4 .ensures) in
     let p = passed (call .checks) w n-is (at-step .before .before .before .if1 .left) in
     answers-passed call w p
-    (deletes-answers q w _ ev _ (at-step .del-v4 .result) p (at-step .del-v4 .ensures (stateOf w) (fitting p (sizes delV4Size q (length ev) (p .room) .room))) (c .of-done .ensures))
+    (whole-answers p (delV4 q (stateOf w)) (delV4-number q (stateOf w)) (at-step .del-v4 .ensures (stateOf w) (fitting p (sizes delV4Size q (length ev) (p .room) .room))) (c .of-done .ensures))
 
 pub del-v4-spec : {M : Type 1} → statement M
 del-v4-spec =

@@ -7,10 +7,10 @@ use borrow.Author.Tests.{leb-true}
 use Rattle.definition.specs.Call as Call
 use Rattle.definition.specs.Words.{stateOf}
 use Rattle.definition.specs.Step.{eventRoom, semantics, upCall}
-use Rattle.definition.specs.Reference.Addresses.{up}
+use Rattle.definition.specs.Reference.Addresses.{goes, up}
 use Rattle.call_read.specs.Laws.{passed, lent}
 use Rattle.call_change.specs.Laws.{sound, answers-refused, answers-passed}
-use Rattle.call_change.specs.Steps.{told-answers}
+use Rattle.call_change.specs.Steps.{whole-answers}
 use borrow.Author.Needs.{needs}
 use Rattle.call_change.proofs.up.Statement.{statement}
 use Rattle.call_change.proofs.up.Tie as tie
@@ -61,8 +61,8 @@ up-requires c κs =
     let p = passed (call .checks) w (at-check .checked .ensures) (c .before .before .if1 .left) in
     (sound p, leb-true eventRoom (length ev) (p .room))
 
-of-told-requires : tie.Need-of-told-requires
-of-told-requires c κs = search needs
+of-done-requires : tie.Need-of-done-requires
+of-done-requires c κs = search needs
 
 same-length-2 : tie.Need-same-length-2
 same-length-2 c = search needs
@@ -81,9 +81,7 @@ returns-2 c =
     let call = semantics (Call.up (length ev) (a .clock)) in
     let p = passed (call .checks) w (at-check .checked .ensures) (at-step .before .before .before .if1 .left) in
     answers-passed call w p
-    (told-answers w (up (a .clock) (stateOf w)) (at-step .up .result)
-    (at-step .up .ensures .1 .1 (stateOf w) (p .holds) (p .good .fits)) (at-step .up .ensures .1 .0)
-    (c .of-told .ensures))
+    (whole-answers p (goes (up (a .clock) (stateOf w))) tt (at-step .up .ensures .1 (stateOf w) (p .holds) (p .good .fits)) (c .of-done .ensures))
 
 pub up-spec : {M : Type 1} → statement M
 up-spec =
@@ -95,7 +93,7 @@ up-spec =
     slice-relend-prefix-up
     slice-aggregate-up
     up-requires
-    of-told-requires
+    of-done-requires
     same-length-2
     same-length-3
     returns-2)

@@ -1,6 +1,6 @@
 -- `call_reply::done` meets its contract, case by case.
 -- Assumes nothing.
-use Rattle.call_change.specs.Told.{rows-small}
+use Rattle.call_change.specs.Emitted.{rows-small}
 use mathlib.Core.Path.{sym, ap, _∙_}
 use Rattle.call_reply.specs.Answer.{replyFrom}
 use Rattle.call_change.specs.Answer.{doneBy}

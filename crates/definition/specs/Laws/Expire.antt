@@ -116,8 +116,8 @@ module _ (allowance now : ℕ) where
           ∙ also-at marked-and-gone (passes n allowance now) (λ s. passes (length (s .addresses)) allowance now s)
           (enough n (length (marked-and-gone .state .addresses)) (marked-and-gone .state) (omega arith) (omega arith))
 
--- ---- where nothing is told, nothing changed
--- a removal tells
+-- ---- where nothing is emitted, nothing changed
+-- a removal emits
 also-emitted : (o : Out) (f : State → Out) → length (also o f .emitted) ≡ length (o .emitted) + length (f (o .state) .emitted)
 unfolding also
 also-emitted o f = length-append (o .emitted) (f (o .state) .emitted)

@@ -13,7 +13,7 @@ use Rattle.lists.specs.Lists.{Row, keep}
 use Rattle.layout.specs.Route.{table, len, kind}
 use Rattle.kind.specs.Kind.{errorOf}
 use Rattle.definition.specs.State.{State}
-use Rattle.definition.specs.Reference.Lookup.{Flow, Found, refused, fits, longer, longest, answer, together, lookupIn, settled, ruling, listed, again, netUnreachable, mainTable, defaultTable}
+use Rattle.definition.specs.Reference.Lookup.{Flow, Found, noRoute, fits, longer, longest, answer, together, lookupIn, settled, ruling, listed, again, netUnreachable, mainTable, defaultTable}
 
 -- every row that passes is bounded in its length
 abbrev pub Bounded : (ℕ → Type 0) → (Row → Bool) → List Row → Type 0
@@ -133,14 +133,14 @@ error-not-101 k e =
     (pick-not (eqb k 9) 11 0 (λ q. omega arith) (λ q. omega arith))))
     e
 
-verdict-not-101 : (r : Row) (b : Bool) → cond b (refused (errorOf (kind r))) (Found.route r) ≡ refused netUnreachable → ⊥
+verdict-not-101 : (r : Row) (b : Bool) → cond b (noRoute (errorOf (kind r))) (Found.route r) ≡ noRoute netUnreachable → ⊥
 verdict-not-101 r true e = error-not-101 (kind r) (cc)
 verdict-not-101 r false e =
     let bad : _≡_ {A = ℕ} 0 1 = cc in
     omega arith
 
 -- an answer that is settled is not 101
-ruling-not-101 : (o : Option Row) → settled o ≡ true → ruling o ≡ refused netUnreachable → ⊥
+ruling-not-101 : (o : Option Row) → settled o ≡ true → ruling o ≡ noRoute netUnreachable → ⊥
 ruling-not-101 none s e = false≢true s
 ruling-not-101 (some r) s e = verdict-not-101 r (not (eqb (errorOf (kind r)) 0)) e
 
@@ -151,14 +151,14 @@ upperSettled st f = settled (answer (together mainTable) f (st .routes))
 abbrev pub lowerSettled : State → Flow → Bool
 lowerSettled st f = listed defaultTable st && settled (answer (together defaultTable) f (st .routes))
 
-neither : (b c d : Bool) (u l : Option Row) → settled u ≡ b → settled l ≡ d → cond b (ruling u) (cond (c && d) (ruling l) (refused netUnreachable)) ≡ refused netUnreachable → (b ≡ false) × ((c && d) ≡ false)
+neither : (b c d : Bool) (u l : Option Row) → settled u ≡ b → settled l ≡ d → cond b (ruling u) (cond (c && d) (ruling l) (noRoute netUnreachable)) ≡ noRoute netUnreachable → (b ≡ false) × ((c && d) ≡ false)
 neither true c d u l p q e = absurd (ruling-not-101 u p e)
 neither false true true u l p q e = absurd (ruling-not-101 l q e)
 neither false true false u l p q e = (refl, refl)
 neither false false d u l p q e = (refl, refl)
 
 -- 101 is given exactly if neither holds a fitting answer that isn't a throw (document 01, port order 5)
-pub unreachable-exactly : (st : State) (f : Flow) → (lookupIn st f ≡ refused netUnreachable) ↔ ((upperSettled st f ≡ false) × (lowerSettled st f ≡ false))
+pub unreachable-exactly : (st : State) (f : Flow) → (lookupIn st f ≡ noRoute netUnreachable) ↔ ((upperSettled st f ≡ false) × (lowerSettled st f ≡ false))
 unfolding lookupIn
 unreachable-exactly st f = (
   λ e. neither (upperSettled st f) (listed defaultTable st) (settled (answer (together defaultTable) f (st .routes)))
@@ -167,7 +167,7 @@ unreachable-exactly st f = (
 )
 
 -- ---- a throw's number is never given
-settled-not-again : (r : Row) (b : Bool) → not (eqb (errorOf (kind r)) again) ≡ true → cond b (refused (errorOf (kind r))) (Found.route r) ≡ refused again → ⊥
+settled-not-again : (r : Row) (b : Bool) → not (eqb (errorOf (kind r)) again) ≡ true → cond b (noRoute (errorOf (kind r))) (Found.route r) ≡ noRoute again → ⊥
 settled-not-again r true s e =
     let same : errorOf (kind r) ≡ again = cc in
     false≢true (sym (ap not (eq-eqb (errorOf (kind r)) again same)) ∙ s)
@@ -175,11 +175,11 @@ settled-not-again r false s e =
     let bad : _≡_ {A = ℕ} 0 1 = cc in
     omega arith
 
-ruling-not-again : (o : Option Row) → settled o ≡ true → ruling o ≡ refused again → ⊥
+ruling-not-again : (o : Option Row) → settled o ≡ true → ruling o ≡ noRoute again → ⊥
 ruling-not-again none s e = false≢true s
 ruling-not-again (some r) s e = settled-not-again r (not (eqb (errorOf (kind r)) 0)) s e
 
-never-again : (b c d : Bool) (u l : Option Row) → settled u ≡ b → settled l ≡ d → cond b (ruling u) (cond (c && d) (ruling l) (refused netUnreachable)) ≡ refused again → ⊥
+never-again : (b c d : Bool) (u l : Option Row) → settled u ≡ b → settled l ≡ d → cond b (ruling u) (cond (c && d) (ruling l) (noRoute netUnreachable)) ≡ noRoute again → ⊥
 never-again true c d u l p q e = ruling-not-again u p e
 never-again false true true u l p q e = ruling-not-again l q e
 never-again false true false u l p q e =
@@ -190,7 +190,7 @@ never-again false false d u l p q e =
     omega arith
 
 -- no lookup gives 11 (document 01: "lookup4 never gives 11")
-pub never-11 : (st : State) (f : Flow) → lookupIn st f ≡ refused again → ⊥
+pub never-11 : (st : State) (f : Flow) → lookupIn st f ≡ noRoute again → ⊥
 unfolding lookupIn
 never-11 st f e =
     never-again (upperSettled st f) (listed defaultTable st) (settled (answer (together defaultTable) f (st .routes)))

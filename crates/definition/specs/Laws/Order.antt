@@ -1,22 +1,26 @@
 -- The order in which `add_route4` refuses (document 01: "table listed, length and host bits, scope and dead flags, metrics, kind,
 -- device and gateway, prefsrc, insertion"): the table is listed whatever comes of the request, and then the first cause of the
--- list that holds gives the number.
+-- list that holds gives the number. And where `add_v4` refuses lifetimes (document 02, Paper 2: "after 202 and before 203").
 -- Assumes nothing.
-use Prim.Native.Nat.{ℕ}
+use Prim.Native.Nat.{ℕ, _≤_}
 use mathlib.Core.Path.{_≡_, refl, sym, ap, ap₂, _∙_}
-use mathlib.Core.Bool.{Bool, true, false, cond, not, _&&_, _||_}
+use mathlib.Core.Bool.{Bool, true, false, cond, not, _&&_, _||_, false≢true}
 use mathlib.Core.List.{List, [], _∷_, _++_}
 use mathlib.Core.Option.{Option, none, some}
 use lib.Dec.{eqb, ltb}
+use lib.ListN.{length}
+use borrow.Author.Tests.{eq-eqb, le-leb}
 use Rattle.lists.specs.Lists.{Row}
-use Rattle.lists.specs.Bools.{test-case, cond-case}
+use Rattle.lists.specs.Bools.{and-both, test-case, cond-case, cond-true, cond-false}
 use Rattle.kind.specs.Kind.{isKind, errorOf, leastScope}
 use Rattle.layout.specs.Route.{kind, scope, prefsrcPresent, gatewayPresent}
-use Rattle.layout.specs.Request.{oif, nlmFlags, metricsError, upAtAddRoute4}
+use Rattle.layout.specs.Request.{addV4Size, fitAddV4, validLifetimes, oif, nlmFlags, metricsError, upAtAddRoute4}
 use Rattle.definition.specs.State.{State}
-use Rattle.definition.specs.Step.{result}
+use Rattle.definition.specs.Words.{stateSize, stateOf, formed}
+use Rattle.definition.specs.Call.{Call}
+use Rattle.definition.specs.Step.{Result, refuses, checks, unless, invalid, eventRoom, eventsFit, requestIs, result, outcome, changing, step}
 use Rattle.definition.specs.Reference.Insert.{Inserted, listTable, create4, insert4}
-use Rattle.definition.specs.Reference.Addresses.{Outcome, hostScope}
+use Rattle.definition.specs.Reference.Addresses.{Outcome, hostScope, addV4}
 use Rattle.definition.specs.Reference.Routes.{Reached, tableNamed, badPrefix, deadFlags, onlinkFlag, unsupported, then, refuse, formCheck, plain, gateway4, reachCheck, validPrefsrc4, askedRoute, insertedAs, routed, addedBy, addRoute4}
 
 -- ---- causes
@@ -205,3 +209,36 @@ unfolding addedBy create4
 table-listed q st =
     let made = create4 (tableNamed q) st in
     cond-case (λ (o : Outcome). result o .tables ≡ made .tables) (eqb (formCheck q) 0) (λ e. routed-tables q (reachCheck q made) made) (λ e. refl)
+
+-- ---- add_v4's lifetimes
+lifetimes-turn : (buffers state fits lasts : Bool) (r : Result) (w : List ℕ) → buffers ≡ true → state ≡ true
+    → cond (eqb (checks buffers state (cond fits (unless lasts invalid) 202)) 0) r (refuses (checks buffers state (cond fits (unless lasts invalid) 202)) w)
+    ≡ cond fits (cond lasts r (refuses 22 w)) (refuses 202 w)
+lifetimes-turn true true true true r w h i = refl
+lifetimes-turn true true true false r w h i = refl
+lifetimes-turn true true false lasts r w h i = refl
+lifetimes-turn true false fits lasts r w h i = absurd (false≢true i)
+lifetimes-turn false state fits lasts r w h i = absurd (false≢true h)
+
+-- on well-formed words, with buffers that suffice: 202, then 22, then what `outcome` says, 203 and the reference's own
+pub lifetimes-order : (q : Row) (events now : ℕ) (w : List ℕ)
+    → length w ≡ stateSize → formed w ≡ true → length q ≡ addV4Size → eventRoom ≤ events
+    → step (Call.addV4 q events now) w
+    ≡ cond (fitAddV4 q) (cond (validLifetimes q) (outcome (addV4 q now (stateOf w)) w) (refuses 22 w)) (refuses 202 w)
+unfolding changing
+lifetimes-order q events now w long made sized room =
+    let buffers = and-both (requestIs addV4Size q) (eventsFit events) (eq-eqb (length q) addV4Size sized) (le-leb eventRoom events room) in
+    lifetimes-turn (eqb (length w) stateSize && (requestIs addV4Size q && eventsFit events)) (formed w && true) (fitAddV4 q) (validLifetimes q)
+    (outcome (addV4 q now (stateOf w)) w) w
+    (and-both (eqb (length w) stateSize) (requestIs addV4Size q && eventsFit events) (eq-eqb (length w) stateSize long) buffers)
+    (and-both (formed w) true made refl)
+
+-- so lifetimes that Linux turns down are 22 and leave every word, whatever the state holds and whether the request replaces or not
+pub lifetimes-refused : (q : Row) (events now : ℕ) (w : List ℕ)
+    → length w ≡ stateSize → formed w ≡ true → length q ≡ addV4Size → eventRoom ≤ events
+    → fitAddV4 q ≡ true → validLifetimes q ≡ false → step (Call.addV4 q events now) w ≡ refuses 22 w
+lifetimes-refused q events now w long made sized room fits lasts =
+    let o = outcome (addV4 q now (stateOf w)) w in
+    lifetimes-order q events now w long made sized room
+    ∙ cond-true (fitAddV4 q) (cond (validLifetimes q) o (refuses 22 w)) (refuses 202 w) fits
+    ∙ cond-false (validLifetimes q) o (refuses 22 w) lasts

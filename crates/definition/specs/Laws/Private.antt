@@ -41,7 +41,7 @@ others-choice q =
 named-used : (q : Row) → others q (table q) ≡ false
 named-used q = rw (eq-eqb (table q) (table q) refl)
 
--- ---- what a request says: its number, 0 if it isn't refused, and the rows told
+-- ---- what a request says: its number, 0 if it isn't refused, and the rows emitted
 abbrev pub number : Outcome → ℕ
 number (goes o) = 0
 number (refused n st) = n

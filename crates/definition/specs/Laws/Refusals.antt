@@ -21,7 +21,7 @@ use Rattle.definition.specs.Reference.Addresses.{Outcome, goes, refused}
 use Rattle.definition.specs.Reference.Routes.{tableNamed}
 use Rattle.definition.specs.Step.{Result, Checks, Action, changes, replies, lists, Semantics, checks, checked, unless, unfit, result, roomy, outcome, semantics, step}
 pub use Rattle.definition.specs.Preservation.Refused.{Leaves, addV4-leaves, delV4-leaves, delRoute4-leaves, added-leaves}
-use Rattle.definition.specs.Preservation.Change.{Sound, Acts, lawful}
+use Rattle.definition.specs.Preservation.Change.{Preserving, Acts, lawful}
 use Rattle.definition.specs.Preservation.Step.{acted, perform-case, checked-held, checked-sound, leaves-decode}
 
 -- ---- its number and nothing else
@@ -41,7 +41,7 @@ alone c w = perform-case (λ (r : Result). Alone (r .reply)) w (semantics c) (λ
     go k (lists f) l = λ h. absurd (h refl)
 
 -- ---- 200 to 203: every word stays
-outcome-unfit : {later : State} (o : Outcome) (w : List ℕ) → Sound later o → unfit (outcome o w .reply .number) ≡ true → outcome o w .words ≡ w
+outcome-unfit : {later : State} (o : Outcome) (w : List ℕ) → Preserving later o → unfit (outcome o w .reply .number) ≡ true → outcome o w .words ≡ w
 outcome-unfit (goes o) w s =
     cond-case (λ (r : Result). unfit (r .reply .number) ≡ true → r .words ≡ w) (roomy (goes o)) (λ e h. absurd (false≢true h)) (λ e h. refl)
 outcome-unfit (refused n st) w s =

@@ -17,7 +17,7 @@ use Rattle.layout.specs.Request.{replaceAsked}
 use Rattle.definition.specs.State.{State, also, through, withRoutes}
 use Rattle.definition.specs.Reference.Lookup.{mainTable, localKind, broadcastKind, listed, local4}
 use Rattle.definition.specs.Reference.Insert.{kernelAdd4, kernelDel4}
-use Rattle.definition.specs.Reference.Addresses.{only, kernelRoute, localRoute, prefixRoute, upRoutes, primaryOf, candidates, place4, bring, newAddress, changeV4, moved, reroutes, sameAddress, addedOver, addV4, up, down, loopback, outOf, Outcome}
+use Rattle.definition.specs.Reference.Addresses.{only, kernelRoute, localRoute, prefixRoute, upRoutes, primaryOf, candidates, place4, install, newAddress, changeV4, moved, reroutes, sameAddress, addedOver, addV4, up, down, loopback, outOf, Outcome}
 use Rattle.definition.specs.Reference.Removal.{anyPriority, ofKind, leaving, unwanted, wanted, dependentOn, fall, disable, removeOne, goneWith, removeV4, deletes, deletedAt, delV4, due, deprecateDue, passes, expire}
 use Rattle.definition.specs.Noninterference.Statement.{Choice, outside}
 use Rattle.definition.specs.Noninterference.Projection.{without, unchosen-as, Mirrors, StepConsistent, Tandem, both-go, both-refuse, mirrors-also, mirrors-cond, consistent-through, consistent-all, tandem-cond}
@@ -47,15 +47,15 @@ module _ (chosen : ℕ → Bool) (choice : Choice chosen) where
   candidates-outside addresses false a = rw (localRoute-outside _ a)
 
   -- ---- an address more, or another in its place
-  bring-consistent : (routes : List Row) → all (outside chosen) routes ≡ true → StepConsistent chosen (bring routes)
-  unfolding bring
-  bring-consistent routes h = consistent-through chosen kernelAdd4 (outside chosen) (kernelAdd4-consistent chosen choice) routes h
+  install-consistent : (routes : List Row) → all (outside chosen) routes ≡ true → StepConsistent chosen (install routes)
+  unfolding install
+  install-consistent routes h = consistent-through chosen kernelAdd4 (outside chosen) (kernelAdd4-consistent chosen choice) routes h
 
   newAddress-consistent : (new : Row) (up : Bool) → StepConsistent chosen (newAddress new up)
   unfolding newAddress
   newAddress-consistent new up st =
       mirrors-also chosen _ _ _ (record { state = refl; emitted = refl })
-      (bring-consistent _ (candidates-outside (place4 new (st .addresses)) up new))
+      (install-consistent _ (candidates-outside (place4 new (st .addresses)) up new))
 
   moved-consistent : (q old : Row) → StepConsistent chosen (moved q old)
   unfolding moved prefixRoute
@@ -88,7 +88,7 @@ module _ (chosen : ℕ → Bool) (choice : Choice chosen) where
   unfolding up
   up-consistent now st =
       mirrors-also chosen _ _ _ (step-consistent _ _ (addV4-consistent loopback now st))
-      (λ later. consistent-all chosen (λ a. bring (candidates (later .addresses) true a)) (λ a. bring-consistent _ (candidates-outside (later .addresses) true a)) (later .addresses) later)
+      (λ later. consistent-all chosen (λ a. install (candidates (later .addresses) true a)) (λ a. install-consistent _ (candidates-outside (later .addresses) true a)) (later .addresses) later)
 
   pub down-consistent : StepConsistent chosen down
   unfolding down

@@ -150,8 +150,8 @@ choosing =
     }
 
 -- 10.1.0.5 goes, and with it the local row and main's row from it: an event each; table 300's row from it stays
-abbrev stray : Example
-stray =
+abbrev dependent : Example
+dependent =
     record {
       calls =
           up
@@ -214,7 +214,7 @@ listing =
     }
 
 examples : List Example
-examples = lookup ∷ choosing ∷ stray ∷ made-local ∷ deleting ∷ listing ∷ []
+examples = lookup ∷ choosing ∷ dependent ∷ made-local ∷ deleting ∷ listing ∷ []
 
 abbrev AllShown : List Example → Type 0
 AllShown [] = Unit {0}

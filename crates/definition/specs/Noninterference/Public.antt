@@ -20,6 +20,13 @@ Lent (forEvents room) b = length b ≡ room
 Lent (forListing room) b = length b ≡ room
 Lent (forRow room) b = length b ≡ room
 
+-- the words that it has room for
+abbrev pub roomOf : Buffer → ℕ
+roomOf unlent = 0
+roomOf (forEvents room) = room
+roomOf (forListing room) = room
+roomOf (forRow room) = room
+
 -- the call c, on a state of the words w, lent a buffer of the words b, gave the numbers n, and left the words w′ and the buffer b′
 pub record Made (c : Call) (w b : List ℕ) (n : Numbers) (w′ b′ : List ℕ) : Type 0 where
   pub lent : Lent (semantics c .lent) b

@@ -11,8 +11,8 @@ use Rattle.lists.specs.All.{eqRow-true}
 use Rattle.lists.specs.Keep.{Implies, keep-append, keep-keep, keep-within, any-within, first-within, removeFirst-within, replaceFirst-within}
 use Rattle.layout.specs.Route.{table, before, alike}
 use Rattle.definition.specs.State.{State, withRoutes}
-use Rattle.definition.specs.Reference.Lookup.{Flow, longest, fits, answer, together, lookupIn, typeSet, addrType4, local4, listed, refused, flowTo, mainTable, localTable, defaultTable}
-use Rattle.definition.specs.Reference.Insert.{Inserted, placed, nothing, addTable, listTable, create4, ahead, behind, insert4, inserted, kernelAdd4, named, removed, kernelDel4, kernelFlags}
+use Rattle.definition.specs.Reference.Lookup.{Flow, longest, fits, answer, together, lookupIn, typeSet, addrType4, local4, listed, noRoute, flowTo, mainTable, localTable, defaultTable}
+use Rattle.definition.specs.Reference.Insert.{Inserted, placed, nothing, addTable, listTable, create4, ahead, behind, insert4, inserted, kernelAdd4, matches, removed, kernelDel4, kernelFlags}
 use Rattle.definition.specs.Noninterference.Statement.{Choice, outside}
 use Rattle.definition.specs.Noninterference.Projection.{unchosen, without, unchosen-as, unchosen-like, Mirrors, StepConsistent}
 
@@ -161,11 +161,11 @@ module _ (chosen : ℕ → Bool) (choice : Choice chosen) where
   pub kernelDel4-consistent : (p : Row) → outside chosen p ≡ true → StepConsistent chosen (kernelDel4 p)
   unfolding kernelDel4
   kernelDel4-consistent p o st =
-      let i = named-outside in
-      rw (first-within (named p) (outside chosen) i (st .routes))
-      (removed-consistent (named p) i (first (named p) (st .routes)) st)
+      let i = matches-outside in
+      rw (first-within (matches p) (outside chosen) i (st .routes))
+      (removed-consistent (matches p) i (first (matches p) (st .routes)) st)
     where
-      named-outside : Implies (named p) (outside chosen)
-      named-outside r h =
+      matches-outside : Implies (matches p) (outside chosen)
+      matches-outside r h =
           unchosen-as chosen (table p) (table r) o
-          (test-case (eqb (table r) (table p)) (λ e. e) (λ e. absurd (false≢true (unfold named in rw e at h))))
+          (test-case (eqb (table r) (table p)) (λ e. e) (λ e. absurd (false≢true (unfold matches in rw e at h))))

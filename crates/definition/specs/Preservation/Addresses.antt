@@ -17,19 +17,19 @@ use Rattle.layout.specs.Route as Route
 use Rattle.layout.specs.Event.{newAddr4, newRoute4, delRoute4}
 use Rattle.layout.specs.Request.{fitAddV4, replaceAsked, upAtAddV4}
 use Rattle.definition.specs.State.{State, becomes, stays, withAddresses, withRoutes}
-use Rattle.definition.specs.Reference.Insert.{create4, listTable, insert4, Inserted, placed, nothing, inserted, kernelAdd4, kernelDel4, named, removed, kernelFlags}
-use Rattle.definition.specs.Reference.Addresses.{Outcome, candidates, prefixRoute, bring, place4, yields, newAddress, changedTo, moved, reroutes, changeV4, addedOver, addV4, asked, asSecondary, sameAddress, sameSubnet, loopback, outOf, up, down, hostScope}
-use Rattle.definition.specs.Preservation.Fit.{Fit, fields-address}
+use Rattle.definition.specs.Reference.Insert.{create4, listTable, insert4, Inserted, placed, nothing, inserted, kernelAdd4, kernelDel4, matches, removed, kernelFlags}
+use Rattle.definition.specs.Reference.Addresses.{Outcome, candidates, prefixRoute, install, place4, yields, newAddress, changedTo, moved, reroutes, changeV4, addedOver, addV4, asked, asSecondary, sameAddress, sameSubnet, loopback, outOf, up, down, hostScope}
+use Rattle.definition.specs.Preservation.Fit.{Invariant, fields-address}
 use Rattle.definition.specs.Preservation.Routes.{keep-fit, removeFirst-fit, Puts, insert-fit, listTable-fit}
 use Rattle.definition.specs.Preservation.Keeps.{Kept, Keeps, KeptOutcome, KeepsOutcome, fit-addresses, fit-routes, fit-tables, becomes-kept, stays-keeps, also-kept, through-keeps}
 use Rattle.definition.specs.Preservation.Rows.{newAddr4-emitted, newRoute4-emitted, delRoute4-emitted, asked-fit, asSecondary-fit, changedTo-fit, candidates-fit, subnet-fit}
 
 -- ---- routes
-pub create4-fit : (t : ℕ) (st : State) → Fit st → Fit (create4 t st)
+pub create4-fit : (t : ℕ) (st : State) → Invariant st → Invariant (create4 t st)
 unfolding create4
 create4-fit t st f = fit-tables st (listTable t (st .tables)) f (listTable-fit t (st .tables) (f .ofTables))
 
-inserted-kept : (new : Row) (i : Inserted) (st : State) → fitRoute new ≡ true → Puts i → Fit st → Kept (inserted new i st)
+inserted-kept : (new : Row) (i : Inserted) (st : State) → fitRoute new ≡ true → Puts i → Invariant st → Kept (inserted new i st)
 inserted-kept new (placed rows flags) st h p f =
     becomes-kept (withRoutes rows st) (newRoute4 new flags ∷ []) (newRoute4-emitted new flags h) (fit-routes st rows f p)
 inserted-kept new nothing st h p f = stays-keeps .kept st f
@@ -40,33 +40,33 @@ unfolding kernelAdd4
 kernelAdd4-keeps new h =
     record {
       kept = λ st f.
-          let g : Fit (create4 (table new) st) = create4-fit (table new) st f in
+          let g : Invariant (create4 (table new) st) = create4-fit (table new) st f in
           inserted-kept new (insert4 new kernelFlags ((create4 (table new) st) .routes)) (create4 (table new) st) h
           (insert-fit new kernelFlags ((create4 (table new) st) .routes) h (g .ofRoutes)) g;
     }
 
-removed-kept : (p : Row → Bool) (o : Option Row) (st : State) → ((r : Row) → o ≡ some r → fitRoute r ≡ true) → Fit st → Kept (removed p o st)
+removed-kept : (p : Row → Bool) (o : Option Row) (st : State) → ((r : Row) → o ≡ some r → fitRoute r ≡ true) → Invariant st → Kept (removed p o st)
 removed-kept p none st h f = stays-keeps .kept st f
 removed-kept p (some r) st h f =
     becomes-kept (withRoutes (removeFirst p (st .routes)) st) (delRoute4 r ∷ []) (delRoute4-emitted r (h r refl)) (fit-routes st (removeFirst p (st .routes)) f (removeFirst-fit p (st .routes) (f .ofRoutes)))
 
 pub kernelDel4-keeps : (p : Row) → Keeps (kernelDel4 p)
 unfolding kernelDel4
-kernelDel4-keeps p = record { kept = λ st f. removed-kept (named p) (first (named p) (st .routes)) st (λ r e. all-first fitRoute (named p) (st .routes) r (f .ofRoutes .each) e) f }
+kernelDel4-keeps p = record { kept = λ st f. removed-kept (matches p) (first (matches p) (st .routes)) st (λ r e. all-first fitRoute (matches p) (st .routes) r (f .ofRoutes .each) e) f }
 
 -- some of the routes go
-pub dropped-kept : (p : Row → Bool) (st : State) → Fit st → Kept (stays (withRoutes (keep p (st .routes)) st))
+pub dropped-kept : (p : Row → Bool) (st : State) → Invariant st → Kept (stays (withRoutes (keep p (st .routes)) st))
 dropped-kept p st f = stays-keeps .kept (withRoutes (keep p (st .routes)) st) (fit-routes st (keep p (st .routes)) f (keep-fit p (st .routes) (f .ofRoutes)))
 
 -- ---- addresses
-pub bring-keeps : (routes : List Row) → all fitRoute routes ≡ true → Keeps (bring routes)
-unfolding bring
-bring-keeps routes h = through-keeps kernelAdd4 fitRoute routes kernelAdd4-keeps h
+pub install-keeps : (routes : List Row) → all fitRoute routes ≡ true → Keeps (install routes)
+unfolding install
+install-keeps routes h = through-keeps kernelAdd4 fitRoute routes kernelAdd4-keeps h
 
 -- the routes of an address that is fit
-candidates-keep : (addresses : List Row) (up : Bool) (a : Row) → fitAddress a ≡ true → Keeps (bring (candidates addresses up a))
+candidates-keep : (addresses : List Row) (up : Bool) (a : Row) → fitAddress a ≡ true → Keeps (install (candidates addresses up a))
 candidates-keep addresses up a h =
-    bring-keeps (candidates addresses up a) (candidates-fit addresses up a ((fields-address a h) .short))
+    install-keeps (candidates addresses up a) (candidates-fit addresses up a ((fields-address a h) .short))
 
 pub place4-fit : (new : Row) (l : List Row) → fitAddress new ≡ true → all fitAddress l ≡ true → all fitAddress (place4 new l) ≡ true
 unfolding place4
@@ -81,7 +81,7 @@ newAddress-keeps new up h =
     record {
       kept = λ st f.
           let placed : State = withAddresses (place4 new (st .addresses)) st in
-          also-kept (becomes placed (newAddr4 new ∷ [])) (bring (candidates (placed .addresses) up new))
+          also-kept (becomes placed (newAddr4 new ∷ [])) (install (candidates (placed .addresses) up new))
           (becomes-kept placed (newAddr4 new ∷ []) (newAddr4-emitted new h) (fit-addresses st (place4 new (st .addresses)) f (place4-fit new (st .addresses) h (f .ofAddresses))))
           (candidates-keep (placed .addresses) up new h);
     }
@@ -108,7 +108,7 @@ changeV4-keeps q old now g h =
     }
 
 addedOver-kept : (q : Row) (now : ℕ) (o : Option Row) (st : State) → length q ≡ 18 → fitAddV4 q ≡ true
-    → ((old : Row) → o ≡ some old → fitAddress old ≡ true) → Fit st → KeptOutcome (addedOver q now o st)
+    → ((old : Row) → o ≡ some old → fitAddress old ≡ true) → Invariant st → KeptOutcome (addedOver q now o st)
 addedOver-kept q now (some old) st long g h f =
     cond-case KeptOutcome (eqb (replaceAsked q) 1) (λ e. (changeV4-keeps q old now g (h old refl)) .kept st f) (λ e. f)
 addedOver-kept q now none st long g h f =
@@ -143,7 +143,7 @@ up-keeps now =
           also-kept (outOf (addV4 loopback now st)) _ (step-kept (addV4 loopback now st) ((addV4-keeps loopback now refl loopback-fit) .kept st f))
           (record {
             kept = λ later k.
-                (through-keeps (λ a. bring (candidates (later .addresses) true a)) fitAddress (later .addresses)
+                (through-keeps (λ a. install (candidates (later .addresses) true a)) fitAddress (later .addresses)
                 (λ a h. candidates-keep (later .addresses) true a h) (k .ofAddresses))
                 .kept later k;
           });

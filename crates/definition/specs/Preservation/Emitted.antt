@@ -1,4 +1,4 @@
--- What a changing call tells: at most 384 rows of 34 words, whatever words it is handed.
+-- What a changing call emits: at most 384 rows of 34 words, whatever words it is handed.
 -- Assumes nothing.
 use Prim.Native.Nat.{ℕ, _+_, _≤_}
 use mathlib.Core.Path.{_≡_, refl}
@@ -16,20 +16,20 @@ use Rattle.layout.specs.Request.{fitAddV4, replaceAsked, nlmFlags}
 use Rattle.layout.specs.Route.{table, prefsrcPresent}
 use Rattle.definition.specs.State.{State, Sizes, Out, sizes, stays, also}
 use Rattle.definition.specs.Words.{within}
-use Rattle.definition.specs.Reference.Insert.{create4, insert4, Inserted, placed, nothing, inserted, kernelAdd4, kernelDel4, named, removed, kernelFlags, Insertion}
+use Rattle.definition.specs.Reference.Insert.{create4, insert4, Inserted, placed, nothing, inserted, kernelAdd4, kernelDel4, matches, removed, kernelFlags, Insertion}
 use Rattle.definition.specs.Reference.Addresses.{Outcome, goes, refused, prefixRoute, moved, reroutes, changeV4, addedOver, addV4, sameAddress, up, down}
 use Rattle.definition.specs.Reference.Removal.{deletes, deletedAt, removeV4, delV4, expire}
 use Rattle.definition.specs.Reference.Routes.{Reached, formCheck, reachCheck, tableNamed, badPrefix, askedRoute, validPrefsrc4, insertedAs, routed, selects, deletedRoute, delRoute4Request, addedBy}
 use Rattle.definition.specs.Reference.Lookup.{listed}
-use Rattle.definition.specs.Preservation.Fit.{Fit, fit-state}
-use Rattle.definition.specs.Preservation.Encode.{Good}
+use Rattle.definition.specs.Preservation.Fit.{Invariant, fit-state}
+use Rattle.definition.specs.Preservation.Encode.{Admissible}
 use Rattle.definition.specs.Preservation.Keeps.{Kept, KeptOutcome}
 use Rattle.definition.specs.Preservation.Addresses.{addV4-keeps, up-keeps}
 use Rattle.definition.specs.Preservation.Growing.{Adds, newAddress-adds, up-adds}
 use Rattle.definition.specs.Preservation.Shrinking.{Drops, live, removeV4-drops, expire-drops}
 
 -- ---- few rows
--- a step that keeps to the limits tells of at most 384 rows
+-- a step that keeps to the limits emits at most 384 rows
 pub record EventBound (o : Out) : Type 0 where
   pub few : within (o .peak) ≡ true → length (o .emitted) ≤ 384
 
@@ -54,7 +54,7 @@ adds-eventBound : (st : State) (o : Out) → Kept o → Adds st o → EventBound
 adds-eventBound st o k a =
     record { few = λ w. let l = limits (o .peak) w in omega (arith, a .grown, k .covers .ofAddresses, k .covers .ofRoutes, l .ofAddresses, l .ofRoutes) }
 
-drops-eventBound : (st : State) (o : Out) → Good st → Drops st o → EventBound o
+drops-eventBound : (st : State) (o : Out) → Admissible st → Drops st o → EventBound o
 drops-eventBound st o g d =
     record { few = λ w. let l = limits (sizes st) (g .limits) in omega (arith, d .lighter, count-most live (st .addresses), l .ofAddresses, l .ofRoutes) }
 
@@ -74,7 +74,7 @@ removed-emitted p (some r) st = omega arith
 
 kernelDel4-emitted : (p : Row) (st : State) → length ((kernelDel4 p st) .emitted) ≤ 1
 unfolding kernelDel4
-kernelDel4-emitted p st = removed-emitted (named p) (first (named p) (st .routes)) st
+kernelDel4-emitted p st = removed-emitted (matches p) (first (matches p) (st .routes)) st
 
 also-emitted : (m n : ℕ) (o : Out) (g : State → Out) → length (o .emitted) ≤ m → length ((g (o .state)) .emitted) ≤ n → length ((also o g) .emitted) ≤ m + n
 unfolding also
@@ -112,12 +112,12 @@ deletedRoute-eventBound : (q : Row) (o : Option Row) (st : State) → EventBound
 deletedRoute-eventBound q none st = tt
 deletedRoute-eventBound q (some r) st = eventBound _ (omega arith)
 
-deletedAt-eventBound : (o : Option Row) (st : State) → Good st → ((a : Row) → o ≡ some a → Drops st (removeV4 a st)) → EventBoundOutcome (deletedAt o st)
+deletedAt-eventBound : (o : Option Row) (st : State) → Admissible st → ((a : Row) → o ≡ some a → Drops st (removeV4 a st)) → EventBoundOutcome (deletedAt o st)
 deletedAt-eventBound none st g h = tt
 deletedAt-eventBound (some a) st g h = drops-eventBound st (removeV4 a st) g (h a refl)
 
-module _ (st : State) (g : Good st) where
-  abbrev f : Fit st
+module _ (st : State) (g : Admissible st) where
+  abbrev f : Invariant st
   f = fit-state st (g .fits)
 
   pub up-eventBound : (now : ℕ) → EventBound (up now st)

@@ -13,11 +13,11 @@ use Rattle.lists.specs.Lists.{allZero, flat, zeros, pad, span, chop}
 use Rattle.lists.specs.Bools.{and-both, and-iff}
 use Rattle.lists.specs.Rows.{length-pad, length-flat, chop-pad, allZero-pad, span-past, pad-chop, pad-take, length-chop, length-span, pad-nil, zeros-append, zeros-cons}
 use Rattle.definition.specs.State.{State, sizes, empty}
-use Rattle.definition.specs.Preservation.Fit.{Fit, fit-state, sized-addresses, sized-routes}
+use Rattle.definition.specs.Preservation.Fit.{Invariant, fit-state, sized-addresses, sized-routes}
 use Rattle.definition.specs.Words.{ordered, distinct, noneTwice, within, addressesSize, routesAt, routesSize, tablesAt, tableLimit, baseSize, encode, decode, fitState, unusedZero, wellFormed}
 
 -- the state could be that of well-formed words
-pub record Good (st : State) : Type 0 where
+pub record Admissible (st : State) : Type 0 where
   pub fits : fitState st ≡ true
   pub limits : within (sizes st) ≡ true
 
@@ -31,8 +31,8 @@ counts st h =
 past-counts : (m a b c : ℕ) (x rest : List ℕ) → length x ≡ m → drop (3 + m) (a ∷ b ∷ c ∷ (x ++ rest)) ≡ rest
 past-counts m a b c x rest h = sym (drop-drop m 3 (a ∷ b ∷ c ∷ (x ++ rest))) ∙ drop-at x rest m h
 
-module _ (st : State) (g : Good st) where
-  abbrev f : Fit st
+module _ (st : State) (g : Admissible st) where
+  abbrev f : Invariant st
   f = fit-state st (g .fits)
 
   length-addresses : length (flat (st .addresses)) ≡ 20 * length (st .addresses)
@@ -207,11 +207,11 @@ module _ (w : List ℕ) (long : length w ≡ baseSize) (well : wellFormed w ≡ 
       (rows-part routesAt routesSize 32 (getD w 1 0) w (omega arith) (omega arith) (u .routes))
       (numbers-part tablesAt tableLimit (getD w 2 0) w (omega arith) (omega arith) (u .tables))
 
-  pub good-decode : Good (decode w)
+  pub good-decode : Admissible (decode w)
   good-decode = let c = count w well in record { fits = c .fit; limits = within-decode w long c }
 
 -- ---- the empty state
-pub good-empty : Good empty
+pub good-empty : Admissible empty
 unfolding fitState ordered distinct noneTwice
 good-empty = record { fits = refl; limits = refl }
 

@@ -20,7 +20,7 @@ use Rattle.definition.specs.Words.{fitState, ordered, distinct, noneTwic
 -- the fields that an address row and a request for one share
 pub record FitFields (a : Row) : Type 0 where
   pub short : leb (prefix a) 32 ≡ true
-  pub named : optional (broadcastPresent a) (broadcast a) ≡ true
+  pub announced : optional (broadcastPresent a) (broadcast a) ≡ true
   pub wide : ltb (scope a) 256 ≡ true
   pub by : ltb (proto a) 256 ≡ true
   pub labelled : fitLabel (labelLength a) (label a) ≡ true
@@ -29,7 +29,7 @@ pub fields-address : (a : Row) → fitAddress a ≡ true → FitFields a
 unfolding fitAddress
 fields-address a h =
     let k = simp and-iff at h in
-    record { short = k .0 .0 .0 .0 .1; named = simp and-iff (k .0 .0 .0 .1); wide = k .0 .0 .1; by = k .0 .1; labelled = simp and-iff (k .1) }
+    record { short = k .0 .0 .0 .0 .1; announced = simp and-iff (k .0 .0 .0 .1); wide = k .0 .0 .1; by = k .0 .1; labelled = simp and-iff (k .1) }
 
 pub length-address : (a : Row) → fitAddress a ≡ true → length a ≡ 20
 unfolding fitAddress
@@ -38,13 +38,13 @@ length-address a h = eqb-true (length a) 20 ((simp and-iff at h) .0 .0 .0 .0 .0)
 pub address-fields : (a : Row) → length a ≡ 20 → FitFields a → fitAddress a ≡ true
 unfolding fitAddress
 address-fields a e f =
-    simp and-iff (((((eq-eqb (length a) 20 e, f .short), simp and-iff at (f .named)), f .wide), f .by), simp and-iff at (f .labelled))
+    simp and-iff (((((eq-eqb (length a) 20 e, f .short), simp and-iff at (f .announced)), f .wide), f .by), simp and-iff at (f .labelled))
 
 pub fields-request : (q : Row) → fitAddV4 q ≡ true → FitFields q
 unfolding fitAddV4
 fields-request q h =
     let k = simp and-iff at h in
-    record { short = k .0 .0 .0 .0 .0 .0; named = simp and-iff (k .0 .0 .0 .0 .0 .1); wide = k .0 .0 .0 .0 .1; by = k .0 .0 .0 .1; labelled = simp and-iff (k .0 .0 .1) }
+    record { short = k .0 .0 .0 .0 .0 .0; announced = simp and-iff (k .0 .0 .0 .0 .0 .1); wide = k .0 .0 .0 .0 .1; by = k .0 .0 .0 .1; labelled = simp and-iff (k .0 .0 .1) }
 
 pub length-route : (r : Row) → fitRoute r ≡ true → length r ≡ 32
 unfolding fitRoute
@@ -66,18 +66,18 @@ pub record FitRoutes (l : List Row) : Type 0 where
   pub inOrder : ordered l ≡ true
   pub apart : distinct l ≡ true
 
-pub record Fit (st : State) : Type 0 where
+pub record Invariant (st : State) : Type 0 where
   pub ofAddresses : all fitAddress (st .addresses) ≡ true
   pub ofRoutes : FitRoutes (st .routes)
   pub ofTables : noneTwice (st .tables) ≡ true
 
-pub fit-state : (st : State) → fitState st ≡ true → Fit st
+pub fit-state : (st : State) → fitState st ≡ true → Invariant st
 unfolding fitState
 fit-state st h =
     let k = simp and-iff at h in
     record { ofAddresses = k .0 .0 .0 .0; ofRoutes = record { each = k .0 .0 .0 .1; inOrder = k .0 .0 .1; apart = k .0 .1 }; ofTables = k .1 }
 
-pub state-fit : (st : State) → Fit st → fitState st ≡ true
+pub state-fit : (st : State) → Invariant st → fitState st ≡ true
 unfolding fitState
 state-fit st f =
     simp and-iff ((((f .ofAddresses, f .ofRoutes .each), f .ofRoutes .inOrder), f .ofRoutes .apart), f .ofTables)

@@ -1,4 +1,4 @@
--- How many rows an adding step tells of: no more than the routes and addresses grow.
+-- How many rows an adding step emits: no more than the routes and addresses grow.
 -- Assumes nothing.
 use Prim.Native.Nat.{ℕ, suc, _+_, _≤_}
 use mathlib.Core.Path.{_≡_, refl}
@@ -16,7 +16,7 @@ use Rattle.layout.specs.Route.{alike, before, table}
 use Rattle.layout.specs.Event.{newAddr4}
 use Rattle.definition.specs.State.{State, Out, becomes, stays, also, through, withAddresses}
 use Rattle.definition.specs.Reference.Insert.{create4, insert4, Inserted, placed, nothing, inserted, exclFlag, replaceFlag, createFlag, appendFlag, ahead, behind, kernelAdd4, kernelFlags}
-use Rattle.definition.specs.Reference.Addresses.{candidates, bring, place4, yields, newAddress, addedOver, addV4, sameAddress, loopback, outOf, up}
+use Rattle.definition.specs.Reference.Addresses.{candidates, install, place4, yields, newAddress, addedOver, addV4, sameAddress, loopback, outOf, up}
 
 pub record Adds (st : State) (o : Out) : Type 0 where
   pub grown : length (o .emitted) + (length (st .routes) + length (st .addresses)) ≤ length (o .state .routes) + length (o .state .addresses)
@@ -75,9 +75,9 @@ kernelAdd4-adds new st =
     let a = inserted-adds new (insert4 new kernelFlags (st .routes)) (create4 (table new) st) (insert-grows new kernelFlags (st .routes) no-replacing) in
     record { grown = a .grown }
 
-pub bring-adds : (routes : List Row) (st : State) → Adds st (bring routes st)
-unfolding bring
-bring-adds routes st = through-adds kernelAdd4 routes kernelAdd4-adds st
+pub install-adds : (routes : List Row) (st : State) → Adds st (install routes st)
+unfolding install
+install-adds routes st = through-adds kernelAdd4 routes kernelAdd4-adds st
 
 pub length-place4 : (new : Row) (l : List Row) → length (place4 new l) ≡ suc (length l)
 unfolding place4
@@ -87,9 +87,9 @@ length-place4 new l =
 pub newAddress-adds : (new : Row) (up : Bool) (st : State) → Adds st (newAddress new up st)
 unfolding newAddress
 newAddress-adds new up st =
-    also-adds st (becomes (withAddresses (place4 new (st .addresses)) st) (newAddr4 new ∷ [])) (bring (candidates (place4 new (st .addresses)) up new))
+    also-adds st (becomes (withAddresses (place4 new (st .addresses)) st) (newAddr4 new ∷ [])) (install (candidates (place4 new (st .addresses)) up new))
     (record { grown = omega (arith, length-place4 new (st .addresses)) })
-    (λ s. bring-adds (candidates (place4 new (st .addresses)) up new) s)
+    (λ s. install-adds (candidates (place4 new (st .addresses)) up new) s)
 
 -- an address that isn't replaced
 added-adds : (now : ℕ) (o : Option Row) (st : State) → Adds st (outOf (addedOver loopback now o st))
@@ -100,6 +100,6 @@ pub up-adds : (now : ℕ) (st : State) → Adds st (up now st)
 unfolding up addV4
 up-adds now st =
     also-adds st (outOf (addedOver loopback now (first (sameAddress loopback) (st .addresses)) st))
-    (λ later. through (λ a. bring (candidates (later .addresses) true a)) (later .addresses) later)
+    (λ later. through (λ a. install (candidates (later .addresses) true a)) (later .addresses) later)
     (added-adds now (first (sameAddress loopback) (st .addresses)) st)
-    (λ s. through-adds (λ a. bring (candidates (s .addresses) true a)) (s .addresses) (λ a t. bring-adds (candidates (s .addresses) true a) t) s)
+    (λ s. through-adds (λ a. install (candidates (s .addresses) true a)) (s .addresses) (λ a t. install-adds (candidates (s .addresses) true a) t) s)

@@ -14,7 +14,7 @@ use Rattle.layout.specs.Address.{fitAddress}
 use Rattle.definition.specs.State.{State, Sizes, Out, sizes, becomes, stays, also, through, withAddresses, withRoutes, withTables}
 use Rattle.definition.specs.Words.{noneTwice, fitState}
 use Rattle.definition.specs.Reference.Addresses.{Outcome, goes, refused}
-use Rattle.definition.specs.Preservation.Fit.{Fit, FitRoutes, fit-state, state-fit}
+use Rattle.definition.specs.Preservation.Fit.{Invariant, FitRoutes, fit-state, state-fit}
 
 -- each list is no longer than counted
 pub record Covers (a b : Sizes) : Type 0 where
@@ -22,35 +22,35 @@ pub record Covers (a b : Sizes) : Type 0 where
   pub ofRoutes : a .routes ≤ b .routes
   pub ofTables : a .tables ≤ b .tables
 
--- what a step leaves is fit, what it tells are event rows, and its peak covers what it leaves
+-- what a step leaves is fit, what it emits are event rows, and its peak covers what it leaves
 pub record Kept (o : Out) : Type 0 where
-  pub fit : Fit (o .state)
+  pub fit : Invariant (o .state)
   pub events : sized 34 (o .emitted) ≡ true
   pub covers : Covers (sizes (o .state)) (o .peak)
 
 pub record Keeps (f : State → Out) : Type 0 where
-  pub kept : (st : State) → Fit st → Kept (f st)
+  pub kept : (st : State) → Invariant st → Kept (f st)
 
 -- of an outcome
 abbrev pub KeptOutcome : Outcome → Type 0
 KeptOutcome (goes o) = Kept o
-KeptOutcome (refused n st) = Fit st
+KeptOutcome (refused n st) = Invariant st
 
 pub record KeepsOutcome (f : State → Outcome) : Type 0 where
-  pub kept : (st : State) → Fit st → KeptOutcome (f st)
+  pub kept : (st : State) → Invariant st → KeptOutcome (f st)
 
 -- ---- states
-pub fit-addresses : (st : State) (l : List Row) → Fit st → all fitAddress l ≡ true → Fit (withAddresses l st)
+pub fit-addresses : (st : State) (l : List Row) → Invariant st → all fitAddress l ≡ true → Invariant (withAddresses l st)
 fit-addresses st l f h = record { ofAddresses = h; ofRoutes = f .ofRoutes; ofTables = f .ofTables }
 
-pub fit-routes : (st : State) (l : List Row) → Fit st → FitRoutes l → Fit (withRoutes l st)
+pub fit-routes : (st : State) (l : List Row) → Invariant st → FitRoutes l → Invariant (withRoutes l st)
 fit-routes st l f h = record { ofAddresses = f .ofAddresses; ofRoutes = h; ofTables = f .ofTables }
 
-pub fit-tables : (st : State) (l : List ℕ) → Fit st → noneTwice l ≡ true → Fit (withTables l st)
+pub fit-tables : (st : State) (l : List ℕ) → Invariant st → noneTwice l ≡ true → Invariant (withTables l st)
 fit-tables st l f h = record { ofAddresses = f .ofAddresses; ofRoutes = f .ofRoutes; ofTables = h }
 
 -- ---- steps
-pub becomes-kept : (st : State) (rows : List Row) → sized 34 rows ≡ true → Fit st → Kept (becomes st rows)
+pub becomes-kept : (st : State) (rows : List Row) → sized 34 rows ≡ true → Invariant st → Kept (becomes st rows)
 becomes-kept st rows e f = record { fit = f; events = e; covers = record { ofAddresses = omega arith; ofRoutes = omega arith; ofTables = omega arith } }
 
 pub stays-keeps : Keeps stays

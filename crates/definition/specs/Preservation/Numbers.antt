@@ -52,7 +52,7 @@ error-most k =
 
 abbrev pub OfFound : Found → Type 0
 OfFound (Found.route r) = Unit
-OfFound (Found.refused n) = Errno n
+OfFound (Found.noRoute n) = Errno n
 
 ruling-number : (o : Option Row) → OfFound (ruling o)
 ruling-number none = errno 101 (omega arith) (omega arith)
@@ -95,7 +95,7 @@ gatewayRoute-number q st =
     cond-case OfFound (usable own) (λ e. foundOr-number own (lookupIn st (toGateway q)) (lookup-number st (toGateway q))) (λ e. lookup-number st (toGateway q))
 
 reachedBy-number : (q : Row) (f : Found) → OfFound f → OfReached (reachedBy q f)
-reachedBy-number q (Found.refused n) h = h
+reachedBy-number q (Found.noRoute n) h = h
 reachedBy-number q (Found.route r) h =
     cond-case OfReached (eqb (kind r) unicastKind || eqb (kind r) localKind)
     (λ e. cond-case OfReached (eqb (upAtAddRoute4 q) 0) (λ d. errno 100 (omega arith) (omega arith)) (λ d. tt))

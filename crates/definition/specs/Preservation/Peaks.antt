@@ -18,10 +18,10 @@ use Rattle.layout.specs.Event.{newAddr4, delAddr4, newRoute4, delRoute4}
 use Rattle.definition.specs.State.{State, Sizes, Out, sizes, most, becomes, stays, also, through, withAddresses, withRoutes}
 use Rattle.definition.specs.Words.{within}
 use Rattle.definition.specs.Reference.Lookup.{mainTable, localTable, localKind, listed, local4}
-use Rattle.definition.specs.Reference.Insert.{addTable, listTable, create4, insert4, Inserted, placed, nothing, inserted, kernelAdd4, kernelDel4, named, removed, kernelFlags}
-use Rattle.definition.specs.Reference.Addresses.{goes, refused, candidates, bring, place4, newAddress, addedOver, addV4, sameAddress, loopback, outOf, up, down, hostScope}
+use Rattle.definition.specs.Reference.Insert.{addTable, listTable, create4, insert4, Inserted, placed, nothing, inserted, kernelAdd4, kernelDel4, matches, removed, kernelFlags}
+use Rattle.definition.specs.Reference.Addresses.{goes, refused, candidates, install, place4, newAddress, addedOver, addV4, sameAddress, loopback, outOf, up, down, hostScope}
 use Rattle.definition.specs.Reference.Removal.{ofKind, unwanted, dependentOn, fall, disable, removeOne, goneWith, removeV4, deletes, deletedAt, delV4, due, deprecates, deprecate, deprecateDue, passes, expire}
-use Rattle.definition.specs.Preservation.Encode.{Good}
+use Rattle.definition.specs.Preservation.Encode.{Admissible}
 use Rattle.definition.specs.Preservation.Keeps.{Covers}
 use Rattle.definition.specs.Preservation.Removal.{option-case}
 use Rattle.definition.specs.Preservation.Growing.{Grows, insert-grows, no-replacing, length-place4}
@@ -94,7 +94,7 @@ removed-under p (some r) st =
 
 pub kernelDel4-under : (p : Row) (st : State) → Under st (kernelDel4 p st)
 unfolding kernelDel4
-kernelDel4-under p st = removed-under (named p) (first (named p) (st .routes)) st
+kernelDel4-under p st = removed-under (matches p) (first (matches p) (st .routes)) st
 
 fall-under : (a : Row) (routes : List Row) (st : State) → Under st (fall a routes st)
 unfolding fall
@@ -150,20 +150,20 @@ unfolding expire
 expire-under early now st = passes-under (length (st .addresses)) early now st
 
 -- ---- so these calls never give 203
-under-roomy : (st : State) (o : Out) → Good st → Under st o → within (o .peak) ≡ true
+under-roomy : (st : State) (o : Out) → Admissible st → Under st o → within (o .peak) ≡ true
 under-roomy st o g u = covered (o .peak) (sizes st) (u .ever) (g .limits)
 
-pub down-roomy : (st : State) → Good st → roomy (goes (down st)) ≡ true
+pub down-roomy : (st : State) → Admissible st → roomy (goes (down st)) ≡ true
 down-roomy st g = under-roomy st (down st) g (down-under st)
 
-pub expire-roomy : (early now : ℕ) (st : State) → Good st → roomy (goes (expire early now st)) ≡ true
+pub expire-roomy : (early now : ℕ) (st : State) → Admissible st → roomy (goes (expire early now st)) ≡ true
 expire-roomy early now st g = under-roomy st (expire early now st) g (expire-under early now st)
 
-deletedAt-roomy : (o : Option Row) (st : State) → Good st → roomy (deletedAt o st) ≡ true
+deletedAt-roomy : (o : Option Row) (st : State) → Admissible st → roomy (deletedAt o st) ≡ true
 deletedAt-roomy none st g = g .limits
 deletedAt-roomy (some a) st g = under-roomy st (removeV4 a st) g (removeV4-under a st)
 
-pub delV4-roomy : (q : Row) (st : State) → Good st → roomy (delV4 q st) ≡ true
+pub delV4-roomy : (q : Row) (st : State) → Admissible st → roomy (delV4 q st) ≡ true
 unfolding delV4
 delV4-roomy q st g = deletedAt-roomy (first (deletes q) (st .addresses)) st g
 
@@ -217,17 +217,17 @@ kernelAdd4-rises new st =
     (record { ofAddresses = omega arith; ofRoutes = omega arith; ofTables = listTable-longer (table new) (st .tables) })
     (insert-grows new kernelFlags (st .routes) no-replacing)
 
-pub bring-rises : (routes : List Row) (st : State) → Rises st (bring routes st)
-unfolding bring
-bring-rises routes st = through-rises kernelAdd4 routes kernelAdd4-rises st
+pub install-rises : (routes : List Row) (st : State) → Rises st (install routes st)
+unfolding install
+install-rises routes st = through-rises kernelAdd4 routes kernelAdd4-rises st
 
 pub newAddress-rises : (new : Row) (up : Bool) (st : State) → Rises st (newAddress new up st)
 unfolding newAddress
 newAddress-rises new up st =
     let placed : State = withAddresses (place4 new (st .addresses)) st in
-    also-rises st (becomes placed (newAddr4 new ∷ [])) (bring (candidates (placed .addresses) up new))
+    also-rises st (becomes placed (newAddr4 new ∷ [])) (install (candidates (placed .addresses) up new))
     (becomes-rises st placed (newAddr4 new ∷ []) (record { ofAddresses = omega (arith, length-place4 new (st .addresses)); ofRoutes = omega arith; ofTables = omega arith }))
-    (bring-rises (candidates (placed .addresses) up new))
+    (install-rises (candidates (placed .addresses) up new))
 
 added-rises : (now : ℕ) (o : Option Row) (st : State) → Rises st (outOf (addedOver loopback now o st))
 added-rises now (some old) st = stays-rises st
@@ -237,9 +237,9 @@ pub up-rises : (now : ℕ) (st : State) → Rises st (up now st)
 unfolding up addV4
 up-rises now st =
     also-rises st (outOf (addedOver loopback now (first (sameAddress loopback) (st .addresses)) st))
-    (λ later. through (λ a. bring (candidates (later .addresses) true a)) (later .addresses) later)
+    (λ later. through (λ a. install (candidates (later .addresses) true a)) (later .addresses) later)
     (added-rises now (first (sameAddress loopback) (st .addresses)) st)
-    (λ s. through-rises (λ a. bring (candidates (s .addresses) true a)) (s .addresses) (λ a t. bring-rises (candidates (s .addresses) true a) t) s)
+    (λ s. through-rises (λ a. install (candidates (s .addresses) true a)) (s .addresses) (λ a t. install-rises (candidates (s .addresses) true a) t) s)
 
 -- an adding step keeps to the limits where what it leaves does
 pub rises-within : (st : State) (o : Out) → Rises st o → within (sizes (o .state)) ≡ true → within (o .peak) ≡ true

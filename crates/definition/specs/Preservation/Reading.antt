@@ -21,9 +21,9 @@ use Rattle.definition.specs.State.{State}
 use Rattle.definition.specs.Words.{noneTwice, wellFormed, decode}
 use Rattle.definition.specs.Preservation.Numbers.{OfFound}
 use Rattle.definition.specs.Reference.Source.{below, tableOrder, dump4, select4, source4, present}
-use Rattle.definition.specs.Preservation.Fit.{Fit, fit-state, sized-routes}
-use Rattle.definition.specs.Preservation.Encode.{Good}
-use Rattle.definition.specs.Reference.Lookup.{Flow, Found, route, refused, fits, flowTo, lookup4, lookup4Flow, longer, longest, answer, together, lookupIn, ruling, settled, rejects, listed, defaultTable, mainTable}
+use Rattle.definition.specs.Preservation.Fit.{Invariant, fit-state, sized-routes}
+use Rattle.definition.specs.Preservation.Encode.{Admissible}
+use Rattle.definition.specs.Reference.Lookup.{Flow, Found, route, noRoute, fits, flowTo, lookup4, lookup4Flow, longer, longest, answer, together, lookupIn, ruling, settled, rejects, listed, defaultTable, mainTable}
 
 -- ---- dump4
 below-count : (m n : ℕ) → count (eqb n) (below m) ≤ tick (ltb n m)
@@ -69,16 +69,16 @@ once-order l o =
           omega (arith, (once-below 256) .once (n % 256));
     }
 
-pub dump4-few : (st : State) → Fit st → length (dump4 st) ≤ length (st .routes)
+pub dump4-few : (st : State) → Invariant st → length (dump4 st) ≤ length (st .routes)
 unfolding dump4 noneTwice
 dump4-few st f = length-picked table (st .routes) (tableOrder (st .tables)) (once-order (st .tables) (pairwise-once (st .tables) (f .ofTables)))
 
-pub dump4-fit : (st : State) → Fit st → all fitRoute (dump4 st) ≡ true
+pub dump4-fit : (st : State) → Invariant st → all fitRoute (dump4 st) ≡ true
 unfolding dump4
 dump4-fit st f =
     all-each fitRoute (λ t. keep (λ r. eqb (table r) t) (st .routes)) (tableOrder (st .tables)) (λ t. all-keep fitRoute (λ r. eqb (table r) t) (st .routes) (f .ofRoutes .each))
 
-pub dump4-listing : (st : State) → Good st → (length (dump4 st) ≤ 256) × (sized 32 (dump4 st) ≡ true)
+pub dump4-listing : (st : State) → Admissible st → (length (dump4 st) ≤ 256) × (sized 32 (dump4 st) ≡ true)
 dump4-listing st g =
     let f = fit-state st (g .fits) in
     let k = simp and-iff at (g .limits) in
@@ -93,7 +93,7 @@ Passing p (some r) = p r ≡ true
 -- a row that is found passes, and no refusal is that of a throw
 abbrev pub FoundIn : (Row → Bool) → Found → Type 0
 FoundIn p (route r) = p r ≡ true
-FoundIn p (refused n) = n ≢ 11
+FoundIn p (noRoute n) = n ≢ 11
 
 longer-passes : (p : Row → Bool) (x : Row) (o : Option Row) → p x ≡ true → Passing p o → p (longer x o) ≡ true
 longer-passes p x none h k = h
@@ -126,5 +126,5 @@ lookup-passes p st f h =
     (λ d. nowhere))
 
 -- the row of a lookup is fit
-pub lookup-fit : (st : State) (f : Flow) → Fit st → FoundIn fitRoute (lookupIn st f)
+pub lookup-fit : (st : State) (f : Flow) → Invariant st → FoundIn fitRoute (lookupIn st f)
 lookup-fit st f h = lookup-passes fitRoute st f (h .ofRoutes .each)

@@ -18,7 +18,7 @@ use Rattle.definition.specs.Reference.Lookup.{localKind, mainTable, list
 use Rattle.definition.specs.Reference.Insert.{kernelDel4}
 use Rattle.definition.specs.Reference.Addresses.{sameSubnet}
 use Rattle.definition.specs.Reference.Removal.{ofKind, unwanted, dependentOn, fall, disable, removeOne, goneWith, removeV4, deletes, deletedAt, delV4, due, deprecates, deprecate, deprecateDue, passes, expire}
-use Rattle.definition.specs.Preservation.Fit.{Fit}
+use Rattle.definition.specs.Preservation.Fit.{Invariant}
 use Rattle.definition.specs.Preservation.Keeps.{through-keeps, Kept, Keeps, KeptOutcome, KeepsOutcome, fit-addresses, becomes-kept, stays-keeps, also-kept, through-each}
 use Rattle.definition.specs.Preservation.Rows.{deprecate-fit, newAddr4-emitted, delAddr4-emitted}
 use Rattle.definition.specs.Preservation.Addresses.{kernelDel4-keeps, dropped-kept}
@@ -73,7 +73,7 @@ removeV4-keeps a h =
     }
 
 -- ---- del_v4
-deletedAt-kept : (o : Option Row) (st : State) → ((a : Row) → o ≡ some a → fitAddress a ≡ true) → Fit st → KeptOutcome (deletedAt o st)
+deletedAt-kept : (o : Option Row) (st : State) → ((a : Row) → o ≡ some a → fitAddress a ≡ true) → Invariant st → KeptOutcome (deletedAt o st)
 deletedAt-kept none st h f = f
 deletedAt-kept (some a) st h f = (removeV4-keeps a (h a refl)) .kept st f
 

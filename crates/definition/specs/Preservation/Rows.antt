@@ -52,14 +52,14 @@ unfolding changedTo
 changedTo-fit q old now g h =
     setLife-fit (validAsked q) (preferredAsked q) now _
     (by-words (λ r. fitAddress r ≡ true → fitAddress (setProto (Address.proto q) (setPriority (Address.priority q) r)) ≡ true) 20 old (length-address old h)
-    (λ k. let f = fields-address _ k in address-fields _ refl (record { short = f .short; named = f .named; wide = f .wide; by = fields-request q g .by; labelled = f .labelled })) h)
+    (λ k. let f = fields-address _ k in address-fields _ refl (record { short = f .short; announced = f .announced; wide = f .wide; by = fields-request q g .by; labelled = f .labelled })) h)
 
 -- the row of a request
 pub asked-fit : (q : Row) (now : ℕ) → length q ≡ 18 → fitAddV4 q ≡ true → fitAddress (asked q now) ≡ true
 unfolding asked setLife zeros
 asked-fit q now long h =
     by-words (λ r. fitAddV4 r ≡ true → fitAddress (asked r now) ≡ true) 18 q long
-    (λ k. let f = fields-request (spelled 18 q) k in address-fields _ refl (record { short = f .short; named = f .named; wide = f .wide; by = f .by; labelled = f .labelled })) h
+    (λ k. let f = fields-request (spelled 18 q) k in address-fields _ refl (record { short = f .short; announced = f .announced; wide = f .wide; by = f .by; labelled = f .labelled })) h
 
 -- ---- the kernel's routes
 hostBits-network : (a p : ℕ) → hostBits (network a p) p ≡ 0

@@ -1,4 +1,4 @@
--- How many rows a removing step tells of: no more than the routes and addresses shrink, an address counting twice until it is deprecated.
+-- How many rows a removing step emits: no more than the routes and addresses shrink, an address counting twice until it is deprecated.
 -- Assumes nothing.
 use Prim.Native.Nat.{ℕ, zero, suc, _+_, _-_, _*_, _/_, _%_, _^_, _≤_}
 use mathlib.Core.Path.{_≡_, refl, sym, ap, _∙_}
@@ -20,10 +20,10 @@ use Rattle.layout.specs.Route as Route
 use Rattle.layout.specs.Event.{newAddr4, delAddr4}
 use Rattle.definition.specs.State.{State, Out, becomes, stays, also, through, withAddresses, withRoutes}
 use Rattle.definition.specs.Reference.Lookup.{mainTable, localKind, listed, local4}
-use Rattle.definition.specs.Reference.Insert.{kernelDel4, named, removed}
+use Rattle.definition.specs.Reference.Insert.{kernelDel4, matches, removed}
 use Rattle.definition.specs.Reference.Addresses.{sameSubnet}
 use Rattle.definition.specs.Reference.Removal.{ofKind, unwanted, dependentOn, fall, disable, removeOne, goneWith, removeV4, due, deprecates, deprecate, deprecateDue, passes, expire}
-use Rattle.definition.specs.Preservation.Fit.{Fit, length-address}
+use Rattle.definition.specs.Preservation.Fit.{Invariant, length-address}
 use Rattle.definition.specs.Preservation.Keeps.{also-kept}
 use Rattle.definition.specs.Preservation.Removal.{option-case, deprecateDue-keeps, removeV4-keeps}
 
@@ -56,7 +56,7 @@ removed-away p (some r) st h =
 
 pub kernelDel4-away : (p : Row) (st : State) → Away st (kernelDel4 p st)
 unfolding kernelDel4
-kernelDel4-away p st = removed-away (named p) (first (named p) (st .routes)) st (λ r e. first-any (named p) (st .routes) r e)
+kernelDel4-away p st = removed-away (matches p) (first (matches p) (st .routes)) st (λ r e. first-any (matches p) (st .routes) r e)
 
 pub fall-away : (a : Row) (routes : List Row) (st : State) → Away st (fall a routes st)
 unfolding fall
@@ -89,7 +89,7 @@ unfolding also
 also-drops st o g h k =
     record { lighter = omega (arith, h .lighter, k .lighter, length-append (o .emitted) ((g (o .state)) .emitted)) }
 
--- what one removal leaves of the addresses, and that it drops as many as it tells of
+-- what one removal leaves of the addresses, and that it drops as many as it emits
 pub record RemovesOne (a : Row) (st : State) (o : Out) : Type 0 where
   pub rest : o .state .addresses ≡ removeFirst (eqRow a) (st .addresses)
   pub shrunk : length (o .emitted) + length (o .state .routes) ≤ suc (length (st .routes))
@@ -159,7 +159,7 @@ deprecates-live : (allowance now : ℕ) (a : Row) → deprecates allowance now a
 unfolding deprecates
 deprecates-live allowance now a h = (simp and-iff at h) .0 .1
 
--- what is told is no longer live
+-- what is emitted is no longer live
 mark-counts : (allowance now : ℕ) (a : Row) → fitAddress a ≡ true
     → tick (live (cond (deprecates allowance now a) (deprecate a) a)) + tick (deprecates allowance now a) ≤ tick (live a)
 mark-counts allowance now a h =
@@ -175,7 +175,7 @@ mark-counts allowance now a h =
     in
     omega (arith, tick-none (deprecates allowance now a) e))
 
-pub deprecateDue-drops : (allowance now : ℕ) (st : State) → Fit st → Drops st (deprecateDue allowance now st)
+pub deprecateDue-drops : (allowance now : ℕ) (st : State) → Invariant st → Drops st (deprecateDue allowance now st)
 unfolding deprecateDue
 deprecateDue-drops allowance now st f =
     let spared : List Row = until (due allowance now) (st .addresses) in
@@ -200,7 +200,7 @@ deprecate-there allowance now a st e =
     any-back (eqRow a) (map (λ a. cond (deprecates allowance now a) (deprecate a) a) (until (due allowance now) (st .addresses))) (onward (due allowance now) (st .addresses))
     (onward-first (due allowance now) (st .addresses) a e)
 
-pub passes-drops : (n allowance now : ℕ) (st : State) → Fit st → Drops st (passes n allowance now st)
+pub passes-drops : (n allowance now : ℕ) (st : State) → Invariant st → Drops st (passes n allowance now st)
 unfolding passes
 passes-drops zero allowance now st f = deprecateDue-drops allowance now st f
 passes-drops (suc n) allowance now st f =
@@ -216,6 +216,6 @@ passes-drops (suc n) allowance now st f =
     (removeV4-drops a ((deprecateDue allowance now st) .state) (deprecate-there allowance now a st e)))
     (passes-drops n allowance now ((also (deprecateDue allowance now st) (removeV4 a)) .state) (gone .fit)))
 
-pub expire-drops : (allowance now : ℕ) (st : State) → Fit st → Drops st (expire allowance now st)
+pub expire-drops : (allowance now : ℕ) (st : State) → Invariant st → Drops st (expire allowance now st)
 unfolding expire
 expire-drops allowance now st f = passes-drops (length (st .addresses)) allowance now st f

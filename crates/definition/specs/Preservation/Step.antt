@@ -1,4 +1,4 @@
--- Every call on well-formed words leaves well-formed words; of a changing call, what it tells and when it gives 203.
+-- Every call on well-formed words leaves well-formed words; of a changing call, what it emits and when it gives 203.
 -- Assumes nothing.
 use Prim.Native.Nat.{ℕ, _≤_}
 use mathlib.Core.Path.{_≡_, refl, sym, ap, _∙_}
@@ -19,9 +19,9 @@ use Rattle.definition.specs.Call.{Call, refusal, written}
 use Rattle.definition.specs.Reference.Addresses.{Outcome, goes, refused}
 use Rattle.definition.specs.Step.{Result, refuses, Checks, Action, changes, replies, lists, alters, Semantics, checks, checked, unfit, result, roomy, outcome, changing, reading, act, perform, semantics, step}
 use Rattle.definition.specs.Preservation.Fit.{state-fit}
-use Rattle.definition.specs.Preservation.Encode.{Good, length-encode, wellFormed-encode, decode-encode, encode-decode, good-decode, good-empty, encode-empty}
+use Rattle.definition.specs.Preservation.Encode.{Admissible, length-encode, wellFormed-encode, decode-encode, encode-decode, good-decode, good-empty, encode-empty}
 use Rattle.definition.specs.Preservation.Keeps.{Covers, Kept, KeptOutcome}
-use Rattle.definition.specs.Preservation.Change.{Passes, Sound, Changes, Acts, Lawful, lawful}
+use Rattle.definition.specs.Preservation.Change.{Passes, Preserving, Changes, Acts, Lawful, lawful}
 
 -- ---- well-formed words
 pub record Held (w : List ℕ) : Type 0 where
@@ -31,11 +31,11 @@ pub record Held (w : List ℕ) : Type 0 where
 pub base-long : (w : List ℕ) → length w ≡ stateSize → length (base w) ≡ baseSize
 base-long w l = simp length-take (omega arith)
 
-pub good-held : (w : List ℕ) → Held w → Good (stateOf w)
+pub good-held : (w : List ℕ) → Held w → Admissible (stateOf w)
 good-held w h = good-decode (base w) (base-long w (h .long)) (h .well)
 
 -- the words of the lists, whatever is behind them
-base-encode : (st : State) (l : List ℕ) → Good st → base (encode st ++ l) ≡ encode st
+base-encode : (st : State) (l : List ℕ) → Admissible st → base (encode st ++ l) ≡ encode st
 base-encode st l g = take-at (encode st) l baseSize (length-encode st g)
 
 empty-words : zeros stateSize ≡ encode empty ++ zeros behindSize
@@ -52,14 +52,14 @@ held-empty =
     }
 
 -- the words that a call leaves: they are well-formed, hold the state, and are the old ones where that is the old one
-pub held-leaves : (w : List ℕ) (st : State) → Held w → Good st → Held (leaves w st)
+pub held-leaves : (w : List ℕ) (st : State) → Held w → Admissible st → Held (leaves w st)
 held-leaves w st h g =
     record {
       long = simp (length-append, length-drop) (omega (arith, length-encode st g, h .long));
       well = rw (base-encode st (drop baseSize w) g) (wellFormed-encode st g);
     }
 
-pub decode-leaves : (w : List ℕ) (st : State) → Held w → Good st → stateOf (leaves w st) ≡ st
+pub decode-leaves : (w : List ℕ) (st : State) → Held w → Admissible st → stateOf (leaves w st) ≡ st
 decode-leaves w st h g = rw (base-encode st (drop baseSize w) g) (decode-encode st g)
 
 pub leaves-decode : (w : List ℕ) → Held w → leaves w (stateOf w) ≡ w
@@ -75,7 +75,7 @@ covered a b c h =
     )
 
 -- with room, an outcome that keeps a fit state leaves a good one
-pub good-result : (o : Outcome) → KeptOutcome o → roomy o ≡ true → Good (result o)
+pub good-result : (o : Outcome) → KeptOutcome o → roomy o ≡ true → Admissible (result o)
 good-result (goes o) k e = record { fits = state-fit (o .state) (k .fit); limits = covered (sizes (o .state)) (o .peak) (k .covers) e }
 good-result (refused n st) f e = record { fits = state-fit st f; limits = e }
 
@@ -109,7 +109,7 @@ module _ (k : Checks) (w : List ℕ) (z : checked k w ≡ 0) where
       let p = checks-zero (eqb (length w) stateSize && k .buffers) (formed w && k .row) (k .request) z in
       record { room = and-right (eqb (length w) stateSize) (k .buffers) (p .room); handed = and-right (formed w) (k .row) (p .formed); fit = p .asked }
 
-  pub checked-sound : {listed : State → State} {f : State → Outcome} → Changes k listed f → Sound (listed (stateOf w)) (f (stateOf w))
+  pub checked-sound : {listed : State → State} {f : State → Outcome} → Changes k listed f → Preserving (listed (stateOf w)) (f (stateOf w))
   checked-sound s = s .sound (stateOf w) (good-held w checked-held) checked-passes
 
 -- what an action comes to, once they are passed
@@ -162,7 +162,7 @@ kept c w long well =
     let h = step-held c w (record { long = long; well = well }) in
     (h .long, h .well)
 
--- ---- what is told, whatever the words
+-- ---- what is emitted, whatever the words
 pub record Events (rows : List Row) : Type 0 where
   pub few : length rows ≤ 384
   pub size : sized 34 rows ≡ true
@@ -170,7 +170,7 @@ pub record Events (rows : List Row) : Type 0 where
 no-events : Events []
 no-events = record { few = omega arith; size = refl }
 
-outcome-events : {later : State} (o : Outcome) (w : List ℕ) → Sound later o → Events (outcome o w .reply .rows)
+pub outcome-events : {later : State} (o : Outcome) (w : List ℕ) → Preserving later o → Events (outcome o w .reply .rows)
 outcome-events (goes o) w s =
     cond-case (λ (r : Result). Events (r .reply .rows)) (within (o .peak)) (λ e. record { few = s .eventBound .few e; size = s .kept .events }) (λ e. no-events)
 outcome-events (refused n st) w s =
@@ -192,7 +192,7 @@ crowds (changes listed f) st = not (roomy (f st))
 crowds (replies f) st = false
 crowds (lists f) st = false
 
-outcome-only : {later : State} (o : Outcome) (w : List ℕ) → Sound later o → outcome o w .reply .number ≡ 203 → not (roomy o) ≡ true
+outcome-only : {later : State} (o : Outcome) (w : List ℕ) → Preserving later o → outcome o w .reply .number ≡ 203 → not (roomy o) ≡ true
 outcome-only (goes o) w s =
     cond-case (λ (r : Result). r .reply .number ≡ 203 → not (roomy (goes o)) ≡ true) (roomy (goes o)) (λ e k. absurd (omega arith)) (λ e k. rw e)
 outcome-only (refused n st) w s =

@@ -156,14 +156,14 @@ place4 new addresses =
     cond (secondary new) (addresses ++ (new ∷ [])) (behindLast (yields new) new addresses)
 
 -- the routes are added in order, those that are there already left out [the loop over candidates in add_v4 and up]
-unfoldable pub bring : List Row → State → Out
-bring routes st = through kernelAdd4 routes st
+unfoldable pub install : List Row → State → Out
+install routes st = through kernelAdd4 routes st
 
--- a new address: told, then the routes that it brings [the end of add_v4; __inet_insert_ifa, fib_add_ifaddr]
+-- a new address: emitted, then the routes that it brings [the end of add_v4; __inet_insert_ifa, fib_add_ifaddr]
 unfoldable pub newAddress : Row → Bool → State → Out
 newAddress new up st =
     let placed = withAddresses (place4 new (st .addresses)) st in
-    also (becomes placed (newAddr4 new ∷ [])) (bring (candidates (placed .addresses) up new))
+    also (becomes placed (newAddr4 new ∷ [])) (install (candidates (placed .addresses) up new))
 
 -- the address with another priority, proto and lifetimes [the end of change_v4]
 unfoldable pub changedTo : Row → Row → ℕ → Row
@@ -242,7 +242,7 @@ outOf (refused n st) = stays st
 unfoldable pub up : ℕ → State → Out
 up now st =
     also (outOf (addV4 loopback now st))
-    (λ later. through (λ a. bring (candidates (later .addresses) Bool.true a)) (later .addresses) later)
+    (λ later. through (λ a. install (candidates (later .addresses) Bool.true a)) (later .addresses) later)
 
 -- the routes through the device go, but for those of host scope, without a word [down; fib_sync_down_dev]
 unfoldable pub down : State → Out

@@ -36,7 +36,7 @@ createFlag f = hasBit createBit f
 abbrev pub appendFlag : ℕ → Bool
 appendFlag f = hasBit appendBit f
 
--- what comes of an insertion: the rows afterwards with the flags told, nothing to do, or a refusal [insert4's Result]
+-- what comes of an insertion: the rows afterwards with the flags emitted, nothing to do, or a refusal [insert4's Result]
 pub data Inserted : Type 0 where
   placed : List Row → ℕ → Inserted
   nothing : Inserted
@@ -88,7 +88,7 @@ inserted new (unplaced n) st = stays st
 abbrev pub kernelFlags : ℕ
 kernelFlags = flag createBit + flag appendBit
 
--- one of the kernel's routes: its table listed, told of unless the same is there [kernel_add4; fib_magic]
+-- one of the kernel's routes: its table listed, emitted unless the same is there [kernel_add4; fib_magic]
 unfoldable pub kernelAdd4 : Row → State → Out
 kernelAdd4 new st =
     let made = create4 (table new) st in
@@ -96,8 +96,8 @@ kernelAdd4 new st =
 
 -- a row that the kernel's deletion of a route names: any priority where that names none, whatever metrics and gateway
 -- [`same` in kernel_del4; fib_table_delete, fib_nh_match]
-unfoldable pub named : Row → Row → Bool
-named p r =
+unfoldable pub matches : Row → Row → Bool
+matches p r =
     eqb (table r) (table p)
     && eqb (dst r) (dst p)
     && eqb (len r) (len p)
@@ -110,11 +110,11 @@ named p r =
     && eqb (device r) (device p)
     && (eqb (priority p) 0 || eqb (priority r) (priority p))
 
--- the first row that passes goes, and is told
+-- the first row that passes goes, and is emitted
 abbrev pub removed : (Row → Bool) → Option Row → State → Out
 removed p none st = stays st
 removed p (some r) st = becomes (withRoutes (removeFirst p (st .routes)) st) (delRoute4 r ∷ [])
 
 -- one of the kernel's routes goes [kernel_del4; fib_magic]
 unfoldable pub kernelDel4 : Row → State → Out
-kernelDel4 p st = removed (named p) (first (named p) (st .routes)) st
+kernelDel4 p st = removed (matches p) (first (matches p) (st .routes)) st

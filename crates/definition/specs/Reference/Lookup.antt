@@ -84,11 +84,11 @@ together t u =
 -- a lookup's answer: a row, or a refusal's number [Result<Route4, Errno>]
 pub data Found : Type 0 where
   route : Row → Found
-  refused : ℕ → Found
+  noRoute : ℕ → Found
 
 -- a row as an answer: itself, or its kind's error
 abbrev pub verdict : Row → Found
-verdict r = cond (rejects r) (refused (errorOf (kind r))) (route r)
+verdict r = cond (rejects r) (noRoute (errorOf (kind r))) (route r)
 
 -- there is an answer, and it isn't a throw
 abbrev pub settled : Option Row → Bool
@@ -97,7 +97,7 @@ settled (some r) = not (eqb (errorOf (kind r)) again)
 
 -- what an answer comes to, 101 where there is none [ENETUNREACH in lookup4_in]
 abbrev pub ruling : Option Row → Found
-ruling none = refused netUnreachable
+ruling none = noRoute netUnreachable
 ruling (some r) = verdict r
 
 -- 255 and 254 are read first; if they have none or a throw, 253 if listed; 101 if neither holds an answer that isn't a throw
@@ -107,7 +107,7 @@ lookupIn st f =
     let upper = answer (together mainTable) f (st .routes) in
     let lower = answer (together defaultTable) f (st .routes) in
     cond (settled upper) (ruling upper)
-    (cond (listed defaultTable st && settled lower) (ruling lower) (refused netUnreachable))
+    (cond (listed defaultTable st && settled lower) (ruling lower) (noRoute netUnreachable))
 
 -- the scope that every row reaches, and no tos or device asked for
 abbrev pub flowTo : ℕ → Flow

@@ -70,7 +70,7 @@ deviceless st = withRoutes (keep (λ r. not (eqb (Route.device r) 1)) (st .route
 unfoldable pub disable : State → Out
 disable st = cond (eqb (length (st .addresses)) 0) (silently (deviceless st)) (stays st)
 
--- one address goes: the first row equal to it, told; then its routes that none wants; then what falls with it [the loop of remove_v4]
+-- one address goes: the first row equal to it, emitted; then its routes that none wants; then what falls with it [the loop of remove_v4]
 unfoldable pub removeOne : Row → State → Out
 removeOne a st =
     let remaining = removeFirst (eqRow a) (st .addresses) in
@@ -124,7 +124,7 @@ deprecate a = setFlags (setBit deprecatedBit (flags a)) a
 abbrev pub marked : ℕ → ℕ → Row → Row
 marked allowance now a = cond (deprecates allowance now a) (deprecate a) a
 
--- the addresses before the first that is due are marked, and those newly marked are told [expire between two removals]
+-- the addresses before the first that is due are marked, and those newly marked are emitted [expire between two removals]
 unfoldable pub deprecateDue : ℕ → ℕ → State → Out
 deprecateDue allowance now st =
     let spared = until (due allowance now) (st .addresses) in

@@ -94,7 +94,7 @@ gatewayRoute q st =
 
 -- by a unicast or local route, while up [the end of gateway4]
 abbrev pub reachedBy : Row → Found → Reached
-reachedBy q (Found.refused n) = unreached n
+reachedBy q (Found.noRoute n) = unreached n
 reachedBy q (route r) =
     cond (eqb (kind r) unicastKind || eqb (kind r) localKind)
     (cond (eqb (upAtAddRoute4 q) 0) (unreached 100) (by (eqb (scope r) linkScope)))

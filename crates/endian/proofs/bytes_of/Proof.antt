@@ -1,4 +1,4 @@
--- `endian::bytes_of` meets its contract: after i turns the bytes of the first i words are put.
+-- `endian::bytes_of` meets its contract: after i iterations the bytes of the first i words are put.
 -- Assumes nothing.
 use Prim.Native.Nat.{ℕ, _-_, _≤_}
 use mathlib.Core.Path.{_≡_, refl, ap, _∙_}

@@ -1,4 +1,4 @@
--- `endian::words_of` meets its contract: after i turns the first i words are put.
+-- `endian::words_of` meets its contract: after i iterations the first i words are put.
 -- Assumes nothing.
 use Prim.Native.Nat.{ℕ, _-_, _/_, _≤_}
 use mathlib.Core.Path.{_≡_, refl, ap, _∙_}

@@ -51,15 +51,24 @@ shared-slice-read-fit-4 c = search needs
 shared-slice-read-fit-5 : tie.Need-shared-slice-read-fit-5
 shared-slice-read-fit-5 c = search needs
 
-unless-requires : tie.Need-unless-requires
-unless-requires c κs = search needs
+shared-slice-read-lasts : tie.Need-shared-slice-read-lasts
+shared-slice-read-lasts c = search needs
+
+shared-slice-read-lasts-2 : tie.Need-shared-slice-read-lasts-2
+shared-slice-read-lasts-2 c = search needs
+
+shared-slice-read-lasts-3 : tie.Need-shared-slice-read-lasts-3
+shared-slice-read-lasts-3 c = search needs
+
+add-v4-refusal-requires : tie.Need-add-v4-refusal-requires
+add-v4-refusal-requires c κs = search needs
 
 returns-2 : tie.Need-returns-2
 unfolding fitAddV4
 returns-2 c =
-    let at-label = c .before .before .before in
+    let at-label = c .before .before .before .before .before .before in
     let at-broadcast = at-label .before .before .before .before .before .before .before .before in
-    λ h. c .unless .ensures ∙ rw (at-broadcast .fit-optional .ensures, at-label .fit-label .ensures)
+    λ h. c .add-v4-refusal .ensures ∙ rw (at-broadcast .fit-optional .ensures, at-label .fit-label .ensures)
 
 pub fit-add-v4-spec : {M : Type 1} → statement M
 fit-add-v4-spec =
@@ -80,5 +89,8 @@ fit-add-v4-spec =
     fit-label-requires
     shared-slice-read-fit-4
     shared-slice-read-fit-5
-    unless-requires
+    shared-slice-read-lasts
+    shared-slice-read-lasts-2
+    shared-slice-read-lasts-3
+    add-v4-refusal-requires
     returns-2)

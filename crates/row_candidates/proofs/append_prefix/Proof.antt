@@ -3,21 +3,21 @@ use native.Mathlib.Omega.{arith}
 use borrow.Author.Tests.{not-true, not-false}
 use denote.Ref.{now}
 use Rattle.row_candidates.specs.Laws.{append-none, append-one}
-use Rattle.row_subnet.specs.Brings.{bringsPrefix}
+use Rattle.row_subnet.specs.OwnRoutes.{hasPrefixRoute}
 use Rattle.row_candidates.specs.Rows.{subnetRoute}
 use borrow.Author.Needs.{needs}
 use Rattle.row_candidates.proofs.append_prefix.Statement.{statement}
 use Rattle.row_candidates.proofs.append_prefix.Tie as tie
 
-brings-prefix-requires : tie.Need-brings-prefix-requires
-brings-prefix-requires c κs = search needs
+has-prefix-route-requires : tie.Need-has-prefix-route-requires
+has-prefix-route-requires c κs = search needs
 
 returns : tie.Need-returns
 returns c =
     let t = c .before in
     let a = t .before .before .before .args in
     let x = a .a .now in
-    ((omega arith, omega arith), append-none (bringsPrefix x) (subnetRoute (a .priority) (a .source) x) (a .k) (now (a .out)) (sym (t .brings-prefix .ensures) ∙ not-true (t .brings-prefix .result) (c .if1 .taken)))
+    ((omega arith, omega arith), append-none (hasPrefixRoute x) (subnetRoute (a .priority) (a .source) x) (a .k) (now (a .out)) (sym (t .has-prefix-route .ensures) ∙ not-true (t .has-prefix-route .result) (c .if1 .taken)))
 
 mul-prefix-route4 : tie.Need-mul-prefix-route4
 mul-prefix-route4 c = search needs
@@ -38,13 +38,13 @@ returns-2 c =
     let t = e .before in
     let a = t .before .before .before .args in
     let x = a .a .now in
-    ((omega arith, omega arith), append-one (bringsPrefix x) (subnetRoute (a .priority) (a .source) x) (a .k) (now (a .out)) (sym (t .brings-prefix .ensures) ∙ not-false (t .brings-prefix .result) (e .if1 .left)) (w .prefix-route4 .ensures))
+    ((omega arith, omega arith), append-one (hasPrefixRoute x) (subnetRoute (a .priority) (a .source) x) (a .k) (now (a .out)) (sym (t .has-prefix-route .ensures) ∙ not-false (t .has-prefix-route .result) (e .if1 .left)) (w .prefix-route4 .ensures))
 
 pub append-prefix-spec : {M : Type 1} → statement M
 append-prefix-spec =
     tie.close
     (tie.spec
-    brings-prefix-requires
+    has-prefix-route-requires
     returns
     mul-prefix-route4
     prefix-route4-requires

@@ -8,20 +8,20 @@ use lib.ListN.{getD}
 use Rattle.lists.specs.Lists.{put}
 use Rattle.prefix.specs.Mask.{broadcast}
 use Rattle.definition.specs.Reference.Addresses.{kernelRoute}
-use Rattle.row_subnet.specs.Brings.{bringsBroadcast}
+use Rattle.row_subnet.specs.OwnRoutes.{hasBroadcastRoutes}
 use borrow.Author.Needs.{needs}
 use Rattle.row_candidates.proofs.append_subnet.Statement.{statement}
 use Rattle.row_candidates.proofs.append_subnet.Tie as tie
 
-brings-broadcast-requires : tie.Need-brings-broadcast-requires
-brings-broadcast-requires c κs = search needs
+has-broadcast-routes-requires : tie.Need-has-broadcast-routes-requires
+has-broadcast-routes-requires c κs = search needs
 
 returns : tie.Need-returns
 returns c =
     let t = c .before in
     let a = t .before .before .before .args in
     let x = a .a .now in
-    ((omega arith, omega arith), append-none (bringsBroadcast x) (kernelRoute (broadcast (getD x 1 0) (getD x 2 0)) 32 0 3 (a .source)) (a .k) (now (a .out)) (sym (t .brings-broadcast .ensures) ∙ not-true (t .brings-broadcast .result) (c .if1 .taken)))
+    ((omega arith, omega arith), append-none (hasBroadcastRoutes x) (kernelRoute (broadcast (getD x 1 0) (getD x 2 0)) 32 0 3 (a .source)) (a .k) (now (a .out)) (sym (t .has-broadcast-routes .ensures) ∙ not-true (t .has-broadcast-routes .result) (c .if1 .taken)))
 
 shared-slice-read-broadcast4 : tie.Need-shared-slice-read-broadcast4
 shared-slice-read-broadcast4 c = search needs
@@ -51,13 +51,13 @@ returns-2 c =
     let t = e .before in
     let a = t .before .before .before .args in
     let x = a .a .now in
-    ((omega arith, omega arith), append-one (bringsBroadcast x) (kernelRoute (broadcast (getD x 1 0) (getD x 2 0)) 32 0 3 (a .source)) (a .k) (now (a .out)) (sym (t .brings-broadcast .ensures) ∙ not-false (t .brings-broadcast .result) (e .if1 .left)) (w .kernel-route .ensures ∙ ap (λ (d : ℕ). put (32 * a .k) (kernelRoute d 32 0 3 (a .source)) (now (a .out))) (w .before .before .broadcast4 .ensures)))
+    ((omega arith, omega arith), append-one (hasBroadcastRoutes x) (kernelRoute (broadcast (getD x 1 0) (getD x 2 0)) 32 0 3 (a .source)) (a .k) (now (a .out)) (sym (t .has-broadcast-routes .ensures) ∙ not-false (t .has-broadcast-routes .result) (e .if1 .left)) (w .kernel-route .ensures ∙ ap (λ (d : ℕ). put (32 * a .k) (kernelRoute d 32 0 3 (a .source)) (now (a .out))) (w .before .before .broadcast4 .ensures)))
 
 pub append-subnet-spec : {M : Type 1} → statement M
 append-subnet-spec =
     tie.close
     (tie.spec
-    brings-broadcast-requires
+    has-broadcast-routes-requires
     returns
     shared-slice-read-broadcast4
     shared-slice-read-broadcast4-2

@@ -10,7 +10,7 @@ use Rattle.lists.specs.Laid.{Laid}
 use Rattle.lists.specs.Place.{placeOf}
 use Rattle.lists.specs.Pass.{find-here, find-past, find-end}
 use Rattle.layout.specs.Address.{fitAddress}
-use Rattle.row_subnet.specs.Brings.{primaryFor}
+use Rattle.row_subnet.specs.OwnRoutes.{primaryFor}
 use Rattle.row_subnet.specs.Laws.{part-short}
 use borrow.Author.Needs.{needs}
 use Rattle.row_subnet.proofs.primary_at.Statement.{statement}

@@ -9,8 +9,8 @@ returns c = simp (ne-eqb _ _ (c .if1 .taken))
 names-broadcast-requires : tie.Need-names-broadcast-requires
 names-broadcast-requires c κs = search needs
 
-brings-broadcast-requires : tie.Need-brings-broadcast-requires
-brings-broadcast-requires c κs = search needs
+has-broadcast-routes-requires : tie.Need-has-broadcast-routes-requires
+has-broadcast-routes-requires c κs = search needs
 
 shared-slice-read-broadcast4 : tie.Need-shared-slice-read-broadcast4
 shared-slice-read-broadcast4 c = search needs
@@ -29,7 +29,7 @@ returns-2 c =
     let b = c .before in
     let m = b .before .before .before in
     let e = m .before .before in
-    rw (eq-eqb _ _ (e .if1 .left), m .before .names-broadcast .ensures, m .brings-broadcast .ensures, b .broadcast4 .ensures)
+    rw (eq-eqb _ _ (e .if1 .left), m .before .names-broadcast .ensures, m .has-broadcast-routes .ensures, b .broadcast4 .ensures)
 
 pub wants-broadcast-spec : {M : Type 1} → statement M
 wants-broadcast-spec =
@@ -37,7 +37,7 @@ wants-broadcast-spec =
     (tie.spec
     returns
     names-broadcast-requires
-    brings-broadcast-requires
+    has-broadcast-routes-requires
     shared-slice-read-broadcast4
     shared-slice-read-broadcast4-2
     broadcast4-requires

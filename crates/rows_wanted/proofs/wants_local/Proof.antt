@@ -28,14 +28,14 @@ shared-slice-read-network4-2 c = search needs
 network4-requires : tie.Need-network4-requires
 network4-requires c κs = search needs
 
-brings-prefix-requires : tie.Need-brings-prefix-requires
-brings-prefix-requires c κs = search needs
+has-prefix-route-requires : tie.Need-has-prefix-route-requires
+has-prefix-route-requires c κs = search needs
 
 returns-3 : tie.Need-returns-3
 returns-3 c =
     let e = c .before .before .before .before in
     let a = e .before .before .before .before .before .args in
-    rw (c .brings-prefix .ensures, c .before .network4 .ensures)
+    rw (c .has-prefix-route .ensures, c .before .network4 .ensures)
     (same-length (now (a .a)) (a .dst) (a .len) (e .before .before .if1 .left) (eq-eqb _ _ (e .if2 .left)))
 
 pub wants-local-spec : {M : Type 1} → statement M
@@ -49,5 +49,5 @@ wants-local-spec =
     shared-slice-read-network4
     shared-slice-read-network4-2
     network4-requires
-    brings-prefix-requires
+    has-prefix-route-requires
     returns-3)

@@ -1,11 +1,11 @@
--- `state_retain::retain` meets its contract: after i turns those of the first i rows that remain stand in front.
+-- `state_retain::retain` meets its contract: after i iterations those of the first i rows that remain stand in front.
 -- Assumes nothing.
 use mathlib.Core.Path.{_≡_, _∙_}
 use Prim.Native.Nat.{_-_, _≤_}
 use native.Mathlib.Omega.{arith}
 use denote.Ref.{now}
 use Rattle.state.specs.Represents.{sizes-valid}
-use Rattle.state_retain.specs.Retain.{remains, Keeping, keeping-start, keeping-few, keeping-turn, keeping-end}
+use Rattle.state_retain.specs.Retain.{remains, Keeping, keeping-start, keeping-few, keeping-iteration, keeping-end}
 use borrow.Author.Needs.{needs}
 use Rattle.state_retain.proofs.retain.Statement.{statement}
 use Rattle.state_retain.proofs.retain.Tie as tie
@@ -25,8 +25,8 @@ wide-requires c κs = search needs
 loop-holds : tie.Need-loop-holds Inv-loop μ-loop
 loop-holds c = let start = c .before .before .before in (omega arith, keeping-start (remains (start .args .host)) (now (start .args .s)) (sizes-valid (start .pre) .long))
 
-turn-requires : tie.Need-turn-requires Inv-loop μ-loop
-turn-requires c κs =
+iteration-requires : tie.Need-iteration-requires Inv-loop μ-loop
+iteration-requires c κs =
     let start = c .before .before .before .before .before .before in
     let at-loop = c .before .before .loop in
     let at-wide = c .before .before .before .wide in
@@ -43,8 +43,8 @@ loop-again c =
     let start = c .before .before .before .before .before .before .before .before .before in
     let at-loop = c .before .before .before .before .before .loop in
     let at-wide = c .before .before .before .before .before .before .wide in
-    let at-turn = c .before .before .turn in
-    (omega arith, keeping-turn (at-loop .inv .1) (omega (arith, sizes-valid (start .pre), at-wide .ensures)) (at-turn .kept .0) (at-turn .ensures))
+    let at-iteration = c .before .before .iteration in
+    (omega arith, keeping-iteration (at-loop .inv .1) (omega (arith, sizes-valid (start .pre), at-wide .ensures)) (at-iteration .kept .0) (at-iteration .ensures))
 
 close-requires : tie.Need-close-requires Inv-loop μ-loop
 close-requires c κs =
@@ -73,7 +73,7 @@ retain-spec =
     slice-read-wide
     wide-requires
     loop-holds
-    turn-requires
+    iteration-requires
     add-i
     loop-less
     loop-again

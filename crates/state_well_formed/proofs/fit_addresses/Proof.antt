@@ -10,7 +10,7 @@ use Rattle.lists.specs.Lists.{all, chop}
 use Rattle.lists.specs.Rows.{length-chop}
 use Rattle.lists.specs.Next.{all-end}
 use Rattle.layout.specs.Address.{fitAddress}
-use Rattle.state_well_formed.specs.Look.{fit-turn}
+use Rattle.state_well_formed.specs.Look.{fit-iteration}
 use borrow.Author.Needs.{needs}
 use Rattle.state_well_formed.proofs.fit_addresses.Statement.{statement}
 use Rattle.state_well_formed.proofs.fit_addresses.Tie as tie
@@ -57,7 +57,7 @@ loop-again c =
     let start = c .before .before .before .before .before .before in
     let at-loop-test = c .before .before .before .loop-test in (
       omega arith,
-      at-loop .inv .1 ∙ fit-turn 20 (start .args .n) (now (start .args .p)) (at-loop .i) fitAddress true (at-loop-test .taken) (c .before .fit-address .ensures) (c .if1 .taken),
+      at-loop .inv .1 ∙ fit-iteration 20 (start .args .n) (now (start .args .p)) (at-loop .i) fitAddress true (at-loop-test .taken) (c .before .fit-address .ensures) (c .if1 .taken),
     )
 
 returns : tie.Need-returns Inv-loop μ-loop
@@ -65,7 +65,7 @@ returns c =
     let at-loop = c .before .before .before .before .loop in
     let start = c .before .before .before .before .before .before in
     let at-loop-test = c .before .before .before .loop-test in
-    sym (at-loop .inv .1 ∙ fit-turn 20 (start .args .n) (now (start .args .p)) (at-loop .i) fitAddress false (at-loop-test .taken) (c .before .fit-address .ensures) (c .if1 .left))
+    sym (at-loop .inv .1 ∙ fit-iteration 20 (start .args .n) (now (start .args .p)) (at-loop .i) fitAddress false (at-loop-test .taken) (c .before .fit-address .ensures) (c .if1 .left))
 
 returns-2 : tie.Need-returns-2 Inv-loop μ-loop
 returns-2 c =

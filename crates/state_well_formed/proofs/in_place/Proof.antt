@@ -5,8 +5,8 @@ use native.Mathlib.Omega.{arith}
 use denote.Ref.{now}
 use Rattle.lists.specs.Lists.{chop}
 use Rattle.lists.specs.Rows.{length-chop}
-use Rattle.state_well_formed.specs.Order.{order-turn}
-use Rattle.state_well_formed.specs.Place.{place-broken, place-turn}
+use Rattle.state_well_formed.specs.Order.{order-iteration}
+use Rattle.state_well_formed.specs.Place.{place-broken, place-iteration}
 use borrow.Author.Needs.{needs}
 use Rattle.state_well_formed.proofs.in_place.Statement.{statement}
 use Rattle.state_well_formed.proofs.in_place.Tie as tie
@@ -51,7 +51,7 @@ returns : tie.Need-returns
 returns c =
     let start = c .before .before .before .before .before in
     place-broken (chop 32 (start .args .n) (now (start .args .p))) (start .args .i) (omega (arith, length-chop 32 (start .args .n) (now (start .args .p)), start .pre))
-    (order-turn (start .args .n) (now (start .args .p)) (start .args .i) true (start .pre .1) (c .before .before2 .ensures) (c .if1 .taken))
+    (order-iteration (start .args .n) (now (start .args .p)) (start .args .i) true (start .pre .1) (c .before .before2 .ensures) (c .if1 .taken))
 
 apart-requires : tie.Need-apart-requires
 apart-requires c κs = search needs
@@ -60,8 +60,8 @@ returns-2 : tie.Need-returns-2
 returns-2 c =
     let start = c .before .before .before .before .before .before in
     let at-before2 = c .before .before .before2 in
-    place-turn (chop 32 (start .args .n) (now (start .args .p))) (start .args .i) (omega (arith, length-chop 32 (start .args .n) (now (start .args .p)), start .pre))
-    (order-turn (start .args .n) (now (start .args .p)) (start .args .i) false (start .pre .1) (at-before2 .ensures) (c .before .if1 .left))
+    place-iteration (chop 32 (start .args .n) (now (start .args .p))) (start .args .i) (omega (arith, length-chop 32 (start .args .n) (now (start .args .p)), start .pre))
+    (order-iteration (start .args .n) (now (start .args .p)) (start .args .i) false (start .pre .1) (at-before2 .ensures) (c .before .if1 .left))
     (c .apart .ensures)
 
 pub in-place-spec : {M : Type 1} → statement M

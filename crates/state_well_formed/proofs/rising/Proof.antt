@@ -6,7 +6,7 @@ use native.Mathlib.Omega.{arith}
 use lib.ListN.{drop}
 use denote.Ref.{now}
 use Rattle.lists.specs.Lists.{chop}
-use Rattle.state_well_formed.specs.Place.{inPlace, rise-turn}
+use Rattle.state_well_formed.specs.Place.{inPlace, rise-iteration}
 use borrow.Author.Needs.{needs}
 use Rattle.state_well_formed.proofs.rising.Statement.{statement}
 use Rattle.state_well_formed.proofs.rising.Tie as tie
@@ -70,7 +70,7 @@ loop-again c =
     let start = c .before .before .before .before .before .before .before in
     let at-loop = c .before .before .before .before .before .loop in
     let at-loop-test = c .before .before .before .before .loop-test in
-    (omega arith, omega arith, at-loop .inv .2 ∙ rise-turn (start .args .n) (now (start .args .p)) (at-loop .i) (at-loop-test .taken) (c .before .before2 .ensures) (c .if1 .taken))
+    (omega arith, omega arith, at-loop .inv .2 ∙ rise-iteration (start .args .n) (now (start .args .p)) (at-loop .i) (at-loop-test .taken) (c .before .before2 .ensures) (c .if1 .taken))
 
 returns : tie.Need-returns Inv-loop μ-loop
 returns c = c .before .before .before .before .before .loop .inv

@@ -1,8 +1,7 @@
 use mathlib.Core.Path.{refl}
 use native.Mathlib.Omega.{arith}
-use Rattle.state.specs.Represents.{count-addresses, sound-valid, sound-long}
+use Rattle.state.specs.Represents.{count-addresses, fit-some, sound-long}
 use Rattle.state_read.specs.Parts.{ready-addresses, of-addresses}
-use Rattle.step_add_v4.specs.Comes.{done-few}
 use Rattle.step_add_v4.specs.Added.{added-change, added-refused, added-new}
 use borrow.Author.Needs.{needs}
 use Rattle.step_add_v4.proofs.add_v4.Statement.{statement}
@@ -19,7 +18,7 @@ same-at-requires : tie.Need-same-at-requires
 same-at-requires c κs =
     let n = c .before .before in
     let s = n .before .before .before .before .before in
-    (ready-addresses _ (n .address-count .result) (sound-valid (s .pre .0)) (c .addresses .ensures) (n .address-count .ensures), omega (arith, s .pre .1 .0 .0))
+    (ready-addresses _ (n .address-count .result) (fit-some (s .pre .0)) (c .addresses .ensures) (n .address-count .ensures), omega (arith, s .pre .1 .0 .0))
 
 shared-slice-read-if2 : tie.Need-shared-slice-read-if2
 shared-slice-read-if2 c = search needs
@@ -37,7 +36,7 @@ returns c =
       omega arith,
       λ st h g.
           let found = p .same-at .ensures .1 (st .addresses) (of-addresses _ h (p .before .addresses .ensures)) in
-          added-refused q (a .clock .0) st (p .same-at .result) found (omega (arith, count-addresses h, n .address-count .ensures, c .before .before .if1 .taken)) (c .if2 .taken),
+          added-refused q (a .clock .0) st (p .same-at .result) found (omega (arith, count-addresses h, n .address-count .ensures, c .before .before .if1 .taken)) (c .if2 .taken) _ h,
     )
 
 change-v4-requires : tie.Need-change-v4-requires
@@ -47,9 +46,6 @@ change-v4-requires c κs =
     let s = n .before .before .before .before .before in
     (s .pre .0, (omega (arith, c .before .before .before .before .if1 .taken, n .address-count .ensures), (s .pre .1 .0, omega (arith, s .pre .1 .1))))
 
-call-of-requires : tie.Need-call-of-requires
-call-of-requires c κs = search needs
-
 same-length-2 : tie.Need-same-length-2
 same-length-2 c = search needs
 
@@ -58,16 +54,16 @@ same-length-3 c = search needs
 
 returns-2 : tie.Need-returns-2
 returns-2 c =
-    let p = c .before .before .before .before .before .before .before .before .before .before .before in
+    let p = c .before .before .before .before .before .before .before .before .before .before in
     let n = p .before .before .before in
     let s = n .before .before .before .before .before in
     let a = s .args in
     let q = a .q .now in
-    let d = c .before .before .before .before .before in (
-      done-few 5 (d .change-v4 .result) (c .call-of .result) (c .call-of .ensures) (omega (arith, d .change-v4 .ensures .0)),
+    let d = c .before .before .before .before in (
+      (omega (arith, d .change-v4 .ensures .0)),
       λ st h g.
           let found = p .same-at .ensures .1 (st .addresses) (of-addresses _ h (p .before .addresses .ensures)) in
-          added-change q (a .clock .0) st (p .same-at .result) found (omega (arith, count-addresses h, n .address-count .ensures, c .before .before .before .before .before .before .before .before .before .before .if1 .taken)) (c .before .before .before .before .before .before .before .before .if2 .left) (c .call-of .result) (c .call-of .ensures) (d .change-v4 .ensures .1 st h g found),
+          added-change q (a .clock .0) st (p .same-at .result) found (omega (arith, count-addresses h, n .address-count .ensures, c .before .before .before .before .before .before .before .before .before .if1 .taken)) (c .before .before .before .before .before .before .before .if2 .left) (d .change-v4 .ensures .1 st h g found),
     )
 
 addresses-requires-2 : tie.Need-addresses-requires-2
@@ -81,7 +77,7 @@ fresh-requires c κs =
     let p = c .before .before .before .before in
     let n = p .before .before .before in
     let s = n .before .before .before .before .before in
-    (ready-addresses _ (n .address-count .result) (sound-valid (s .pre .0)) (c .before .addresses2 .ensures) (n .address-count .ensures), (s .pre .1 .0, refl))
+    (ready-addresses _ (n .address-count .result) (fit-some (s .pre .0)) (c .before .addresses2 .ensures) (n .address-count .ensures), (s .pre .1 .0, refl))
 
 shared-slice-read-up : tie.Need-shared-slice-read-up
 shared-slice-read-up c = search needs
@@ -92,9 +88,6 @@ slice-aggregate-new-address c = search needs
 new-address-requires : tie.Need-new-address-requires
 new-address-requires c κs = search needs
 
-call-of-requires-2 : tie.Need-call-of-requires-2
-call-of-requires-2 c κs = search needs
-
 same-length-4 : tie.Need-same-length-4
 same-length-4 c = search needs
 
@@ -103,17 +96,17 @@ same-length-5 c = search needs
 
 returns-3 : tie.Need-returns-3
 returns-3 c =
-    let p = c .before .before .before .before .before .before .before .before .before .before .before .before .before .before .before .before in
+    let p = c .before .before .before .before .before .before .before .before .before .before .before .before .before .before .before in
     let n = p .before .before .before in
     let s = n .before .before .before .before .before in
     let a = s .args in
     let q = a .q .now in
-    let d = c .before .before .before .before .before in
-    let f = c .before .before .before .before .before .before .before .before .before .before .before in (
-      done-few 5 (d .new-address .result) (c .call-of2 .result) (c .call-of2 .ensures) (d .new-address .ensures .0),
+    let d = c .before .before .before .before in
+    let f = c .before .before .before .before .before .before .before .before .before .before in (
+      (d .new-address .ensures .0),
       λ st h g.
           let found = p .same-at .ensures .1 (st .addresses) (of-addresses _ h (p .before .addresses .ensures)) in
-          added-new q (a .clock .0) st (p .same-at .result) found (omega (arith, count-addresses h, n .address-count .ensures, c .before .before .before .before .before .before .before .before .before .before .before .before .before .before .before .if1 .left)) _ (f .fresh .ensures .1 (st .addresses) (of-addresses _ h (c .before .before .before .before .before .before .before .before .before .before .before .before .before .addresses2 .ensures))) _ refl (c .call-of2 .result) (c .call-of2 .ensures) (d .new-address .ensures .1 st h g),
+          added-new q (a .clock .0) st (p .same-at .result) found (omega (arith, count-addresses h, n .address-count .ensures, c .before .before .before .before .before .before .before .before .before .before .before .before .before .before .if1 .left)) _ (f .fresh .ensures .1 (st .addresses) (of-addresses _ h (c .before .before .before .before .before .before .before .before .before .before .before .before .addresses2 .ensures))) _ refl (d .new-address .ensures .1 st h g),
     )
 
 pub add-v4-spec : {M : Type 1} → statement M
@@ -127,7 +120,6 @@ add-v4-spec =
     same-length
     returns
     change-v4-requires
-    call-of-requires
     same-length-2
     same-length-3
     returns-2
@@ -137,7 +129,6 @@ add-v4-spec =
     shared-slice-read-up
     slice-aggregate-new-address
     new-address-requires
-    call-of-requires-2
     same-length-4
     same-length-5
     returns-3)

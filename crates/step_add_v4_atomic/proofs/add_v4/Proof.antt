@@ -1,8 +1,7 @@
 use mathlib.Core.Path.{refl}
 use native.Mathlib.Omega.{arith}
-use Rattle.definition.specs.Reference.Addresses.{addV4}
 use Rattle.state.specs.Represents.{sizes-of, sound-long}
-use Rattle.step_add_v4_atomic.specs.Copy.{comes-roomy}
+use Rattle.step_events.specs.Comes.{whole-made}
 use Rattle.step_add_v4_atomic.specs.Room.{add-certain}
 use borrow.Author.Needs.{needs}
 use Rattle.step_add_v4_atomic.proofs.add_v4.Statement.{statement}
@@ -26,15 +25,10 @@ returns : tie.Need-returns
 returns c =
     let d = c .before .before .before .before in
     let t = c .before .before .before .before .before .before .before in
-    let s = c .before .before .before .before .before .before .before .before .before .before .before .before .before in
-    let a = s .args in
-    let v = s .pre .0 in
+    let a = c .before .before .before .before .before .before .before .before .before .before .before .before .before .args in
     let r = t .before .has-room in (
       d .add-v4 .ensures .0,
-      (
-        λ e. absurd (comes-roomy (addV4 (a .q .now) (a .clock .0) (v .state)) (d .add-v4 .result) (add-certain 4 (r .result) (r .ensures) (t .if1 .taken) (v .state) (v .holds) refl (a .q .now) (a .clock .0)) (d .add-v4 .ensures .1 (v .state) (v .holds) (v .fits)) e),
-        d .add-v4 .ensures .1,
-      ),
+      λ st h g. whole-made st (add-certain 4 (r .result) (r .ensures) (t .if1 .taken) st h refl (a .q .now) (a .clock .0)) (d .add-v4 .ensures .1 st h g),
     )
 
 try-add-v4-requires : tie.Need-try-add-v4-requires

@@ -1,9 +1,8 @@
 use Prim.Native.Nat.{ℕ, _+_, _*_}
 use mathlib.Core.Path.{ap}
 use native.Mathlib.Omega.{arith}
-use Rattle.definition.specs.Reference.Addresses.{up}
 use Rattle.state.specs.Represents.{sizes-of, sound-long, sound-few}
-use Rattle.step_add_v4_atomic.specs.Copy.{adds-roomy}
+use Rattle.step_events.specs.Comes.{whole-made}
 use Rattle.step_add_v4_atomic.specs.Room.{up-certain}
 use borrow.Author.Needs.{needs}
 use Rattle.step_add_v4_atomic.proofs.up.Statement.{statement}
@@ -40,15 +39,12 @@ returns c =
     let d = c .before .before .before .before in
     let t = c .before .before .before .before .before .before .before in
     let n = c .before .before .before .before .before .before .before .before .before .before in
-    let s = c .before .before .before .before .before .before .before .before .before .before .before .before .before .before in
-    let a = s .args in
-    let v = s .pre .0 in
+    let a = c .before .before .before .before .before .before .before .before .before .before .before .before .before .before .args in
     let r = t .before .has-room in (
       d .up .ensures .0,
-      (
-        λ e. absurd (adds-roomy (up (a .clock .0) (v .state)) (d .up .result) (up-certain (4 * (n .address-count .result + 2)) (r .result) (r .ensures) (t .if1 .taken) (v .state) (v .holds) (ap (λ (m : ℕ). 4 * (m + 2)) (n .address-count .ensures)) (a .clock .0)) (d .up .ensures .1 (v .state) (v .holds) (v .fits)) e),
-        d .up .ensures .1,
-      ),
+      λ st h g. whole-made st
+          (up-certain (4 * (n .address-count .result + 2)) (r .result) (r .ensures) (t .if1 .taken) st h (ap (λ (m : ℕ). 4 * (m + 2)) (n .address-count .ensures)) (a .clock .0))
+          (d .up .ensures .1 st h g),
     )
 
 try-up-requires : tie.Need-try-up-requires

@@ -1,4 +1,4 @@
--- `step_drop_prefsrc::drop_dependents` meets its contract: after i turns those of the first i rows that stray are told, and the others stand in front.
+-- `step_drop_prefsrc::drop_dependents` meets its contract: after i iterations those of the first i rows that depend on that source are emitted, and the others stand in front.
 -- Assumes nothing.
 use Prim.Native.Nat.{_-_, _*_, _≤_}
 use mathlib.Core.Path.{_≡_, refl, sym, _∙_}
@@ -9,7 +9,7 @@ use Rattle.definition.specs.Reference.Removal.{dependentOn}
 use Rattle.state.specs.Represents.{sizes-valid}
 use Rattle.state_retain.specs.Retain.{keeping-few}
 use Rattle.step_drop_prefsrc.specs.Delete.{ready-valid, ready-room}
-use Rattle.step_drop_prefsrc.specs.Sweep.{length-rest, Sweeping, sweeping-start, sweeping-turn, sweeping-end}
+use Rattle.step_drop_prefsrc.specs.Sweep.{length-rest, Sweeping, sweeping-start, sweeping-iteration, sweeping-end}
 use borrow.Author.Needs.{needs}
 use Rattle.step_drop_prefsrc.proofs.drop_dependents.Statement.{statement}
 use Rattle.step_drop_prefsrc.proofs.drop_dependents.Tie as tie
@@ -33,26 +33,26 @@ loop-holds c =
     let sizes = sizes-valid (ready-valid (start .pre)) in
     (omega arith, omega arith, omega (arith, n, sizes .routes), omega (arith, n, ready-room (start .pre)), sizes .long, refl, sweeping-start (dependentOn (a .ip)) (now (a .s)) (now (a .ev)) (sizes .long))
 
-sub-dependent-turn : tie.Need-sub-dependent-turn Inv-loop μ-loop
-sub-dependent-turn c = search needs
+sub-dependent-iteration : tie.Need-sub-dependent-iteration Inv-loop μ-loop
+sub-dependent-iteration c = search needs
 
-mul-dependent-turn : tie.Need-mul-dependent-turn Inv-loop μ-loop
-mul-dependent-turn c = search needs
+mul-dependent-iteration : tie.Need-mul-dependent-iteration Inv-loop μ-loop
+mul-dependent-iteration c = search needs
 
-mul-dependent-turn-2 : tie.Need-mul-dependent-turn-2 Inv-loop μ-loop
-mul-dependent-turn-2 c = search needs
+mul-dependent-iteration-2 : tie.Need-mul-dependent-iteration-2 Inv-loop μ-loop
+mul-dependent-iteration-2 c = search needs
 
-sub-dependent-turn-2 : tie.Need-sub-dependent-turn-2 Inv-loop μ-loop
-sub-dependent-turn-2 c = search needs
+sub-dependent-iteration-2 : tie.Need-sub-dependent-iteration-2 Inv-loop μ-loop
+sub-dependent-iteration-2 c = search needs
 
-part-dependent-turn-start : tie.Need-part-dependent-turn-start Inv-loop μ-loop
-part-dependent-turn-start c = search needs
+part-dependent-iteration-start : tie.Need-part-dependent-iteration-start Inv-loop μ-loop
+part-dependent-iteration-start c = search needs
 
-part-dependent-turn-end : tie.Need-part-dependent-turn-end Inv-loop μ-loop
-part-dependent-turn-end c = search needs
+part-dependent-iteration-end : tie.Need-part-dependent-iteration-end Inv-loop μ-loop
+part-dependent-iteration-end c = search needs
 
-dependent-turn-requires : tie.Need-dependent-turn-requires Inv-loop μ-loop
-dependent-turn-requires c κs =
+dependent-iteration-requires : tie.Need-dependent-iteration-requires Inv-loop μ-loop
+dependent-iteration-requires c κs =
     let at-loop = c .before .before .before .loop in
     (omega arith, omega (arith, length-rest (at-loop .i - at-loop .j) (at-loop .ev)))
 
@@ -66,8 +66,8 @@ loop-again : tie.Need-loop-again Inv-loop μ-loop
 loop-again c =
     let at-loop = c .before .before .before .before .before .before .before .before .loop in
     let taken = c .before .before .before .before .before .before .before .loop-test .taken in
-    let at-turn = c .before .before .before .before .dependent-turn in
-    let k = sweeping-turn (at-loop .inv .6) (omega (arith, taken)) (omega (arith, taken)) (at-turn .kept .0) (at-turn .kept .1 .0) (at-turn .ensures) in
+    let at-iteration = c .before .before .before .before .dependent-iteration in
+    let k = sweeping-iteration (at-loop .inv .6) (omega (arith, taken)) (omega (arith, taken)) (at-iteration .kept .0) (at-iteration .kept .1 .0) (at-iteration .ensures) in
     (omega (arith, taken), keeping-few (k .kept), at-loop .inv .2, omega (arith, k .long), k .kept .long, k .long, k)
 
 close-requires : tie.Need-close-requires Inv-loop μ-loop
@@ -98,13 +98,13 @@ drop-dependents-spec =
     μ-loop
     route-count-requires
     loop-holds
-    sub-dependent-turn
-    mul-dependent-turn
-    mul-dependent-turn-2
-    sub-dependent-turn-2
-    part-dependent-turn-start
-    part-dependent-turn-end
-    dependent-turn-requires
+    sub-dependent-iteration
+    mul-dependent-iteration
+    mul-dependent-iteration-2
+    sub-dependent-iteration-2
+    part-dependent-iteration-start
+    part-dependent-iteration-end
+    dependent-iteration-requires
     add-i
     loop-less
     loop-again

@@ -1,7 +1,7 @@
-use Rattle.step_drop_routes.specs.Turns.{anyRow, Leaving, leaving-start, leaving-facts, leaving-next, leaving-last}
+use Rattle.step_drop_routes.specs.Iterations.{anyRow, Leaving, leaving-start, leaving-facts, leaving-next, leaving-last}
 use Rattle.step_drop_prefsrc.specs.Delete.{ready-valid}
-use Rattle.step_events.specs.Turns.{going-ready}
-use Rattle.step_events.specs.EmitsWithin.{Fits}
+use Rattle.step_events.specs.Iterations.{going-ready}
+use Rattle.step_events.specs.EmitsWithin.{RoomFor}
 use Rattle.state.specs.Represents.{sizes-valid}
 use Rattle.definition.specs.Preservation.Shrinking.{potential}
 use Rattle.definition.specs.State.{State}
@@ -23,7 +23,7 @@ abbrev Inv-loop : tie.InvT-loop
 Inv-loop s₀ ev₀ rows m j₀ k₀ s ev j k =
     (j ≤ m)
     × ((34 * k ≤ length ev) × (length s ≡ baseSize) × (length ev ≡ length ev₀) × (k ≤ 384))
-    × ((st : State) → Fits potential st s₀ ev₀ → (l : List Row) → Laid 32 anyRow rows l → Leaving st l j k s ev₀ ev)
+    × ((st : State) → RoomFor potential st s₀ ev₀ → (l : List Row) → Laid 32 anyRow rows l → Leaving st l j k s ev₀ ev)
 
 abbrev μ-loop : tie.MeasureT-loop
 μ-loop s₀ ev₀ rows m j₀ k₀ s ev j k = m - j
@@ -83,10 +83,10 @@ add-k c =
     let k = c .before .before .before .before .before .before .before .before .before in
     let s = k .before .before .before .before in
     let taken = c .before .before .before .before .before .before .before .before .loop-test .taken in
-    let turn = c .before .before .before .before .unless-wanted .ensures in
+    let iteration = c .before .before .before .before .unless-wanted .ensures in
     let y = s .pre .0 in
     let z = s .pre .1 .1 in
-    let facts = leaving-facts (z .list) (k .loop .j + 1) (leaving-next (z .list) (k .loop .j) (k .loop .inv .2 (y .state) (y .fits) (z .list) (z .laid)) (s .args .rows .now) (s .args .m) (s .pre .1 .0) (z .laid) taken (λ m g. turn m g)) (y .fits) in
+    let facts = leaving-facts (z .list) (k .loop .j + 1) (leaving-next (z .list) (k .loop .j) (k .loop .inv .2 (y .state) (y .fits) (z .list) (z .laid)) (s .args .rows .now) (s .args .m) (s .pre .1 .0) (z .laid) taken (λ m g. iteration m g)) (y .fits) in
     record { fits = omega (arith, facts .3) }
 
 add-j : tie.Need-add-j Inv-loop μ-loop
@@ -100,12 +100,12 @@ loop-again c =
     let k = c .before .before .before .before .before .before .before .before .before in
     let s = k .before .before .before .before in
     let taken = c .before .before .before .before .before .before .before .before .loop-test .taken in
-    let turn = c .before .before .before .before .unless-wanted .ensures in
+    let iteration = c .before .before .before .before .unless-wanted .ensures in
     let y = s .pre .0 in
     let z = s .pre .1 .1 in (
       omega (arith, taken),
-      leaving-facts (z .list) (k .loop .j + 1) (leaving-next (z .list) (k .loop .j) (k .loop .inv .2 (y .state) (y .fits) (z .list) (z .laid)) (s .args .rows .now) (s .args .m) (s .pre .1 .0) (z .laid) taken (λ m g. turn m g)) (y .fits),
-      λ st f l h. leaving-next l (k .loop .j) (k .loop .inv .2 st f l h) (s .args .rows .now) (s .args .m) (s .pre .1 .0) h taken (λ m g. turn m g),
+      leaving-facts (z .list) (k .loop .j + 1) (leaving-next (z .list) (k .loop .j) (k .loop .inv .2 (y .state) (y .fits) (z .list) (z .laid)) (s .args .rows .now) (s .args .m) (s .pre .1 .0) (z .laid) taken (λ m g. iteration m g)) (y .fits),
+      λ st f l h. leaving-next l (k .loop .j) (k .loop .inv .2 st f l h) (s .args .rows .now) (s .args .m) (s .pre .1 .0) h taken (λ m g. iteration m g),
     )
 
 same-length : tie.Need-same-length Inv-loop μ-loop

@@ -1,4 +1,4 @@
-use Rattle.step_drop_routes.specs.Turns.{fall-kept, fall-strayless, fall-local, fall-unlisted, fall-listed}
+use Rattle.step_drop_routes.specs.Iterations.{fall-kept, fall-strayless, fall-local, fall-unlisted, fall-listed}
 use Rattle.step_drop_prefsrc.specs.Delete.{ready-valid}
 use Rattle.state_read.specs.Parts.{listed-there}
 use borrow.Author.Tests.{not-true, not-false}

@@ -1,4 +1,4 @@
-use Rattle.step_drop_routes.specs.Turns.{anyRow}
+use Rattle.step_drop_routes.specs.Iterations.{anyRow}
 use Rattle.step_drop_routes.specs.One.{loses}
 use Rattle.state.specs.Represents.{Represents}
 use Rattle.definition.specs.State.{State}

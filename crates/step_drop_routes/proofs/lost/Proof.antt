@@ -1,4 +1,4 @@
-use Rattle.step_drop_routes.specs.Turns.{lost-not, lost-so}
+use Rattle.step_drop_routes.specs.Iterations.{lost-not, lost-so}
 use borrow.Author.Tests.{not-true, not-false}
 use borrow.Author.Needs.{needs}
 use Rattle.step_drop_routes.proofs.lost.Statement.{statement}

@@ -2,7 +2,7 @@ use Rattle.step_events.specs.EmitsWithin.{rest-fits}
 use Rattle.definition.specs.Preservation.Shrinking.{potential}
 use Rattle.step_drop_routes.specs.One.{unlessWanted}
 use Rattle.definition.specs.State.{through}
-use Rattle.step_drop_routes.specs.Turns.{step-facts, step-valid, step-ready, routes-gone}
+use Rattle.step_drop_routes.specs.Iterations.{step-facts, step-valid, step-ready, routes-gone}
 use native.Mathlib.Omega.{arith}
 use Prim.Native.Nat.{_-_}
 use borrow.Author.Needs.{needs}

@@ -1,4 +1,4 @@
-use Rattle.step_drop_routes.specs.Turns.{wanted-stays, unwanted-goes}
+use Rattle.step_drop_routes.specs.Iterations.{wanted-stays, unwanted-goes}
 use Rattle.step_drop_prefsrc.specs.Delete.{ready-valid}
 use Rattle.step_kernel_del.specs.Delete.{deletes, ready-row}
 use mathlib.Core.Path.{sym, _∙_}

@@ -6,7 +6,7 @@ use mathlib.Core.List.{List}
 use lib.ListN.{length}
 use Rattle.lists.specs.Laid.{Laid, Lays}
 use Rattle.layout.specs.Route.{fitRoute}
-use Rattle.step_kernel_del.specs.Delete.{none-named, one-named, row-wide}
+use Rattle.step_kernel_del.specs.Delete.{none-matches, one-matches, row-wide}
 use Rattle.state_read.specs.Parts.{length-routes, lays-routes, laid-routes}
 use Rattle.state.specs.Represents.{sizes-valid, count-routes}
 use native.Mathlib.Omega.{arith}
@@ -21,8 +21,8 @@ route-count-requires c κs =
 routes-requires : tie.Need-routes-requires
 routes-requires c κs = search needs
 
-find-named-requires : tie.Need-find-named-requires
-find-named-requires c κs =
+find-match-requires : tie.Need-find-match-requires
+find-match-requires c κs =
     let s = c .before .before .before .before .before .before .before in
     let v = s .pre .0 in (
       (
@@ -37,7 +37,7 @@ same-length c = search needs
 
 returns : tie.Need-returns
 returns c =
-    let q = c .before .find-named in
+    let q = c .before .find-match in
     let e = c .before .before .routes .ensures in
     let n = c .before .before .before .before .route-count .ensures in
     let s = c .before .before .before .before .before .before .before .before .before in (
@@ -45,7 +45,7 @@ returns c =
       (
         omega arith,
         λ st h.
-            none-named (s .args .p .now) st h (q .result)
+            none-matches (s .args .p .now) st h (q .result)
             (q .ensures (st .routes) (subst (λ (x : List ℕ). Laid 32 fitRoute x (st .routes)) (sym e) (laid-routes h)))
             (omega (arith, count-routes h, n, c .if1 .taken)),
       ),
@@ -80,7 +80,7 @@ part-del-route4-end c =
 del-route4-requires : tie.Need-del-route4-requires
 del-route4-requires c κs =
     let i = c .before .before .before in
-    let q = i .before .find-named in
+    let q = i .before .find-match in
     let n = i .before .before .before .before .route-count .ensures in
     let s = i .before .before .before .before .before .before .before .before .before in
     let v = s .pre .0 in
@@ -102,7 +102,7 @@ same-length-3 c = search needs
 returns-2 : tie.Need-returns-2
 returns-2 c =
     let i = c .before .before .before .before .before .before .before .before .before .before in
-    let q = i .before .find-named in
+    let q = i .before .find-match in
     let e = i .before .before .routes .ensures in
     let n = i .before .before .before .before .route-count .ensures in
     let s = i .before .before .before .before .before .before .before .before .before in
@@ -112,7 +112,7 @@ returns-2 c =
       (
         omega arith,
         λ st h.
-            one-named (s .args .p .now) st h (q .result)
+            one-matches (s .args .p .now) st h (q .result)
             (q .ensures (st .routes) (subst (λ (x : List ℕ). Laid 32 fitRoute x (st .routes)) (sym e) (laid-routes h)))
             (omega (arith, count-routes h, n, i .if1 .left)) (s .pre .1 .1 (omega (arith, n, i .if1 .left))) (gone st h) (c .before .before .before .before .before .before .del-route4 .ensures),
       ),
@@ -124,7 +124,7 @@ kernel-del4-spec =
     (tie.spec
     route-count-requires
     routes-requires
-    find-named-requires
+    find-match-requires
     same-length
     returns
     mul-at

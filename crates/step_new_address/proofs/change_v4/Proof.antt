@@ -3,10 +3,11 @@ use mathlib.Core.Path.{refl}
 use native.Mathlib.Omega.{arith}
 use lib.ListN.{getD}
 use mathlib.Core.List.{[]}
-use Rattle.state.specs.Represents.{sound-valid, sound-few, sound-long}
-use Rattle.step_new_address.specs.Sound.{rest-room, rows-are}
-use Rattle.step_new_address.specs.Change.{old-row, old-fit, old-long, row-room, changed-fit, change-full, change-sound, change-count, change-done}
+use Rattle.state.specs.Represents.{fit-some, sound-few, sound-long}
+use Rattle.step_new_address.specs.Adding.{rest-room, rows-are}
+use Rattle.step_new_address.specs.Change.{old-row, old-fit, old-long, row-room, changed-fit, change-other, change-sound, change-count, change-done}
 use Rattle.definition.specs.Preservation.Fit.{length-address}
+use Rattle.step_events.specs.Comes.{not-first}
 use borrow.Author.Needs.{needs}
 use Rattle.step_new_address.proofs.change_v4.Statement.{statement}
 use Rattle.step_new_address.proofs.change_v4.Tie as tie
@@ -78,6 +79,25 @@ moved-requires c κs =
 enum-known-came : tie.Need-enum-known-came
 enum-known-came c = search needs
 
+same-length : tie.Need-same-length
+same-length c = search needs
+
+same-length-2 : tie.Need-same-length-2
+same-length-2 c = search needs
+
+returns : tie.Need-returns
+returns c =
+    let m = c .before .before .before .before .before in
+    let h = m .before .before .before .before .before in
+    let t = h .before .before .before .before in
+    let s = t .before .before .before .before .before .before .before in
+    let a = s .args in
+    let q = a .q .now in
+    let f = s .pre .1 .1 .0 in
+    let old = t .store .last .0 in
+    let fit = old-fit (a .i) (s .pre .1 .0) _ refl (t .store .ensures) (s .pre .0) in
+    (omega (arith, m .moved .ensures .0), λ st hs g at. change-other q (a .clock .0) old (f .1) fit _ refl (h .changed-to .ensures) (m .moved .ensures .1) (λ k e. not-first (rw e at (c .match .keys2))) st hs g (getD (st .addresses) (a .i) []) (old-row (a .i) (s .pre .1 .0) _ refl (t .store .ensures) st hs))
+
 slice-aggregate-replace-address : tie.Need-slice-aggregate-replace-address
 slice-aggregate-replace-address c = search needs
 
@@ -97,7 +117,7 @@ replace-address-requires c κs =
     let two = rows-are 2 (m .moved .result) k (e .came .given .1) (m .moved .ensures .0) in
     let v = change-sound q (a .clock .0) old (f .1) fit _ refl (h .changed-to .ensures) (m .moved .ensures .1) k (e .came .given .1) (s .pre .0) in
     let n = change-count q (a .clock .0) old (f .1) fit _ refl (h .changed-to .ensures) (m .moved .ensures .1) k (e .came .given .1) (s .pre .0 .state) (s .pre .0 .holds) (s .pre .0 .fits) in
-    (sound-valid v, (omega (arith, n, s .pre .1 .0), changed-fit q (a .clock .0) old (f .1) fit _ refl (h .changed-to .ensures)))
+    (fit-some v, (omega (arith, n, s .pre .1 .0), changed-fit q (a .clock .0) old (f .1) fit _ refl (h .changed-to .ensures)))
 
 mul-from : tie.Need-mul-from
 mul-from c =
@@ -173,8 +193,8 @@ new-addr4-requires c κs =
     let two = rows-are 2 (m .moved .result) k (e .came .given .1) (m .moved .ensures .0) in
     (rest-room k 34 (m .moved .last .1 .0) (omega (arith, two, s .pre .1 .1 .1)), length-address (h .changed-to .last .1 .1 .1 .0) (changed-fit q (a .clock .0) old (f .1) fit _ refl (h .changed-to .ensures)))
 
-add-t37 : tie.Need-add-t37
-add-t37 c =
+add-t12 : tie.Need-add-t12
+add-t12 c =
     let m = c .before .before .before .before .before .before .before .before .before .before .before .before .before .before .before .before .before in
     let h = m .before .before .before .before .before in
     let t = h .before .before .before .before in
@@ -186,17 +206,14 @@ add-t37 c =
     let two = rows-are 2 (m .moved .result) k (e .came .given .1) (m .moved .ensures .0) in
     omega (arith, two)
 
-enum-told : tie.Need-enum-told
-enum-told c = search needs
+same-length-3 : tie.Need-same-length-3
+same-length-3 c = search needs
 
-same-length : tie.Need-same-length
-same-length c = search needs
+same-length-4 : tie.Need-same-length-4
+same-length-4 c = search needs
 
-same-length-2 : tie.Need-same-length-2
-same-length-2 c = search needs
-
-returns : tie.Need-returns
-returns c =
+returns-2 : tie.Need-returns-2
+returns-2 c =
     let m = c .before .before .before .before .before .before .before .before .before .before .before .before .before .before .before .before .before in
     let h = m .before .before .before .before .before in
     let t = h .before .before .before .before in
@@ -214,25 +231,6 @@ returns c =
       λ st hs g at. change-done q (a .clock .0) old (f .1) fit _ refl (h .changed-to .ensures) (m .moved .ensures .1) k (e .came .given .1) (a .i)
           (c .before .before .before .before .before .before .before .replace-address .ensures) room (c .before .before .new-addr4 .ensures) st hs g at (getD (st .addresses) (a .i) []) (old-row (a .i) (s .pre .1 .0) _ refl (t .store .ensures) st hs),
     )
-
-same-length-3 : tie.Need-same-length-3
-same-length-3 c = search needs
-
-same-length-4 : tie.Need-same-length-4
-same-length-4 c = search needs
-
-returns-2 : tie.Need-returns-2
-returns-2 c =
-    let m = c .before .before .before .before .before .before in
-    let h = m .before .before .before .before .before in
-    let t = h .before .before .before .before in
-    let s = t .before .before .before .before .before .before .before in
-    let a = s .args in
-    let q = a .q .now in
-    let f = s .pre .1 .1 .0 in
-    let old = t .store .last .0 in
-    let fit = old-fit (a .i) (s .pre .1 .0) _ refl (t .store .ensures) (s .pre .0) in
-    (omega arith, λ st hs g at. change-full q (a .clock .0) old (f .1) fit _ refl (h .changed-to .ensures) (m .moved .ensures .1) (c .enum-told .given .1) st hs g (getD (st .addresses) (a .i) []) (old-row (a .i) (s .pre .1 .0) _ refl (t .store .ensures) st hs))
 
 pub change-v4-spec : {M : Type 1} → statement M
 change-v4-spec =
@@ -253,6 +251,9 @@ change-v4-spec =
     slice-aggregate-moved
     moved-requires
     enum-known-came
+    same-length
+    same-length-2
+    returns
     slice-aggregate-replace-address
     replace-address-requires
     mul-from
@@ -262,11 +263,7 @@ change-v4-spec =
     part-new-addr4-end
     slice-aggregate-new-addr4
     new-addr4-requires
-    add-t37
-    enum-told
-    same-length
-    same-length-2
-    returns
+    add-t12
     same-length-3
     same-length-4
     returns-2)

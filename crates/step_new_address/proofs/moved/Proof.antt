@@ -1,11 +1,12 @@
 use mathlib.Core.Path.{refl, sym, _∙_}
 use native.Mathlib.Omega.{arith}
 use borrow.Author.Tests.{not-true, not-false}
+use Rattle.step_events.specs.Comes.{not-first}
 use lib.ListN.{getD}
 use Rattle.row_subnet.specs.Laws.{fit-short}
-use Rattle.state.specs.Represents.{sound-valid}
-use Rattle.step_new_address.specs.Sound.{rest-room, rows-are}
-use Rattle.step_new_address.specs.Change.{moved-none, moved-full, moved-both, route-row, row-fits, row-wide}
+use Rattle.state.specs.Represents.{fit-some}
+use Rattle.step_new_address.specs.Adding.{rest-room, rows-are}
+use Rattle.step_new_address.specs.Change.{moved-none, moved-other, moved-both, route-row, row-fits, row-wide}
 use borrow.Author.Needs.{needs}
 use Rattle.step_new_address.proofs.moved.Statement.{statement}
 use Rattle.step_new_address.proofs.moved.Tie as tie
@@ -61,10 +62,33 @@ kernel-add4-requires c κs =
     let s = i .before .before .before .before .before in
     let a = s .args in
     let fit = s .pre .1 .1 .1 .0 in
-    (sound-valid (s .pre .0), (row-fits (a .old .now) fit (getD (a .q .now) 13 0) (getD (a .old .now) 0 0) _ refl (n .prefix-route4 .ensures), omega (arith, s .pre .1 .1 .1 .1)))
+    (fit-some (s .pre .0), (row-fits (a .old .now) fit (getD (a .q .now) 13 0) (getD (a .old .now) 0 0) _ refl (n .prefix-route4 .ensures), omega (arith, s .pre .1 .1 .1 .1)))
 
 enum-known-came : tie.Need-enum-known-came
 enum-known-came c = search needs
+
+same-length : tie.Need-same-length
+same-length c = search needs
+
+same-length-2 : tie.Need-same-length-2
+same-length-2 c = search needs
+
+returns-2 : tie.Need-returns-2
+returns-2 c =
+    let w = c .before .before .before .before .before in
+    let g = w .before .before .before .before .before in
+    let n = g .before .before .before .before .before in
+    let t = n .before .before .before .before in
+    let i = t .before in
+    let s = i .before .before .before .before .before in
+    let a = s .args in
+    let fit = s .pre .1 .1 .1 .0 in (
+      omega (arith, w .kernel-add4 .ensures .1 .0),
+      moved-other (a .q .now) (a .old .now) (sym (i .reroutes .ensures) ∙ not-false (i .reroutes .result) (t .if1 .left)) fit
+          (route-row (a .old .now) fit (getD (a .q .now) 13 0) (getD (a .old .now) 0 0) _ refl (n .prefix-route4 .ensures))
+          (route-row (a .old .now) fit (getD (a .old .now) 13 0) (getD (a .old .now) 0 0) _ refl (g .prefix-route42 .ensures))
+          (w .kernel-add4 .ensures .1 .1) (λ k e. not-first (rw e at (c .match .keys2))),
+    )
 
 mul-from : tie.Need-mul-from
 mul-from c =
@@ -117,24 +141,21 @@ kernel-del4-requires c κs =
     let one = rows-are 1 (w .kernel-add4 .result) k (e .came .given .1) (w .kernel-add4 .ensures .1 .0) in
     (w .kernel-add4 .ensures .0, (row-wide (a .old .now) fit (getD (a .old .now) 13 0) (getD (a .old .now) 0 0) _ refl (g .prefix-route42 .ensures), λ b. rest-room k 34 (w .kernel-add4 .last .1 .0) (omega (arith, one, s .pre .1 .1 .1 .1))))
 
-add-t33 : tie.Need-add-t33
-add-t33 c =
+add-t32 : tie.Need-add-t32
+add-t32 c =
     let e = c .before .before .before .before .before .before .before .before .before in
     let w = e .before .before .before .before .before .before in
     let one = rows-are 1 (w .kernel-add4 .result) (e .came .given .0 .0) (e .came .given .1) (w .kernel-add4 .ensures .1 .0) in
     omega (arith, one, c .before .before .before .before .kernel-del4 .ensures .1 .0)
 
-enum-told : tie.Need-enum-told
-enum-told c = search needs
+same-length-3 : tie.Need-same-length-3
+same-length-3 c = search needs
 
-same-length : tie.Need-same-length
-same-length c = search needs
+same-length-4 : tie.Need-same-length-4
+same-length-4 c = search needs
 
-same-length-2 : tie.Need-same-length-2
-same-length-2 c = search needs
-
-returns-2 : tie.Need-returns-2
-returns-2 c =
+returns-3 : tie.Need-returns-3
+returns-3 c =
     let d = c .before .before .before .before in
     let e = d .before .before .before .before .before in
     let w = e .before .before .before .before .before .before in
@@ -154,29 +175,6 @@ returns-2 c =
           (w .kernel-add4 .ensures .1 .1) k (d .kernel-del4 .result) (e .came .given .1) (d .kernel-del4 .ensures .1 .1),
     )
 
-same-length-3 : tie.Need-same-length-3
-same-length-3 c = search needs
-
-same-length-4 : tie.Need-same-length-4
-same-length-4 c = search needs
-
-returns-3 : tie.Need-returns-3
-returns-3 c =
-    let w = c .before .before .before .before .before .before in
-    let g = w .before .before .before .before .before in
-    let n = g .before .before .before .before .before in
-    let t = n .before .before .before .before in
-    let i = t .before in
-    let s = i .before .before .before .before .before in
-    let a = s .args in
-    let fit = s .pre .1 .1 .1 .0 in (
-      omega arith,
-      moved-full (a .q .now) (a .old .now) (sym (i .reroutes .ensures) ∙ not-false (i .reroutes .result) (t .if1 .left)) fit
-          (route-row (a .old .now) fit (getD (a .q .now) 13 0) (getD (a .old .now) 0 0) _ refl (n .prefix-route4 .ensures))
-          (route-row (a .old .now) fit (getD (a .old .now) 13 0) (getD (a .old .now) 0 0) _ refl (g .prefix-route42 .ensures))
-          (w .kernel-add4 .ensures .1 .1) (c .enum-told .given .1),
-    )
-
 pub moved-spec : {M : Type 1} → statement M
 moved-spec =
     tie.close
@@ -194,6 +192,9 @@ moved-spec =
     slice-aggregate-kernel-add4
     kernel-add4-requires
     enum-known-came
+    same-length
+    same-length-2
+    returns-2
     mul-from
     mul-kernel-del4
     sub-kernel-del4
@@ -201,11 +202,7 @@ moved-spec =
     part-kernel-del4-end
     slice-aggregate-kernel-del4
     kernel-del4-requires
-    add-t33
-    enum-told
-    same-length
-    same-length-2
-    returns-2
+    add-t32
     same-length-3
     same-length-4
     returns-3)

@@ -1,10 +1,10 @@
 use native.Mathlib.Omega.{arith}
-use Rattle.state.specs.Represents.{count-addresses, sound-valid, sound-long}
+use Rattle.state.specs.Represents.{count-addresses, fit-some, sound-long}
 use Rattle.state_read.specs.Parts.{ready-addresses, of-addresses}
 use Rattle.definition.specs.Preservation.Fit.{length-address}
 use Prim.Native.Nat.{_+_, _*_}
 use Rattle.row_subnet.specs.Laws.{fit-short}
-use Rattle.step_new_address.specs.Sound.{rest-room, joined-few}
+use Rattle.step_new_address.specs.Adding.{rest-room, joined-few}
 use Rattle.step_new_address.specs.New.{placed, emitted-length, new-full, placed-fit, placed-holds, placed-count, new-ready, new-done}
 use borrow.Author.Needs.{needs}
 use Rattle.step_new_address.proofs.new_address.Statement.{statement}
@@ -30,13 +30,13 @@ place4-requires : tie.Need-place4-requires
 place4-requires c κs =
     let n = c .before .before .before in
     let s = n .before .before .before .before .before in
-    (ready-addresses _ (n .address-count .result) (sound-valid (s .pre .0)) (c .addresses .ensures) (n .address-count .ensures), length-address (s .args .new .now) (s .pre .1 .0))
+    (ready-addresses _ (n .address-count .result) (fit-some (s .pre .0)) (c .addresses .ensures) (n .address-count .ensures), length-address (s .args .new .now) (s .pre .1 .0))
 
 insert-address-requires : tie.Need-insert-address-requires
 insert-address-requires c κs =
     let n = c .before .before .before .before .before in
     let s = n .before .before .before .before .before in
-    (sound-valid (s .pre .0), ((omega (arith, c .before .place4 .ensures .0, n .address-count .ensures), omega (arith, n .address-count .ensures, c .before .before .before .before .if1 .left)), s .pre .1 .0))
+    (fit-some (s .pre .0), ((omega (arith, c .before .place4 .ensures .0, n .address-count .ensures), omega (arith, n .address-count .ensures, c .before .before .before .before .if1 .left)), s .pre .1 .0))
 
 new-addr4-requires : tie.Need-new-addr4-requires
 new-addr4-requires c κs =
@@ -79,26 +79,26 @@ candidates-requires c κs =
 mul-end : tie.Need-mul-end
 mul-end c = search needs
 
-sub-bring : tie.Need-sub-bring
-sub-bring c = search needs
+sub-install : tie.Need-sub-install
+sub-install c = search needs
 
-part-bring-start : tie.Need-part-bring-start
-part-bring-start c = search needs
+part-install-start : tie.Need-part-install-start
+part-install-start c = search needs
 
-part-bring-end : tie.Need-part-bring-end
-part-bring-end c = search needs
+part-install-end : tie.Need-part-install-end
+part-install-end c = search needs
 
-sub-bring-2 : tie.Need-sub-bring-2
-sub-bring-2 c = search needs
+sub-install-2 : tie.Need-sub-install-2
+sub-install-2 c = search needs
 
-part-bring-start-2 : tie.Need-part-bring-start-2
-part-bring-start-2 c = search needs
+part-install-start-2 : tie.Need-part-install-start-2
+part-install-start-2 c = search needs
 
-part-bring-end-2 : tie.Need-part-bring-end-2
-part-bring-end-2 c = search needs
+part-install-end-2 : tie.Need-part-install-end-2
+part-install-end-2 c = search needs
 
-bring-requires : tie.Need-bring-requires
-bring-requires c κs =
+install-requires : tie.Need-install-requires
+install-requires c κs =
     let i = c .before .before .before .before .before .before .before .before .before .before .before .before .before .before .before in
     let p = i .before .before in
     let n = p .before .before .before .before in
@@ -143,13 +143,13 @@ returns-2 c =
     let d = c .before .before .before .before .before .before .before .before .before .before .before in
     let b = c .before .before .before .before .before in
     let few = d .candidates .ensures .0 .1 in (
-      omega (arith, few, joined-few 1 (d .candidates .result) (b .bring .result) (c .joined .result) (c .joined .ensures) (b .bring .ensures .0)),
+      omega (arith, few, joined-few 1 (d .candidates .result) (b .install .result) (c .joined .result) (c .joined .ensures) (b .install .ensures .0)),
       λ st h g.
           let place = p .place4 .ensures .1 (st .addresses) (of-addresses _ h l) in
           let put = i .insert-address .ensures st h in
           let there = placed-holds new (a .up) st (p .place4 .result) place put in
           let rows = d .candidates .ensures .1 (placed new st .addresses) (of-addresses _ there (d .before .before .addresses2 .ensures)) in
-          new-done new (a .up) st (p .place4 .result) place put fit (d .candidates .result) _ _ rows g (omega (arith, s .pre .1 .1)) (c .before .before .before .before .before .before .before .before .before .before .before .before .before .before .before .before .before .new-addr4 .ensures) (b .bring .ensures .1) (c .joined .result) (c .joined .ensures),
+          new-done new (a .up) st (p .place4 .result) place put fit (d .candidates .result) _ _ rows g (omega (arith, s .pre .1 .1)) (c .before .before .before .before .before .before .before .before .before .before .before .before .before .before .before .before .before .new-addr4 .ensures) (b .install .ensures .1) (c .joined .result) (c .joined .ensures),
     )
 
 pub new-address-spec : {M : Type 1} → statement M
@@ -168,13 +168,13 @@ new-address-spec =
     slice-aggregate-candidates
     candidates-requires
     mul-end
-    sub-bring
-    part-bring-start
-    part-bring-end
-    sub-bring-2
-    part-bring-start-2
-    part-bring-end-2
-    bring-requires
+    sub-install
+    part-install-start
+    part-install-end
+    sub-install-2
+    part-install-start-2
+    part-install-end-2
+    install-requires
     joined-requires
     same-length-2
     same-length-3

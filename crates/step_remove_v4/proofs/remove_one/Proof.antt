@@ -3,7 +3,7 @@ use Rattle.step_events.specs.EmitsWithin.{rest-fits}
 use Rattle.definition.specs.Reference.Removal.{leaving}
 use Rattle.row_subnet.specs.Laws.{fit-short}
 use Rattle.lists.specs.Laid.{laid-length}
-use Rattle.step_drop_routes.specs.Turns.{step-facts, step-ready}
+use Rattle.step_drop_routes.specs.Iterations.{step-facts, step-ready}
 use Rattle.step_drop_prefsrc.specs.Delete.{ready-valid}
 use Rattle.state_read.specs.Parts.{length-addresses, lays-addresses, laid-addresses}
 use Rattle.state.specs.Represents.{sizes-valid}

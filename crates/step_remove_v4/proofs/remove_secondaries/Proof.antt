@@ -1,6 +1,6 @@
 use Rattle.step_remove_v4.specs.One.{Going1, gone-start, gone-facts, gone-next, gone-last}
-use Rattle.step_events.specs.Turns.{going-ready}
-use Rattle.step_events.specs.EmitsWithin.{Fits}
+use Rattle.step_events.specs.Iterations.{going-ready}
+use Rattle.step_events.specs.EmitsWithin.{RoomFor}
 use Rattle.definition.specs.Words.{addressCount, baseSize}
 use Rattle.definition.specs.State.{State}
 use Rattle.step_drop_prefsrc.specs.Delete.{ready-valid}
@@ -19,7 +19,7 @@ Inv-loop s₀ ev₀ a n j₀ k₀ s ev j k =
     (j ≤ n)
     × (n ≤ 64)
     × (((34 * k ≤ length ev) × (length s ≡ baseSize) × (length ev ≡ length ev₀) × (k ≤ 384)) × ((addressCount s ≤ n) × (n ≤ j + addressCount s)))
-    × ((st : State) → Fits potential st s₀ ev₀ → Going1 a st n j k s ev₀ ev)
+    × ((st : State) → RoomFor potential st s₀ ev₀ → Going1 a st n j k s ev₀ ev)
 
 abbrev μ-loop : tie.MeasureT-loop
 μ-loop s₀ ev₀ a n j₀ k₀ s ev j k = n - j
@@ -48,23 +48,23 @@ add-i c = search needs
 sub-i : tie.Need-sub-i Inv-loop μ-loop
 sub-i c = search needs
 
-mul-gone-turn : tie.Need-mul-gone-turn Inv-loop μ-loop
-mul-gone-turn c = search needs
+mul-gone-iteration : tie.Need-mul-gone-iteration Inv-loop μ-loop
+mul-gone-iteration c = search needs
 
-mul-gone-turn-2 : tie.Need-mul-gone-turn-2 Inv-loop μ-loop
-mul-gone-turn-2 c = search needs
+mul-gone-iteration-2 : tie.Need-mul-gone-iteration-2 Inv-loop μ-loop
+mul-gone-iteration-2 c = search needs
 
-sub-gone-turn : tie.Need-sub-gone-turn Inv-loop μ-loop
-sub-gone-turn c = search needs
+sub-gone-iteration : tie.Need-sub-gone-iteration Inv-loop μ-loop
+sub-gone-iteration c = search needs
 
-part-gone-turn-start : tie.Need-part-gone-turn-start Inv-loop μ-loop
-part-gone-turn-start c = search needs
+part-gone-iteration-start : tie.Need-part-gone-iteration-start Inv-loop μ-loop
+part-gone-iteration-start c = search needs
 
-part-gone-turn-end : tie.Need-part-gone-turn-end Inv-loop μ-loop
-part-gone-turn-end c = search needs
+part-gone-iteration-end : tie.Need-part-gone-iteration-end Inv-loop μ-loop
+part-gone-iteration-end c = search needs
 
-gone-turn-requires : tie.Need-gone-turn-requires Inv-loop μ-loop
-gone-turn-requires c κs =
+gone-iteration-requires : tie.Need-gone-iteration-requires Inv-loop μ-loop
+gone-iteration-requires c κs =
     let k = c .before .before .before .before .before in
     let s = k .before .before .before .before .before .before in
     let y = s .pre .0 in
@@ -81,8 +81,8 @@ add-k c =
     let taken = c .before .before .before .before .before .before .before .before .before .loop-test .taken in
     let i = k .loop .j + m .result - n in
     let e : i + n ≡ k .loop .j + addressCount (k .loop .s) = omega (arith, m .ensures, k .loop .inv .2 .1 .1) in
-    let turn = c .before .before .before .before .gone-turn .ensures in
-    let facts = gone-facts a n (k .loop .j + 1) (gone-next a n (k .loop .j) (k .loop .inv .3 (y .state) (y .fits)) taken i e (λ x f. turn x f)) (y .fits) in
+    let iteration = c .before .before .before .before .gone-iteration .ensures in
+    let facts = gone-facts a n (k .loop .j + 1) (gone-next a n (k .loop .j) (k .loop .inv .3 (y .state) (y .fits)) taken i e (λ x f. iteration x f)) (y .fits) in
     record { fits = omega (arith, facts .0 .3) }
 
 add-j : tie.Need-add-j Inv-loop μ-loop
@@ -102,11 +102,11 @@ loop-again c =
     let taken = c .before .before .before .before .before .before .before .before .before .loop-test .taken in
     let i = k .loop .j + m .result - n in
     let e : i + n ≡ k .loop .j + addressCount (k .loop .s) = omega (arith, m .ensures, k .loop .inv .2 .1 .1) in
-    let turn = c .before .before .before .before .gone-turn .ensures in (
+    let iteration = c .before .before .before .before .gone-iteration .ensures in (
       omega (arith, taken),
       k .loop .inv .1,
-      gone-facts a n (k .loop .j + 1) (gone-next a n (k .loop .j) (k .loop .inv .3 (y .state) (y .fits)) taken i e (λ x f. turn x f)) (y .fits),
-      λ st f. gone-next a n (k .loop .j) (k .loop .inv .3 st f) taken i e (λ x f. turn x f),
+      gone-facts a n (k .loop .j + 1) (gone-next a n (k .loop .j) (k .loop .inv .3 (y .state) (y .fits)) taken i e (λ x f. iteration x f)) (y .fits),
+      λ st f. gone-next a n (k .loop .j) (k .loop .inv .3 st f) taken i e (λ x f. iteration x f),
     )
 
 same-length : tie.Need-same-length Inv-loop μ-loop
@@ -132,12 +132,12 @@ remove-secondaries-spec =
     address-count-requires-2
     add-i
     sub-i
-    mul-gone-turn
-    mul-gone-turn-2
-    sub-gone-turn
-    part-gone-turn-start
-    part-gone-turn-end
-    gone-turn-requires
+    mul-gone-iteration
+    mul-gone-iteration-2
+    sub-gone-iteration
+    part-gone-iteration-start
+    part-gone-iteration-end
+    gone-iteration-requires
     add-k
     add-j
     loop-less

@@ -1,5 +1,5 @@
 use Rattle.step_remove_v4.specs.One.{present-ready, present-fit, primary-present, removed-step}
-use Rattle.step_drop_routes.specs.Turns.{step-facts}
+use Rattle.step_drop_routes.specs.Iterations.{step-facts}
 use native.Mathlib.Omega.{arith}
 use Prim.Native.Nat.{_-_}
 use borrow.Author.Needs.{needs}

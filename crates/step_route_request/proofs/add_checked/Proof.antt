@@ -1,7 +1,7 @@
 -- `step_route_request::add_checked` meets its contract.
 -- Assumes nothing.
 use Rattle.step_route_request.specs.Add.{asked-new, room-kept, way-full, way-on}
-use Rattle.state.specs.Represents.{sound-valid}
+use Rattle.state.specs.Represents.{fit-some}
 use Rattle.definition.specs.Reference.Routes.{askedRoute}
 use Rattle.definition.specs.Preservation.Fit.{length-route}
 use Rattle.layout.specs.Route.{fitRoute}
@@ -29,7 +29,7 @@ insert4-requires c κs = let s = c .before .before .before .before .before .befo
     let a = s .args in
     let q = now (a .q) in
     let new = asked-new (c .before .before .before .before .asked-route .last .1 .1 .0) (askedRoute q (a .linked)) _ (c .before .before .before .before .asked-route .ensures) (s .pre .1 .1 .0 .1) refl in
-    (sound-valid (s .pre .0), ap fitRoute new ∙ s .pre .1 .1 .0 .1)
+    (fit-some (s .pre .0), ap fitRoute new ∙ s .pre .1 .1 .0 .1)
 
 full-requires : tie.Need-full-requires
 full-requires c κs = search needs
@@ -74,7 +74,7 @@ returns-2 c = let s = c .before .before .before .before .before .before .before 
     let q = now (a .q) in
     let new = asked-new (c .before .before .before .before .before .before .before .before .before .before .before .before .before .before .before .before .before .before .asked-route .last .1 .1 .0) (askedRoute q (a .linked)) _ (c .before .before .before .before .before .before .before .before .before .before .before .before .before .before .before .before .before .before .asked-route .ensures) (s .pre .1 .1 .0 .1) refl in
     let i = c .before .before .before .before .before .before .before .before .before .before .before .before .before .insert4 in
-    λ st h g. way-on q (a .linked) (a .t) st (now (a .ev)) (c .before .before .before .before .before .before .before .before .before .before .before .before .before .before .before .before .before .before .asked-route .last .1 .1 .0) (i .result) new (i .ensures .1 st h g) (sym (c .before .before .before .before .before .before .before .before .before .before .full .ensures) ∙ c .before .before .before .before .before .before .before .before .before .if1 .left) (c .before .before .before .before .before .before .before .list-table .ensures _ (i .ensures .1 st h g .holds)) (c .before .before .tell .ensures)
+    λ st h g. way-on q (a .linked) (a .t) st (now (a .ev)) (c .before .before .before .before .before .before .before .before .before .before .before .before .before .before .before .before .before .before .asked-route .last .1 .1 .0) (i .result) new (i .ensures .1 st h g) (s .pre .1 .1 .0 .1) (s .pre .1 .1 .1) (sym (c .before .before .before .before .before .before .before .before .before .before .full .ensures) ∙ c .before .before .before .before .before .before .before .before .before .if1 .left) (c .before .before .before .before .before .before .before .list-table .ensures _ (i .ensures .1 st h g .holds)) (c .before .before .tell .ensures)
 
 pub add-checked-spec : {M : Type 1} → statement M
 add-checked-spec =

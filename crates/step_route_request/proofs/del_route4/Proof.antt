@@ -97,7 +97,7 @@ same-length-5 c = search needs
 returns-4 : tie.Need-returns-4
 returns-4 c = let s = c .before .before .before .before .before .before .before .before .before .before .before .before .before .before .before .before .before .before .before .before .before .before .before .before .before in
     let a = s .args in
-    λ st h. del-row (now (a .q)) h (now (a .ev)) (c .before .before .before .before .before .before .before .before .before .before .before .before .before .before .before .before .before .before .before .before .before .table-named .result) (c .before .before .before .before .before .before .before .before .before .before .before .before .before .before .before .before .before .before .before .listed .result) (c .before .before .before .before .before .before .before .before .before .before .before .before .before .before .before .before .before .before .before .before .before .table-named .ensures) (c .before .before .before .before .before .before .before .before .before .before .before .before .before .before .before .before .before .before .before .listed .ensures) (not-false (c .before .before .before .before .before .before .before .before .before .before .before .before .before .before .before .before .before .before .before .listed .result) (c .before .before .before .before .before .before .before .before .before .before .before .before .before .before .before .before .before .before .if1 .left)) (c .before .before .before .before .before .before .before .before .before .before .before .before .before .before .before .before .before .bad-prefix .result) (c .before .before .before .before .before .before .before .before .before .before .before .before .before .before .before .before .before .bad-prefix .ensures) (c .before .before .before .before .before .before .before .before .before .before .before .before .before .before .before .before .if2 .left) (c .before .before .before .before .before .before .before .before .before .before .before .select-route .result) (c .before .before .before .before .before .before .before .before .before .before .before .select-route .ensures .1 (st .routes) (of-routes _ h (c .before .before .before .before .before .before .before .before .before .before .before .before .routes .ensures))) (omega (arith, c .before .before .before .before .before .before .before .before .before .before .before .before .before .before .route-count .ensures, c .before .before .before .before .before .before .before .before .before .before .if3 .left)) (c .before .before .remove-route .ensures st h) (c .before .before .before .before .before .before .del-route4 .ensures)
+    λ st h. del-row (now (a .q)) h (now (a .ev)) (c .before .before .before .before .before .before .before .before .before .before .before .before .before .before .before .before .before .before .before .before .before .table-named .result) (c .before .before .before .before .before .before .before .before .before .before .before .before .before .before .before .before .before .before .before .listed .result) (c .before .before .before .before .before .before .before .before .before .before .before .before .before .before .before .before .before .before .before .before .before .table-named .ensures) (c .before .before .before .before .before .before .before .before .before .before .before .before .before .before .before .before .before .before .before .listed .ensures) (not-false (c .before .before .before .before .before .before .before .before .before .before .before .before .before .before .before .before .before .before .before .listed .result) (c .before .before .before .before .before .before .before .before .before .before .before .before .before .before .before .before .before .before .if1 .left)) (c .before .before .before .before .before .before .before .before .before .before .before .before .before .before .before .before .before .bad-prefix .result) (c .before .before .before .before .before .before .before .before .before .before .before .before .before .before .before .before .before .bad-prefix .ensures) (c .before .before .before .before .before .before .before .before .before .before .before .before .before .before .before .before .if2 .left) (c .before .before .before .before .before .before .before .before .before .before .before .select-route .result) (c .before .before .before .before .before .before .before .before .before .before .before .select-route .ensures .1 (st .routes) (of-routes _ h (c .before .before .before .before .before .before .before .before .before .before .before .before .routes .ensures))) (omega (arith, c .before .before .before .before .before .before .before .before .before .before .before .before .before .before .route-count .ensures, c .before .before .before .before .before .before .before .before .before .before .if3 .left)) (c .before .before .remove-route .ensures st h) (c .before .before .before .before .before .before .del-route4 .ensures) (s .pre .1 .1)
 
 pub del-route4-spec : {M : Type 1} → statement M
 del-route4-spec =

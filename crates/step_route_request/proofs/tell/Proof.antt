@@ -1,6 +1,6 @@
 -- `step_route_request::tell` meets its contract.
 -- Assumes nothing.
-use Rattle.step_route_request.specs.Add.{tells-put, tells-nothing, tells-refused, tells-full}
+use Rattle.step_route_request.specs.Add.{emission-put, emission-nothing, emission-refused, emission-full}
 use denote.Ref.{now}
 use borrow.Author.Needs.{needs}
 use Rattle.step_route_request.proofs.tell.Statement.{statement}
@@ -27,20 +27,20 @@ same-length c = search needs
 returns : tie.Need-returns
 returns c = let a = c .before .before .before .before .before .before .before .before .before .args in
     let f = c .before .before .before .before .before .i .given in
-    tells-put (now (a .new)) (a .i) (now (a .ev)) (f .0 .0) (f .1) (c .before .before .new-route4 .ensures)
+    emission-put (now (a .new)) (a .i) (now (a .ev)) (f .0 .0) (f .1) (c .before .before .new-route4 .ensures)
 
 returns-2 : tie.Need-returns-2
 returns-2 c = let a = c .before .before .before .before .args in
-    tells-nothing (now (a .new)) (a .i) (now (a .ev)) (c .enum-told .given .1)
+    emission-nothing (now (a .new)) (a .i) (now (a .ev)) (c .enum-told .given .1)
 
 returns-3 : tie.Need-returns-3
 returns-3 c = let a = c .before .before .before .before .before .args in
     let f = c .before .i2 .given in
-    tells-refused (now (a .new)) (a .i) (now (a .ev)) (f .0 .0) (f .1)
+    emission-refused (now (a .new)) (a .i) (now (a .ev)) (f .0 .0) (f .1)
 
 returns-4 : tie.Need-returns-4
 returns-4 c = let a = c .before .before .before .before .args in
-    tells-full (now (a .new)) (a .i) (now (a .ev)) (c .enum-told2 .given .1)
+    emission-full (now (a .new)) (a .i) (now (a .ev)) (c .enum-told2 .given .1)
 
 pub tell-spec : {M : Type 1} → statement M
 tell-spec =

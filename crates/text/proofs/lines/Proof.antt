@@ -1,4 +1,4 @@
--- `text::lines` meets its contract: after i turns the lines of the first i rows are written.
+-- `text::lines` meets its contract: after i iterations the lines of the first i rows are written.
 -- Assumes nothing.
 use Prim.Native.Nat.{_+_, _-_, _*_, _≤_}
 use mathlib.Core.Path.{_≡_, refl}

@@ -1,4 +1,4 @@
--- `text::text` meets its contract: after i turns the first i characters are put.
+-- `text::text` meets its contract: after i iterations the first i characters are put.
 -- Assumes nothing.
 use Prim.Native.Nat.{ℕ, _+_, _-_, _≤_}
 use mathlib.Core.Path.{_≡_, refl, ap, _∙_}

@@ -1,4 +1,4 @@
--- `words::clear` meets its contract: after i turns the first i zeros are put.
+-- `words::clear` meets its contract: after i iterations the first i zeros are put.
 -- Assumes nothing.
 use Prim.Native.Nat.{ℕ, _+_, _-_, _≤_}
 use mathlib.Core.Path.{_≡_, refl, sym, ap, _∙_}

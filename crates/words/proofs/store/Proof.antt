@@ -1,4 +1,4 @@
--- `words::store` meets its contract: after i turns the first i of the words are put.
+-- `words::store` meets its contract: after i iterations the first i of the words are put.
 -- Assumes nothing.
 use Prim.Native.Nat.{ℕ, _+_, _-_, _≤_}
 use mathlib.Core.Path.{_≡_, refl, ap, _∙_}

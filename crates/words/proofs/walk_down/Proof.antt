@@ -1,4 +1,4 @@
--- `words::walk_down` meets its contract: after i turns the first i words are put, and those that are read still stand.
+-- `words::walk_down` meets its contract: after i iterations the first i words are put, and those that are read still stand.
 -- Assumes nothing.
 use Prim.Native.Nat.{ℕ, _+_, _-_, _≤_}
 use mathlib.Core.Path.{_≡_, refl, ap, _∙_}

@@ -3,11 +3,11 @@ use super::Fault;
 use crate::call::{Buffer, Call, Reply};
 use crate::generate::states::arrange;
 use crate::model::{
-    NO_SPACE, UNFIT_BUFFER, UNFIT_REQUEST, UNFIT_STATE, model, outcome, passes, settle,
+    INVALID, NO_SPACE, UNFIT_BUFFER, UNFIT_REQUEST, UNFIT_STATE, model, outcome, passes, settle,
 };
 use crate::words::{EVENT_BUFFER, LIMITS, STATE_WORDS, decode, encode, encode_into};
 use crate::{fit, well_formed};
-use reference::{Answer, Lists};
+use reference::{Answer, Lists, Outcome};
 
 pub const FAULTS: &[Fault] = &[
     Fault::new("203 with free rows", space_to_spare),
@@ -31,6 +31,13 @@ pub const FAULTS: &[Fault] = &[
         "an absent value in a request not looked at",
         absent_unchecked,
     ),
+    Fault::new("preferred equal to valid refused", equal_lifetimes),
+    Fault::new("valid 0 taken where preferred is 0 too", zero_taken),
+    Fault::new("22 before 202", lifetimes_first),
+    Fault::new("22 after 203", space_first),
+    Fault::new("22 after 17", there_already_first),
+    Fault::new("lifetimes not looked at in a change", change_unchecked),
+    Fault::new("a state refused for a row's lifetimes", row_lifetimes),
 ];
 
 fn space_to_spare(call: &Call, state: &mut [u32], buffer: &mut [u32]) -> Reply {
@@ -127,7 +134,7 @@ fn denied(call: &Call, state: &mut [u32], buffer: &mut [u32]) -> Reply {
 fn request_first(call: &Call, state: &mut [u32], buffer: &mut [u32]) -> Reply {
     let reply = model(call, state, buffer);
     let hands_row = matches!(call, Call::Source4 { .. } | Call::Left { .. });
-    if reply.number == UNFIT_STATE && !hands_row && fit::request(call).is_none() {
+    if reply.number == UNFIT_STATE && !hands_row && !fit::fits(call) {
         return Reply::refused(UNFIT_REQUEST);
     }
     reply
@@ -234,4 +241,83 @@ fn absent_unchecked(call: &Call, state: &mut [u32], buffer: &mut [u32]) -> Reply
         }
     }
     model(&mended, state, buffer)
+}
+
+/// The lifetimes that a request for an address asks for, valid and preferred.
+fn lifetimes(call: &Call) -> Option<[u32; 2]> {
+    match call {
+        Call::AddV4 { request, .. } if call.request_whole() => Some([request[14], request[15]]),
+        _ => None,
+    }
+}
+
+fn equal_lifetimes(call: &Call, state: &mut [u32], buffer: &mut [u32]) -> Reply {
+    let equal = lifetimes(call).is_some_and(|[valid, preferred]| valid == preferred);
+    if equal && outcome(call, state, buffer.len()).is_ok() {
+        return Reply::refused(INVALID);
+    }
+    model(call, state, buffer)
+}
+
+fn lifetimes_first(call: &Call, state: &mut [u32], buffer: &mut [u32]) -> Reply {
+    let reply = model(call, state, buffer);
+    let refused = |[valid, preferred]: [u32; 2]| valid == 0 || preferred > valid;
+    if reply.number == UNFIT_REQUEST && lifetimes(call).is_some_and(refused) {
+        return Reply::refused(INVALID);
+    }
+    reply
+}
+
+/// What the Rust makes of lifetimes for which the model gives 22.
+fn taken(call: &Call, state: &[u32], buffer: usize) -> Option<Outcome> {
+    let refused = outcome(call, state, buffer).is_err_and(|number| number == INVALID);
+    refused.then(|| reference::run(&decode(state), &fit::typed(call)))
+}
+
+/// Goes on with lifetimes that are refused.
+fn take(call: &Call, state: &mut [u32], buffer: &mut [u32]) -> Reply {
+    match taken(call, state, buffer.len()) {
+        Some(o) if passes(o.peaks) => Reply::refused(NO_SPACE),
+        Some(o) => settle(call, &o, state, buffer),
+        None => model(call, state, buffer),
+    }
+}
+
+fn zero_taken(call: &Call, state: &mut [u32], buffer: &mut [u32]) -> Reply {
+    if lifetimes(call) == Some([0, 0]) {
+        return take(call, state, buffer);
+    }
+    model(call, state, buffer)
+}
+
+fn space_first(call: &Call, state: &mut [u32], buffer: &mut [u32]) -> Reply {
+    match taken(call, state, buffer.len()) {
+        Some(o) if passes(o.peaks) => Reply::refused(NO_SPACE),
+        _ => model(call, state, buffer),
+    }
+}
+
+fn there_already_first(call: &Call, state: &mut [u32], buffer: &mut [u32]) -> Reply {
+    match taken(call, state, buffer.len()).map(|o| o.answer) {
+        Some(Answer::Refused(number)) => Reply::refused(number),
+        _ => model(call, state, buffer),
+    }
+}
+
+fn change_unchecked(call: &Call, state: &mut [u32], buffer: &mut [u32]) -> Reply {
+    match call {
+        Call::AddV4 { request, .. } if call.request_whole() && request[16] == 1 => {
+            take(call, state, buffer)
+        }
+        _ => model(call, state, buffer),
+    }
+}
+
+/// The rule is about requests: a state may hold such rows.
+fn row_lifetimes(call: &Call, state: &mut [u32], buffer: &mut [u32]) -> Reply {
+    let read = !matches!(call, Call::Left { .. }) && outcome(call, state, buffer.len()).is_ok();
+    if read && decode(state).addresses.iter().any(|a| a[15] > a[14]) {
+        return Reply::refused(UNFIT_STATE);
+    }
+    model(call, state, buffer)
 }

@@ -140,8 +140,7 @@ fn add_v4(rng: &mut Rng, lists: &Lists, host: &Host) -> Call {
     w[7] = rng.pick(&pools::PROTOS);
     w[8..13].copy_from_slice(&pools::label(rng));
     w[13] = rng.pick(&pools::PRIORITIES);
-    w[14] = rng.pick(&pools::LIVES);
-    w[15] = rng.pick(&pools::LIVES);
+    w[14..16].copy_from_slice(&pools::lifetimes(rng));
     w[16] = rng.below(2) as u32;
     w[17] = u32::from(host.up ^ rng.one_in(8));
     Call::AddV4 {

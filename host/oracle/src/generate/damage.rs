@@ -207,6 +207,10 @@ pub fn edges(rng: &mut Rng, lists: &Lists, host: &mut Host) -> Vec<Call> {
                 let mut call = calls::of_kind(rng, code, lists, host);
                 if let Some(lent) = call.lent_mut() {
                     lent[*at] = value;
+                    if code == 3 {
+                        // lifetimes that are refused would hide a field that is taken
+                        lent[14..16].fill(pools::FOREVER);
+                    }
                 }
                 made.push(call);
             }

@@ -2,7 +2,10 @@
 pub mod calls;
 pub mod cases;
 pub mod damage;
+pub mod drafts;
 pub mod limits;
+pub mod message_damage;
+pub mod messages;
 pub mod pools;
 pub mod requests;
 pub mod states;

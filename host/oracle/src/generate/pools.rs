@@ -109,6 +109,17 @@ pub fn label(rng: &mut Rng) -> [u32; 5] {
     })
 }
 
+/// What a request asks for, valid and preferred: mostly lifetimes that Linux
+/// takes, preferred at most valid and valid not 0, at times any.
+pub fn lifetimes(rng: &mut Rng) -> [u32; 2] {
+    let [a, b] = [rng.pick(&LIVES), rng.pick(&LIVES)];
+    match rng.below(24) {
+        0..5 => [a, b],
+        5 => [0, 0],
+        _ => [a.max(b).max(1), a.min(b)],
+    }
+}
+
 /// Seventeen metrics: mostly none.
 pub fn metrics(rng: &mut Rng) -> [u32; 17] {
     let mut metrics = [0; 17];

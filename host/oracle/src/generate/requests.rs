@@ -63,10 +63,11 @@ fn route_words(rng: &mut Rng, lists: &Lists) -> [u32; 12] {
     w
 }
 
-/// A gateway that a row of a narrower scope reaches, if there is one, often
-/// with the row's own table.
+/// A gateway that a row of a narrower scope reaches, or one that rejects, if
+/// there is one, often with the row's own table.
 fn gateway(rng: &mut Rng, lists: &Lists, w: &mut [u32; 12]) {
-    let near: Vec<&RouteRow> = lists.routes.iter().filter(|r| r[7] > w[7]).collect();
+    let met = |r: &&RouteRow| r[7] > w[7] || r[5] >= 6;
+    let near: Vec<&RouteRow> = lists.routes.iter().filter(met).collect();
     if near.is_empty() || rng.one_in(5) {
         w[10..].copy_from_slice(&maybe_address(rng, lists));
         return;

@@ -13,6 +13,7 @@ pub fn all() -> Vec<Sequence> {
         (words::empty(), first()),
         (words::empty(), gateways()),
         (words::empty(), forever()),
+        (words::empty(), lifetimes()),
         before_its_primary(),
     ];
     for routes in 252..=256 {
@@ -21,11 +22,20 @@ pub fn all() -> Vec<Sequence> {
         let request = script::address("10.1.0.5/24").up().words();
         sequences.push((state, vec![Call::AddV4 { request, now: 0 }]));
     }
+    // 22 comes before 203
+    let ends = NewAddress {
+        valid: 1,
+        preferred: 2,
+        ..script::address("10.1.0.5/24").up()
+    };
+    let request = ends.words();
+    sequences.push((many_routes(256), vec![Call::AddV4 { request, now: 0 }]));
     sequences
 }
 
 /// Document 01's first example, then each kind that rejects, in both sets of
-/// tables: met by a lookup, by a flow and by a gateway's lookup.
+/// tables: met by a lookup, by a flow and by a gateway's lookup; a deletion
+/// that is refused.
 fn first() -> Vec<Call> {
     let mut calls = vec![Call::Up { now: 0 }, Call::Up { now: 1 }, Call::Dump4];
     for (kind, dst) in [(6, "10.6.0.0/16"), (7, "10.7.0.0/16"), (8, "10.8.0.0/16")] {
@@ -50,6 +60,10 @@ fn first() -> Vec<Call> {
     calls.extend([
         add(script::route("10.0.0.0/8").rejecting(9)),
         Call::Lookup4 { ip },
+        // bits outside its length
+        Call::DelRoute4 {
+            request: script::any("10.2.0.1/24").deleting(),
+        },
     ]);
     calls
 }
@@ -79,7 +93,7 @@ fn gateways() -> Vec<Call> {
     calls
 }
 
-/// Lifetimes that never end leave the stored seconds.
+/// Lifetimes that never end leave the stored seconds; the third is refused.
 fn forever() -> Vec<Call> {
     let some = NewAddress {
         valid: 10,
@@ -107,6 +121,29 @@ fn forever() -> Vec<Call> {
         now,
     };
     (1..).zip(lifetimes).map(at).collect()
+}
+
+/// Both sides of what Linux turns down, of an address that isn't there and of
+/// one that is, unfit and replacing.
+fn lifetimes() -> Vec<Call> {
+    let mut calls = Vec::new();
+    for replace in [false, true] {
+        for prefix in [33, 24] {
+            for (valid, preferred) in [(0, 0), (0, 1), (1, 0), (1, 1), (1, 2), (9, script::FOREVER)]
+            {
+                let new = NewAddress {
+                    valid,
+                    preferred,
+                    prefix,
+                    replace,
+                    ..script::address("10.1.0.5/24").up()
+                };
+                let request = new.words();
+                calls.push(Call::AddV4 { request, now: 0 });
+            }
+        }
+    }
+    calls
 }
 
 /// A secondary that stands before its primary goes with it, and the addresses

@@ -6,7 +6,7 @@ use native.Mathlib.Omega.{arith}
 use borrow.Author.Tests.{not-true, not-false}
 use Rattle.call_reply.specs.Answer.{numbersIn}
 use Rattle.interface4.specs.Made.{made-gave}
-use Rattle.interface4.specs.Changing.{changeFits, Fits, fits, changed-no, told-room, still, changed-yes}
+use Rattle.interface4.specs.Changing.{changeFits, EnoughBytes, fits, changed-no, emitted-room, still, changed-yes}
 use borrow.Author.Needs.{needs}
 use Rattle.interface4.proofs.changing.change.Statement.{statement}
 use Rattle.interface4.proofs.changing.change.Tie as tie
@@ -18,7 +18,7 @@ start c = c .before .before .before .before
 fit : (c : tie.Else1) → changeFits (start c .args .size) (start c .args .request .now) (start c .args .state .now) (start c .args .events .now) ≡ true
 fit c = not-false _ (c .if1 .left)
 
-there : (c : tie.Else1) → Fits (start c .args .size) (start c .args .request .now) (start c .args .state .now) (start c .args .events .now)
+there : (c : tie.Else1) → EnoughBytes (start c .args .size) (start c .args .request .now) (start c .args .state .now) (start c .args .events .now)
 there c = fits _ _ _ _ (fit c)
 
 mul-if1 : tie.Need-mul-if1
@@ -95,7 +95,7 @@ give-rows-requires c κs =
     let at-request = at-state .before .before .before .before in
     let at-test = at-request .before .before in
     let a = start at-test .args in
-    let room = told-room (a .code) (a .size) (a .request .now) (a .state .now) (a .events .now) (a .clock) (start at-test .pre) (fit at-test) _ _
+    let room = emitted-room (a .code) (a .size) (a .request .now) (a .state .now) (a .events .now) (a .clock) (start at-test .pre) (fit at-test) _ _
     (at-request .words-of .ensures) (at-state .words-of2 .ensures) refl (made-gave (at-change .change .ensures)) in
     (room .0, omega (arith, room .1, there at-test .events))
 

@@ -12,7 +12,7 @@ use Rattle.definition_bytes.specs.Bytes.{with}
 use Rattle.call_reply.specs.Answer.{numbersIn}
 use lib.Dec.{eqb}
 use Rattle.layout.specs.Route as Route
-use Rattle.interface4.specs.Reading.{Fits, fits, found-no, one, found-yes}
+use Rattle.interface4.specs.Reading.{EnoughRoom, fits, found-no, one, found-yes}
 use borrow.Author.Needs.{needs}
 use Rattle.interface4.proofs.reading.find.Statement.{statement}
 use Rattle.interface4.proofs.reading.find.Tie as tie
@@ -24,7 +24,7 @@ start c = c .before .before .before
 fit : (c : tie.Else1) → with (start c .args .state .now) (4 * Route.size) (length (start c .args .row .now)) ≡ true
 fit c = not-false _ (c .if1 .left)
 
-there : (c : tie.Else1) → Fits (4 * Route.size) (start c .args .state .now) (start c .args .row .now)
+there : (c : tie.Else1) → EnoughRoom (4 * Route.size) (start c .args .state .now) (start c .args .row .now)
 there c = fits _ _ _ (fit c)
 
 refused-requires : tie.Need-refused-requires

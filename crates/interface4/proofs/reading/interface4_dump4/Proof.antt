@@ -11,7 +11,7 @@ use Rattle.definition.specs.Words.{stateSize}
 use Rattle.definition_bytes.specs.Bytes.{with}
 use Rattle.call_reply.specs.Answer.{numbersIn}
 use Rattle.definition.specs.Step.{listingRoom}
-use Rattle.interface4.specs.Reading.{Fits, fits, listed-no, listing-room, listed-yes}
+use Rattle.interface4.specs.Reading.{EnoughRoom, fits, listed-no, listing-room, listed-yes}
 use borrow.Author.Needs.{needs}
 use Rattle.interface4.proofs.reading.interface4_dump4.Statement.{statement}
 use Rattle.interface4.proofs.reading.interface4_dump4.Tie as tie
@@ -23,7 +23,7 @@ start c = c .before .before .before
 fit : (c : tie.Else1) → with (start c .args .state .now) (4 * listingRoom) (length (start c .args .listing .now)) ≡ true
 fit c = not-false _ (c .if1 .left)
 
-there : (c : tie.Else1) → Fits (4 * listingRoom) (start c .args .state .now) (start c .args .listing .now)
+there : (c : tie.Else1) → EnoughRoom (4 * listingRoom) (start c .args .state .now) (start c .args .listing .now)
 there c = fits _ _ _ (fit c)
 
 refused-requires : tie.Need-refused-requires

@@ -1,0 +1,67 @@
+use native.Mathlib.Omega.{arith}
+use denote.Ref.{now}
+use mathlib.Core.Path.{_∙_}
+use Rattle.netlink_request.specs.Laws.{missing, present}
+use borrow.Author.Needs.{needs}
+use Rattle.netlink_request.proofs.number_at.Statement.{statement}
+use Rattle.netlink_request.proofs.number_at.Tie as tie
+
+mul-start : tie.Need-mul-start
+mul-start c = search needs
+
+element-copy-out-start : tie.Need-element-copy-out-start
+element-copy-out-start c = search needs
+
+returns : tie.Need-returns
+returns c =
+    let at-start = c .before .before .before in
+    let a = at-start .args in
+    rw (missing (now (a .l)) (now (a .starts)) (now (a .sizes)) (at-start .pre .0) (a .k) (at-start .pre .1) (c .if1 .taken))
+
+mul-end : tie.Need-mul-end
+mul-end c = search needs
+
+element-copy-out-end : tie.Need-element-copy-out-end
+element-copy-out-end c = search needs
+
+add-end : tie.Need-add-end
+add-end c =
+    let at-start = c .before .before .before .before in
+    omega (arith, at-start .pre .0 .inside (at-start .args .k))
+
+sub-word : tie.Need-sub-word
+sub-word c = search needs
+
+part-word-start : tie.Need-part-word-start
+part-word-start c = search needs
+
+part-word-end : tie.Need-part-word-end
+part-word-end c =
+    let at-start = c .before .before .before .before in
+    omega (arith, at-start .pre .0 .inside (at-start .args .k))
+
+word-requires : tie.Need-word-requires
+word-requires c κs = search needs
+
+returns-2 : tie.Need-returns-2
+returns-2 c =
+    let at-choice = c .before .before .before in
+    let at-start = at-choice .before .before .before in
+    let a = at-start .args in
+    rw (present (now (a .l)) (now (a .starts)) (now (a .sizes)) (at-start .pre .0) (a .k) (at-start .pre .1) (at-choice .if1 .left)) (c .word .ensures)
+
+pub number-at-spec : {M : Type 1} → statement M
+number-at-spec =
+    tie.close
+    (tie.spec
+    mul-start
+    element-copy-out-start
+    returns
+    mul-end
+    element-copy-out-end
+    add-end
+    sub-word
+    part-word-start
+    part-word-end
+    word-requires
+    returns-2)
