@@ -204,7 +204,9 @@ static void gateways(void)
 static size_t attribute(size_t at, unsigned code, unsigned size)
 {
   message[at] = (uint8_t)(4 + size);
+  message[at + 1] = 0;
   message[at + 2] = (uint8_t)code;
+  message[at + 3] = 0;
   memset(message + at + 4, 'x', size);
   return at + 4 + size;
 }
