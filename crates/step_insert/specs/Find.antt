@@ -98,7 +98,7 @@ module _ (new : Row) where
           or-case (inRun new r) (inFront new r && eqb start i) on
           (λ e. rw (run-not-front r e, add-zero) (in-run e))
           (λ e. let f = and-left (inFront new r) (eqb start i) e in
-              rw f (in-front f (eqb-true start i (and-right (inFront new r) (eqb start i) e))))
+          rw f (in-front f (eqb-true start i (and-right (inFront new r) (eqb start i) e))))
         where
           in-run : inRun new r ≡ true → Sofar l (i + 1) start
           in-run e =

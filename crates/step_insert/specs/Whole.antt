@@ -48,8 +48,8 @@ unfolding alike
 key-after new r h k =
     test-case (before (key new) (key r)) (λ e. key-before new r e)
     (λ e. let m = simp and-iff at (level-alike (key new) (key r) e h) in
-        let same : inRun new r ≡ true = simp and-iff (m .0 .0 .0 .0, (m .0 .0 .0 .1, (m .0 .0 .1, refl))) in
-        absurd (true-false (inRun new r) same k))
+    let same : inRun new r ≡ true = simp and-iff (m .0 .0 .0 .0, (m .0 .0 .0 .1, (m .0 .0 .1, refl))) in
+    absurd (true-false (inRun new r) same k))
 
 -- ---- lists
 -- those counted pass
@@ -129,9 +129,9 @@ module _ (new : Row) (l : List Row) (o : ordered l ≡ true) where
           ∙ all-cons (λ r. not (inFront new r)) y rest first
           (all-mono (λ z. not (before z y)) (λ r. not (inFront new r)) rest
           (λ z e. not-so (inFront new z)
-              (λ f. test-case (before (key z) (key y))
-                  (λ g. not-both (before z y) (key-before z y g) e)
-                  (λ g. not-both (inFront new y) (before-between (key z) (key y) (key new) f g) first)))
+          (λ f. test-case (before (key z) (key y))
+          (λ g. not-both (before z y) (key-before z y g) e)
+          (λ g. not-both (inFront new y) (before-between (key z) (key y) (key new) f g) first)))
           later)
 
   all-behind : all (before new) (drop k onwards) ≡ true
@@ -169,7 +169,7 @@ module _ (new : Row) (l : List Row) (o : ordered l ≡ true) where
   whole-run : (start end : ℕ) (there : Bool) → Run new (between s (runEnd new l) l) start end there → Run new l (s + start) (s + end) there
   whole-run start end there r =
       let not-after : all (λ x. not (before new x)) (take s l) ≡ true =
-          all-mono (λ x. before x new) (λ x. not (before new x)) (take s l) (λ x h. false-not (before new x) (before-not-after new x h)) all-front
+      all-mono (λ x. before x new) (λ x. not (before new x)) (take s l) (λ x h. false-not (before new x) (before-not-after new x h)) all-front
       in
       let ahead = count-all (λ x. before x new) (take s l) all-front in
       let apart = count-apart (before new) (λ x. before x new) (drop k onwards) (after-not-before new) all-behind in
@@ -185,8 +185,8 @@ module _ (new : Row) (l : List Row) (o : ordered l ≡ true) where
             ∙ sym (ap (any (eqRow new)) cut
             ∙ any-joined (eqRow new) (take s l) (between s (runEnd new l) l ++ drop k onwards)
             ∙ rw none-front
-          (any-joined (eqRow new) (between s (runEnd new l) l) (drop k onwards)
-          ∙ rw none-behind (or-false (any (eqRow new) (between s (runEnd new l) l)))));
+            (any-joined (eqRow new) (between s (runEnd new l) l) (drop k onwards)
+            ∙ rw none-behind (or-false (any (eqRow new) (between s (runEnd new l) l)))));
       }
 
 -- ---- over words: the run as it is lent

@@ -52,11 +52,12 @@ returns c =
     let k = row .before .before .before in
     let s = k .before .before .before in
     let a = s .args in
-    let goes-on = row .see .result .«in_run» || (row .see .result .«in_front» && eqb (k .loop .start) (k .loop .end)) in
-    ( λ l h.
+    let goes-on = row .see .result .«in_run» || (row .see .result .«in_front» && eqb (k .loop .start) (k .loop .end)) in (
+      λ l h.
           pass-found (a .new .now) (a .rows .now) (a .n) (s .pre .0 .0) l h (k .loop .end) (k .loop .start) (k .loop .inv .2 l h)
           (row .before .before .loop-test .taken) (rw (row .see .ensures .0, row .see .ensures .1) at (not-true goes-on (c .if1 .taken))),
-      search needs)
+      search needs,
+    )
 
 one-if-requires : tie.Need-one-if-requires Inv-loop μ-loop
 one-if-requires c κs = search needs
@@ -78,23 +79,25 @@ loop-again c =
     let k = row .before .before .before in
     let s = k .before .before .before in
     let a = s .args in
-    let goes-on = row .see .result .«in_run» || (row .see .result .«in_front» && eqb (k .loop .start) (k .loop .end)) in
-    ( search needs,
+    let goes-on = row .see .result .«in_run» || (row .see .result .«in_front» && eqb (k .loop .start) (k .loop .end)) in (
+      search needs,
       omega (arith, c .one-if .ensures, tick-most (row .see .result .«in_front»)),
       λ l h.
           rw (c .one-if .ensures, row .see .ensures .0)
           (pass-more (a .new .now) (a .rows .now) (a .n) (s .pre .0 .0) l h (k .loop .end) (k .loop .start) (k .loop .inv .2 l h)
-          (row .before .before .loop-test .taken) (rw (row .see .ensures .0, row .see .ensures .1) at (not-false goes-on (c .before .if1 .left)))))
+          (row .before .before .loop-test .taken) (rw (row .see .ensures .0, row .see .ensures .1) at (not-false goes-on (c .before .if1 .left)))),
+    )
 
 returns-2 : tie.Need-returns-2 Inv-loop μ-loop
 returns-2 c =
     let k = c .before in
     let s = k .before .before .before in
-    let a = s .args in
-    ( λ l h.
+    let a = s .args in (
+      λ l h.
           pass-all (a .new .now) (a .rows .now) (a .n) (s .pre .0 .0) l h (k .loop .end) (k .loop .start) (k .loop .inv .2 l h)
           (k .loop .inv .0) (c .loop-test .left),
-      search needs)
+      search needs,
+    )
 
 pub find-run-spec : {M : Type 1} → statement M
 find-run-spec =

@@ -61,11 +61,12 @@ returns c =
     let start = run .start + alike .start in
     let end = run .start + alike .end in
     let here = own-run (a .rows .now) (a .n) (s .pre .0 .0) (run .start) (run .end) (within .0) (within .1)
-        (a .new .now) (run .read) (found .find-run .ensures .0) (alike .start) (alike .end) (alike .there) (at-alike .alike4 .ensures .0)
+    (a .new .now) (run .read) (found .find-run .ensures .0) (alike .start) (alike .end) (alike .there) (at-alike .alike4 .ensures .0)
     in
-    rw (c .created .ensures)
-    ( placed-created (a .n) (a .flags) start 0x600 (omega (arith, within, at-alike .alike4 .ensures .1)),
-      λ l h o. none-planned (a .new .now) (a .flags) l start end (alike .there) (here l h o) o (c .before .if1 .taken))
+    rw (c .created .ensures) (
+      placed-created (a .n) (a .flags) start 0x600 (omega (arith, within, at-alike .alike4 .ensures .1)),
+      λ l h o. none-planned (a .new .now) (a .flags) l start end (alike .there) (here l h o) o (c .before .if1 .taken),
+    )
 
 mul-at : tie.Need-mul-at
 mul-at c = search needs
@@ -104,12 +105,12 @@ returns-2 c =
     let start = run .start + alike .start in
     let end = run .start + alike .end in
     let here = own-run (a .rows .now) (a .n) (s .pre .0 .0) (run .start) (run .end) (within .0) (within .1)
-        (a .new .now) (run .read) (found .find-run .ensures .0) (alike .start) (alike .end) (alike .there) (at-alike .alike4 .ensures .0)
+    (a .new .now) (run .read) (found .find-run .ensures .0) (alike .start) (alike .end) (alike .there) (at-alike .alike4 .ensures .0)
     in
     let more = some-alike .if1 .left in
     rw (c .among .ensures) (
       placed-among (a .n) (a .flags) start end (alike .there) (c .before .same-words .result)
-      (omega (arith, within, at-alike .alike4 .ensures .1, more)) (omega (arith, within, at-alike .alike4 .ensures .1)),
+          (omega (arith, within, at-alike .alike4 .ensures .1, more)) (omega (arith, within, at-alike .alike4 .ensures .1)),
       λ l h o.
           some-planned (a .new .now) (a .flags) l start end (alike .there) (here l h o) o more (c .before .same-words .result)
           (c .before .same-words .ensures
