@@ -24,6 +24,9 @@ const USAGE: &str = "usage: oracle COMMAND
   cases N SEED [--large PERCENT]
                          prints N random cases as JSON lines
   message-cases N SEED   prints N random messages as JSON lines
+  message-list N SEED FOLDER
+                         writes a list of N messages, and what is to be
+                         printed of them
   all                    all of examples, linux, rfc, facts, document,
                          generator, pairs, messages, selftest, and a list of
                          answers replayed";
@@ -105,6 +108,13 @@ fn command(arguments: &[String]) -> Result<bool, String> {
             [_, _] => {
                 json::messages(number(rest, 0, 0)?, number(rest, 1, SEED)?);
                 Ok(true)
+            }
+            _ => Err(USAGE.to_string()),
+        },
+        "message-list" => match rest {
+            [_, _, folder] => {
+                let (count, seed) = (number(rest, 0, 0)?, number(rest, 1, SEED)?);
+                messages::list::write(count, seed, folder).map(|()| true)
             }
             _ => Err(USAGE.to_string()),
         },

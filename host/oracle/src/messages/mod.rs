@@ -2,6 +2,7 @@
 //! they are read as, what the generator reaches, and planted faults.
 mod by_hand;
 mod linux;
+pub mod list;
 mod reach;
 mod swept;
 

@@ -54,6 +54,18 @@ fn none(message: &Message, code: u16) -> bool {
     message.all(code).next().is_none()
 }
 
+/// The kinds of reading that a message shows, by their places.
+pub fn kinds(message: &[u8], up: u32) -> Vec<usize> {
+    let (Ok((kind, words)), Ok(parts)) = (read(message, up), cut(message)) else {
+        return Vec::new();
+    };
+    let shows = |(_, of, holds): &(&str, u16, Holds)| *of == kind && holds(&parts, &words);
+    let all = KINDS_OF_READING.iter().enumerate();
+    all.filter(|(_, one)| shows(one))
+        .map(|(at, _)| at)
+        .collect()
+}
+
 /// What `count` generated messages reach; and that one without damage reads
 /// as what it was made of, and each damage alone is met by its number.
 pub fn run(count: usize, seed: u64) -> bool {
@@ -69,10 +81,8 @@ pub fn run(count: usize, seed: u64) -> bool {
         let mut request = case.request.clone();
         let number = Model.read(&case.message, &mut request, case.up).number;
         *numbers.entry(number).or_default() += 1;
-        if let (Ok((kind, words)), Ok(message)) = (&found, cut(&case.message)) {
-            for (seen, (_, of, holds)) in readings.iter_mut().zip(KINDS_OF_READING) {
-                *seen += usize::from(of == *kind && holds(&message, words));
-            }
+        for at in kinds(&case.message, case.up) {
+            readings[at] += 1;
         }
         for name in &case.damage {
             *among.entry(name).or_default() += 1;

@@ -101,7 +101,7 @@ pub fn vectors(seed: u64) -> Vec<u32> {
 
 /// What stands before a run of words so that damage to it is seen: a change
 /// of any one word changes it.
-fn check(words: &[u32]) -> u32 {
+pub fn check(words: &[u32]) -> u32 {
     words.iter().fold(1, |sum: u32, w| {
         sum.wrapping_mul(16_777_619).wrapping_add(*w)
     })
