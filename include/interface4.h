@@ -129,7 +129,7 @@ extern "C" {
 #define INTERFACE4_RTM_DELROUTE 25
 
 /* The last of document 02's papers that this header knows: see interface4_sizes. */
-#define INTERFACE4_PAPER 2
+#define INTERFACE4_PAPER 3
 
 /* A lifetime that never ends. */
 #define INTERFACE4_FOREVER UINT32_MAX

@@ -13,7 +13,7 @@ checkReply w = refusal (checks (eqb (length w) stateSize) (formed w) 0)
 
 -- the number of the last paper of document 02 that landed
 abbrev pub paper : ℕ
-paper = 2
+paper = 3
 
 -- a host asks once, and knows that it and the library mean the same words
 abbrev pub sizesReply : Reply

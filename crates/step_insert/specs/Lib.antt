@@ -1,3 +1,6 @@
-pub mod Run
-pub mod Plan
+pub mod Search
 pub mod Pass
+pub mod Find
+pub mod Run
+pub mod Whole
+pub mod Plan

@@ -1,31 +1,19 @@
--- The pass over rows laid out as words, a row at a time as a lent part.
+-- The pass over the rows of a run laid out as words, a row at a time as a lent part.
 -- Assumes nothing.
 use Prim.Native.Nat.{ℕ, _+_, _*_, _≤_, _<_}
 use native.Mathlib.Omega.{arith}
-use mathlib.Core.Path.{_≡_, sym, ap}
+use mathlib.Core.Path.{_≡_}
 use mathlib.Core.Bool.{Bool, true, false, _||_}
 use mathlib.Core.List.{List, []}
 use lib.ListN.{length, getD}
 use lib.Dec.{lit<}
-use borrow.Author.Tests.{lt-ltb}
 use Rattle.lists.specs.Lists.{Row, eqRow}
-use Rattle.lists.specs.Bools.{fails}
-use Rattle.lists.specs.All.{eqRow-true}
 use Rattle.lists.specs.Count.{tick}
 use Rattle.lists.specs.Laid.{Laid, laid-part}
 use Rattle.lists.specs.Pass.{part, laid-rows}
-use Rattle.layout.specs.Route.{before, dst, fitRoute}
+use Rattle.layout.specs.Route.{before, fitRoute}
 use Rattle.definition.specs.Words.{ordered}
-use Rattle.definition.specs.Preservation.Order.{before-never}
 use Rattle.step_insert.specs.Run.{LoopInvariant, Run, sofar-next, sofar-stop, sofar-end}
-
--- rows with different destinations differ
-pub not-same : (a b : Row) → (dst a ≡ dst b → ⊥) → false ≡ eqRow a b
-not-same a b h = sym (fails (eqRow a b) (λ e. h (ap dst (eqRow-true a b e))))
-
-lower-before : (a b : Row) → dst a < dst b → before a b ≡ true
-unfolding before
-lower-before a b h = rw (lt-ltb (dst a) (dst b) h)
 
 module _ (w : List ℕ) (n : ℕ) (long : length w ≡ 32 * n) where
   pub part-row : (l : List Row) → Laid 32 fitRoute w l → (i : ℕ) → i < n → part 32 w i ≡ getD l i []
@@ -35,14 +23,6 @@ module _ (w : List ℕ) (n : ℕ) (long : length w ≡ 32 * n) where
     pub pass-next : i < n → before new (part 32 w i) ≡ false → LoopInvariant new l (i + 1) (start + tick (before (part 32 w i) new)) (there || eqRow new (part 32 w i))
     pass-next b e =
         rw (part-row l h i b) (sofar-next new l i start there s (omega (arith, laid-rows w n (lit< tt) long l h)) (rw (part-row l h i b) at e))
-
-    -- a row to a lower destination
-    pub pass-lower : i < n → dst (part 32 w i) < dst new → start ≡ i → there ≡ false → LoopInvariant new l (i + 1) (i + 1) false
-    pass-lower b d e f =
-        let r : Row = part 32 w i in
-        let front : before r new ≡ true = lower-before r new d in
-        let m : LoopInvariant new l (i + 1) (start + tick (before r new)) (there || eqRow new r) = pass-next b (fails (before new r) (λ k. before-never r new front k)) in
-        rw (front, f, ← (not-same new r (λ k. omega (arith, k))), e) at m
 
     pub pass-stop : i < n → before new (part 32 w i) ≡ true → ordered l ≡ true → Run new l start i there
     pass-stop b e o = sofar-stop new l i start there s (omega (arith, laid-rows w n (lit< tt) long l h)) o (rw (part-row l h i b) at e)

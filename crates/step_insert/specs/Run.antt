@@ -9,7 +9,7 @@ use lib.Dec.{ltb}
 use lib.ListN.{length, getD, take, drop, take-append-drop}
 use lib.Seq.{drop-cons, take-all, length-take-le}
 use Rattle.lists.specs.Lists.{Row, all, any, eqRow, pairwise}
-use Rattle.lists.specs.Bools.{test-case, fails, true-false, or-case, not-both, false-not}
+use Rattle.lists.specs.Bools.{test-case, fails, true-false, or-case, not-both, false-not, contrary}
 use Rattle.lists.specs.All.{all-mono, all-cons, eqRow-true, pairwise-head, pairwise-tail}
 use Rattle.lists.specs.At.{insertAt}
 use Rattle.lists.specs.Count.{tick, tick-one, tick-none, count, count-append, count-apart, count-most}
@@ -35,10 +35,10 @@ pub record Run (new : Row) (l : List Row) (start end : ℕ) (there : Bool) : Typ
 
 module _ (new : Row) where
   -- ---- a row is before the new one, alike, or after it
-  before-not-after : (r : Row) → before r new ≡ true → before new r ≡ false
+  pub before-not-after : (r : Row) → before r new ≡ true → before new r ≡ false
   before-not-after r h = fails (before new r) (λ e. before-never r new h e)
 
-  after-not-before : (r : Row) → before new r ≡ true → before r new ≡ false
+  pub after-not-before : (r : Row) → before new r ≡ true → before r new ≡ false
   after-not-before r h = fails (before r new) (λ e. before-never r new e h)
 
   before-not-alike : (r : Row) → before r new ≡ true → alike new r ≡ false
@@ -48,9 +48,14 @@ module _ (new : Row) where
   after-not-alike r h =
       fails (alike new r) (λ e. let k = alike-before r new r (alike-sym new r e) h in before-never r r k k)
 
-  after-not-equal : (r : Row) → before new r ≡ true → eqRow new r ≡ false
-  after-not-equal r h =
-      fails (eqRow new r) (λ e. true-false (alike new r) (rw (← eqRow-true new r e) (alike-refl new)) (after-not-alike r h))
+  equal-alike : (r : Row) → eqRow new r ≡ true → alike new r ≡ true
+  equal-alike r e = rw (← eqRow-true new r e) (alike-refl new)
+
+  pub before-not-equal : (r : Row) → before r new ≡ true → eqRow new r ≡ false
+  before-not-equal r h = contrary (eqRow new r) (alike new r) (equal-alike r) (before-not-alike r h)
+
+  pub after-not-equal : (r : Row) → before new r ≡ true → eqRow new r ≡ false
+  after-not-equal r h = contrary (eqRow new r) (alike new r) (equal-alike r) (after-not-alike r h)
 
   one-of-three : (r : Row) → tick (not (before new r)) ≡ tick (before r new) + tick (alike new r)
   one-of-three r =
@@ -65,6 +70,15 @@ module _ (new : Row) where
   all-after x l h k =
       all-mono (λ y. not (before y x)) (before new) l
       (λ y e. test-case (before new y) (λ f. f) (λ f. absurd (not-both (before y x) (before-between new y x h f) e))) k
+
+  pub after-from : (l : List Row) (i : ℕ) → ordered l ≡ true → i < length l → before new (getD l i []) ≡ true → all (before new) (drop i l) ≡ true
+  unfolding ordered
+  after-from l i o h e =
+      let x = getD l i [] in
+      let rest = drop (suc i) l in
+      let d : drop i l ≡ x ∷ rest = drop-cons l i [] h in
+      let p : pairwise (λ a b. not (before b a)) (x ∷ rest) ≡ true = rw d at (pairwise-drop (λ a b. not (before b a)) i l o) in
+      ap (all (before new)) d ∙ all-cons (before new) x rest e (all-after x rest e (pairwise-head (λ a b. not (before b a)) x rest p))
 
   -- behind a row not before it, none is
   none-before : (x : Row) (l : List Row) → before x new ≡ false → all (λ y. not (before y x)) l ≡ true → count (λ r. before r new) l ≡ 0
@@ -97,15 +111,8 @@ module _ (new : Row) where
         }
 
     pub sofar-stop : i < length l → ordered l ≡ true → before new (getD l i []) ≡ true → Run new l start i there
-    unfolding ordered
     sofar-stop h o e =
-        let x = getD l i [] in
-        let rest = drop (suc i) l in
-        let d : drop i l ≡ x ∷ rest = drop-cons l i [] h in
-        let p : pairwise (λ a b. not (before b a)) (x ∷ rest) ≡ true = rw d at (pairwise-drop (λ a b. not (before b a)) i l o) in
-        let after : all (before new) (drop i l) ≡ true =
-        ap (all (before new)) d ∙ all-cons (before new) x rest e (all-after x rest e (pairwise-head (λ a b. not (before b a)) x rest p))
-        in
+        let after : all (before new) (drop i l) ≡ true = after-from l i o h e in
         let long : length (take i l) ≡ i = length-take-le i l (omega arith) in
         let cut : take i l ++ drop i l ≡ l = take-append-drop i l in
         let none : any (eqRow new) (drop i l) ≡ false = any-apart (before new) (eqRow new) (drop i l) after-not-equal after in

@@ -9,7 +9,7 @@ ghost use mathlib.Core.List.{List};
 ghost use lib.Dec.{eqb};
 ghost use lib.Bits.{bitAnd};
 ghost use lib.ListN.{length};
-ghost use Rattle.lists.specs.Lists.{Row, eqRow};
+ghost use Rattle.lists.specs.Lists.{Row};
 ghost use Rattle.lists.specs.Count.{tick};
 ghost use Rattle.lists.specs.Laid.{Laid, Lays};
 ghost use Rattle.layout.specs.Route.{fitRoute};
@@ -17,19 +17,9 @@ ghost use Rattle.definition.specs.State.{State};
 ghost use Rattle.definition.specs.Words.{ordered, fitState};
 ghost use Rattle.definition.specs.Reference.Insert.{insert4};
 ghost use Rattle.state.specs.Represents.{Represents, RepresentsSome};
-ghost use Rattle.step_insert.specs.Run.{LoopInvariant, Run};
+ghost use Rattle.step_insert.specs.Search.{inFront, inRun, runStart, runEnd, rowsRead};
+ghost use Rattle.step_insert.specs.Run.{Run};
 ghost use Rattle.step_insert.specs.Plan.{planned, placed, created, replacing, among, InsertedInto};
-
-// Whether the rows are the same.
-fn same(new: &[u32], r: &[u32]) -> bool
-    requires { ⌜ (length (now new) ≡ 32) × (length (now r) ≡ 32) ⌝ }
-    ensures { λ b. ⌜ b ≡ eqRow (now (new .entry)) (now (r .entry)) ⌝ }
-{
-    if new[route::DST] != r[route::DST] {
-        return false;
-    }
-    words::same_words(new, r)
-}
 
 fn one_if(b: bool) -> usize
     ensures { λ r. ⌜ r ≡ tick b ⌝ }
@@ -40,6 +30,77 @@ fn one_if(b: bool) -> usize
     0
 }
 
+// A row as the search for the run sees it: in front of the run, in it, or neither.
+pub struct Seen {
+    pub in_front: bool,
+    pub in_run: bool,
+}
+
+// The only reader of rows in that search: a word of a row to another destination, three at most, each once.
+fn see(r: &[u32], new: &[u32]) -> Seen
+    requires { ⌜ (length (now r) ≡ 32) × (length (now new) ≡ 32) ⌝ }
+    ensures { λ x. ⌜ x .«in_front» ≡ inFront (now (new .entry)) (now (r .entry)) ⌝ }
+    ensures { λ x. ⌜ x .«in_run» ≡ inRun (now (new .entry)) (now (r .entry)) ⌝ }
+{
+    let dst = r[route::DST];
+    if dst != new[route::DST] {
+        return Seen {
+            in_front: dst < new[route::DST],
+            in_run: false,
+        };
+    }
+    let len = r[route::LEN];
+    if len != new[route::LEN] {
+        return Seen {
+            in_front: new[route::LEN] < len,
+            in_run: false,
+        };
+    }
+    let table = r[route::TABLE];
+    Seen {
+        in_front: new[route::TABLE] < table,
+        in_run: new[route::TABLE] == table,
+    }
+}
+
+// The run of the new row's destination, length and table stands from start up to end; so many rows were read to find it.
+pub struct FoundRun {
+    pub start: usize,
+    pub end: usize,
+    pub read: usize,
+}
+
+// The search for the run: one pass from the first row, which reads no row twice, since `see` is called once for a place and the
+// place only grows. It ends with the first row after the run. The rows need not be in order.
+pub fn find_run(rows: &[u32], n: usize, new: &[u32]) -> FoundRun
+    requires { ⌜ (length (now rows) ≡ 32 * n) × Lays 32 fitRoute (now rows) ⌝ }
+    requires { ⌜ length (now new) ≡ 32 ⌝ }
+    ensures { λ r. ⌜ ((l : List Row) → Laid 32 fitRoute (now (rows .entry)) l → (r .start ≡ runStart (now (new .entry)) l) × (r .end ≡ runEnd (now (new .entry)) l) × (r .read ≡ rowsRead (now (new .entry)) l)) ⌝ }
+    ensures { λ r. ⌜ (r .start ≤ r .end) × (r .end ≤ n) ⌝ }
+{
+    let mut start = 0usize;
+    let mut end = 0usize;
+    while end < n {
+        let at = ROUTE_WORDS * end;
+        let seen = see(&rows[at..at + ROUTE_WORDS], new);
+        let goes_on = seen.in_run | (seen.in_front & (start == end));
+        if !goes_on {
+            return FoundRun {
+                start: start,
+                end: end,
+                read: end + 1,
+            };
+        }
+        start += one_if(seen.in_front);
+        end += 1;
+    }
+    FoundRun {
+        start: start,
+        end: n,
+        read: n,
+    }
+}
+
 // The rows alike the new one in table, dst, len, tos and priority stand from start up to end; whether it is there itself.
 pub struct Alike {
     pub start: usize,
@@ -47,37 +108,16 @@ pub struct Alike {
     pub there: bool,
 }
 
-// The rows in front that are to lower destinations: so many. Nearly all of a pass is this, a word a row.
-fn lower(rows: &[u32], n: usize, new: &[u32]) -> usize
-    requires { ⌜ (length (now rows) ≡ 32 * n) × Lays 32 fitRoute (now rows) ⌝ }
-    requires { ⌜ length (now new) ≡ 32 ⌝ }
-    ensures { λ r. ⌜ ((l : List Row) → Laid 32 fitRoute (now (rows .entry)) l → LoopInvariant (now (new .entry)) l r r false) ⌝ }
-    ensures { λ r. ⌜ r ≤ n ⌝ }
-{
-    let dst = new[route::DST];
-    let mut i = 0usize;
-    while i < n {
-        let at = ROUTE_WORDS * i;
-        let r = &rows[at..at + ROUTE_WORDS];
-        if dst <= r[route::DST] {
-            return i;
-        }
-        i += 1;
-    }
-    n
-}
-
-// One pass from the first row, up to the first one after the run.
+// Among the rows of a run, which are all that it is lent.
 pub fn alike4(rows: &[u32], n: usize, new: &[u32]) -> Alike
     requires { ⌜ (length (now rows) ≡ 32 * n) × Lays 32 fitRoute (now rows) ⌝ }
     requires { ⌜ length (now new) ≡ 32 ⌝ }
     ensures { λ r. ⌜ ((l : List Row) → Laid 32 fitRoute (now (rows .entry)) l → ordered l ≡ true → Run (now (new .entry)) l (r .start) (r .end) (r .there)) ⌝ }
     ensures { λ r. ⌜ (r .start ≤ r .end) × (r .end ≤ n) ⌝ }
 {
-    let front = lower(rows, n, new);
-    let mut start = front;
+    let mut start = 0usize;
     let mut there = false;
-    let mut i = front;
+    let mut i = 0usize;
     while i < n {
         let at = ROUTE_WORDS * i;
         let r = &rows[at..at + ROUTE_WORDS];
@@ -89,7 +129,7 @@ pub fn alike4(rows: &[u32], n: usize, new: &[u32]) -> Alike
             };
         }
         start += one_if(row_route::before(r, new));
-        there = there | same(new, r);
+        there = there | words::same_words(new, r);
         i += 1;
     }
     Alike {
@@ -170,21 +210,26 @@ fn among(flags: u32, start: usize, end: usize, there: bool, first: bool) -> Plan
     created(flags, start, CREATE)
 }
 
+// Behind the search only rows of the run are read.
 fn plan4(rows: &[u32], n: usize, new: &[u32], flags: u32) -> Plan
     requires { ⌜ (length (now rows) ≡ 32 * n) × Lays 32 fitRoute (now rows) ⌝ }
     requires { ⌜ length (now new) ≡ 32 ⌝ }
     ensures { λ r. ⌜ placed n r ⌝ }
     ensures { λ r. ⌜ ((l : List Row) → Laid 32 fitRoute (now (rows .entry)) l → ordered l ≡ true → planned (now (new .entry)) l r ≡ insert4 (now (new .entry)) flags l) ⌝ }
 {
-    let run = alike4(rows, n, new);
-    let start = run.start;
-    let end = run.end;
+    let run = find_run(rows, n, new);
+    let from = ROUTE_WORDS * run.start;
+    let to = ROUTE_WORDS * run.end;
+    let own = &rows[from..to];
+    let alike = alike4(own, run.end - run.start, new);
+    let start = run.start + alike.start;
+    let end = run.start + alike.end;
     if end <= start {
         return created(flags, start, CREATE | EXCL);
     }
-    let at = ROUTE_WORDS * start;
-    let first = same(new, &rows[at..at + ROUTE_WORDS]);
-    among(flags, start, end, run.there, first)
+    let at = ROUTE_WORDS * alike.start;
+    let first = words::same_words(new, &own[at..at + ROUTE_WORDS]);
+    among(flags, start, end, alike.there, first)
 }
 
 // A route put into its place: what came of it, the rows as the definition has them. A full list stays as it is.

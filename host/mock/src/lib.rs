@@ -245,7 +245,7 @@ pub mod words {
 pub extern "C" fn sizes() -> Reply {
     Reply {
         number: 0,
-        present: 2,
+        present: 3,
         value: if fault() == "other sizes" {
             9_509
         } else {

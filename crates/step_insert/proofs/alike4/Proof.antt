@@ -7,7 +7,7 @@ use Rattle.lists.specs.Laid.{Laid}
 use Rattle.lists.specs.Count.{tick-most}
 use Rattle.lists.specs.Pass.{part-width}
 use Rattle.layout.specs.Route.{fitRoute}
-use Rattle.step_insert.specs.Run.{LoopInvariant}
+use Rattle.step_insert.specs.Run.{LoopInvariant, sofar-start}
 use Rattle.step_insert.specs.Pass.{pass-next, pass-stop, pass-end}
 use borrow.Author.Needs.{needs}
 use Rattle.step_insert.proofs.alike4.Statement.{statement}
@@ -15,20 +15,17 @@ use Rattle.step_insert.proofs.alike4.Tie as tie
 use lib.Dec.{lit<}
 
 abbrev Inv-loop : tie.InvT-loop
-Inv-loop rows n new front start₀ there₀ i₀ start there i =
+Inv-loop rows n new start₀ there₀ i₀ start there i =
     (i ≤ n)
     × (start ≤ i)
     × ((l : List Row) → Laid 32 fitRoute rows l → LoopInvariant new l i start there)
 
 abbrev μ-loop : tie.MeasureT-loop
-μ-loop rows n new front start₀ there₀ i₀ start there i = n - i
-
-lower-requires : tie.Need-lower-requires Inv-loop μ-loop
-lower-requires c κs = search needs
+μ-loop rows n new start₀ there₀ i₀ start there i = n - i
 
 loop-holds : tie.Need-loop-holds Inv-loop μ-loop
 loop-holds c =
-    (search needs, search needs, c .lower .ensures .0)
+    (search needs, search needs, λ l h. sofar-start (c .before .before .args .new .now) l)
 
 mul-at : tie.Need-mul-at Inv-loop μ-loop
 mul-at c = search needs
@@ -51,21 +48,21 @@ part-r-end c = search needs
 before-requires : tie.Need-before-requires Inv-loop μ-loop
 before-requires c κs =
     let k = c .before .before in
-    let s = k .before .before .before .before in
+    let s = k .before .before .before in
     let a = s .args in
     (s .pre .1, part-width (a .rows .now) (a .n) (lit< tt) (s .pre .0 .0) (s .pre .0 .1) (k .loop .i) (c .before .loop-test .taken))
 
 returns : tie.Need-returns Inv-loop μ-loop
 returns c =
     let k = c .before .before .before .before in
-    let s = k .before .before .before .before in
+    let s = k .before .before .before in
     let a = s .args in
     (λ l h o. pass-stop (a .rows .now) (a .n) (s .pre .0 .0) (a .new .now) l h (k .loop .i) (k .loop .start) (k .loop .there) (k .loop .inv .2 l h) (c .before .before .before .loop-test .taken) (sym (c .before .before2 .ensures) ∙ c .if1 .taken) o, search needs)
 
 before-requires-2 : tie.Need-before-requires-2 Inv-loop μ-loop
 before-requires-2 c κs =
     let k = c .before .before .before .before in
-    let s = k .before .before .before .before in
+    let s = k .before .before .before in
     let a = s .args in
     (part-width (a .rows .now) (a .n) (lit< tt) (s .pre .0 .0) (s .pre .0 .1) (k .loop .i) (c .before .before .before .loop-test .taken), s .pre .1)
 
@@ -76,12 +73,8 @@ add-start : tie.Need-add-start Inv-loop μ-loop
 add-start c =
     omega (arith, c .one-if .ensures, tick-most (c .before .before3 .result))
 
-same-requires : tie.Need-same-requires Inv-loop μ-loop
-same-requires c κs =
-    let k = c .before .before .before .before .before .before in
-    let s = k .before .before .before .before in
-    let a = s .args in
-    (s .pre .1, part-width (a .rows .now) (a .n) (lit< tt) (s .pre .0 .0) (s .pre .0 .1) (k .loop .i) (c .before .before .before .before .before .loop-test .taken))
+same-words-requires : tie.Need-same-words-requires Inv-loop μ-loop
+same-words-requires c κs = search needs
 
 add-i : tie.Need-add-i Inv-loop μ-loop
 add-i c = search needs
@@ -92,14 +85,14 @@ loop-less c = search needs
 loop-again : tie.Need-loop-again Inv-loop μ-loop
 loop-again c =
     let k = c .before .before .before .before .before .before .before in
-    let s = k .before .before .before .before in
+    let s = k .before .before .before in
     let a = s .args in
-    (search needs, omega (arith, c .before .one-if .ensures, tick-most (c .before .before .before3 .result)), λ l h. rw (c .before .one-if .ensures, c .before .before .before3 .ensures, c .same .ensures) (pass-next (a .rows .now) (a .n) (s .pre .0 .0) (a .new .now) l h (k .loop .i) (k .loop .start) (k .loop .there) (k .loop .inv .2 l h) (c .before .before .before .before .before .before .loop-test .taken) (sym (c .before .before .before .before .before2 .ensures) ∙ c .before .before .before .if1 .left)))
+    (search needs, omega (arith, c .before .one-if .ensures, tick-most (c .before .before .before3 .result)), λ l h. rw (c .before .one-if .ensures, c .before .before .before3 .ensures, c .same-words .ensures) (pass-next (a .rows .now) (a .n) (s .pre .0 .0) (a .new .now) l h (k .loop .i) (k .loop .start) (k .loop .there) (k .loop .inv .2 l h) (c .before .before .before .before .before .before .loop-test .taken) (sym (c .before .before .before .before .before2 .ensures) ∙ c .before .before .before .if1 .left)))
 
 returns-2 : tie.Need-returns-2 Inv-loop μ-loop
 returns-2 c =
     let k = c .before in
-    let s = k .before .before .before .before in
+    let s = k .before .before .before in
     let a = s .args in
     (λ l h o. pass-end (a .rows .now) (a .n) (s .pre .0 .0) (a .new .now) l h (k .loop .i) (k .loop .start) (k .loop .there) (k .loop .inv .2 l h) (c .loop-test .left), search needs)
 
@@ -109,7 +102,6 @@ alike4-spec =
     (tie.spec
     Inv-loop
     μ-loop
-    lower-requires
     loop-holds
     mul-at
     add-r
@@ -122,7 +114,7 @@ alike4-spec =
     before-requires-2
     one-if-requires
     add-start
-    same-requires
+    same-words-requires
     add-i
     loop-less
     loop-again
