@@ -129,7 +129,7 @@ extern "C" {
 #define INTERFACE4_RTM_DELROUTE 25
 
 /* The last of document 02's papers that this header knows: see interface4_sizes. */
-#define INTERFACE4_PAPER 3
+#define INTERFACE4_PAPER 4
 
 /* A lifetime that never ends. */
 #define INTERFACE4_FOREVER UINT32_MAX
@@ -158,6 +158,7 @@ extern "C" {
 #define INTERFACE4_BAD_LENGTH 204          /* of a message, or in it */
 #define INTERFACE4_NOT_IPV4 205            /* a message of another type or family */
 #define INTERFACE4_BAD_ATTRIBUTE 206       /* of the wrong size; or no local address */
+#define INTERFACE4_BAD_MASK 207            /* a netmask that isn't ones, then zeros */
 
 /* What every call replies: number is 0, or a refusal and then the rest 0. */
 typedef struct interface4_reply {
@@ -189,6 +190,8 @@ typedef struct interface4_reply {
 #define INTERFACE4W_STACK_LEFT 4096
 #define INTERFACE4W_STACK_CHECK 4096
 #define INTERFACE4W_STACK_READ 4096
+#define INTERFACE4W_STACK_ADD_V4_MASK 45056
+#define INTERFACE4W_STACK_DEL_V4_MASK 4096
 #define INTERFACE4_STACK_UP 184320
 #define INTERFACE4_STACK_DOWN 40960
 #define INTERFACE4_STACK_ADD_V4 135168
@@ -206,7 +209,10 @@ typedef struct interface4_reply {
 #define INTERFACE4_STACK_LEFT 4096
 #define INTERFACE4_STACK_CHECK 40960
 #define INTERFACE4_STACK_READ 4096
+#define INTERFACE4_STACK_ADD_V4_MASK 172032
+#define INTERFACE4_STACK_DEL_V4_MASK 131072
 #define INTERFACE4_STACK_SIZES 4096
+#define INTERFACE4_STACK_PREFIX 4096
 
 /*
  * Calls that change the state. `value` is the number of rows written from
@@ -232,6 +238,19 @@ interface4_reply interface4w_del_v4(uint32_t *state, size_t state_len, const uin
                                     uint32_t *events, size_t events_len);
 interface4_reply interface4_del_v4(uint8_t *state, size_t state_len, const uint8_t *request, size_t request_len,
                                    uint8_t *events, size_t events_len);
+
+/*
+ * The same two with a netmask in the prefix's word of the request. A mask that
+ * isn't good is refused by 207, after 200 and 201 and before 202.
+ */
+interface4_reply interface4w_add_v4_mask(uint32_t *state, size_t state_len, const uint32_t *request,
+                                         size_t request_len, uint32_t *events, size_t events_len, uint64_t now);
+interface4_reply interface4_add_v4_mask(uint8_t *state, size_t state_len, const uint8_t *request, size_t request_len,
+                                        uint8_t *events, size_t events_len, uint64_t now);
+interface4_reply interface4w_del_v4_mask(uint32_t *state, size_t state_len, const uint32_t *request,
+                                         size_t request_len, uint32_t *events, size_t events_len);
+interface4_reply interface4_del_v4_mask(uint8_t *state, size_t state_len, const uint8_t *request, size_t request_len,
+                                        uint8_t *events, size_t events_len);
 
 /* Addresses whose time is up go; those past their preferred time are marked. */
 interface4_reply interface4w_expire(uint32_t *state, size_t state_len, uint32_t *events, size_t events_len,
@@ -325,6 +344,12 @@ interface4_reply interface4w_read(const uint8_t *message, size_t message_len, ui
                                   uint32_t up);
 interface4_reply interface4_read(const uint8_t *message, size_t message_len, uint8_t *request, size_t request_len,
                                  uint32_t up);
+
+/*
+ * The prefix of a netmask, `value`, the count of its ones: 255.255.255.0 is 24.
+ * 207 unless its ones and its trailing zeros together make 32. Nothing is lent.
+ */
+interface4_reply interface4_prefix(uint32_t mask);
 
 /*
  * What the library means: `value` the words of a state, `second` the fewest

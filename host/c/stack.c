@@ -22,6 +22,8 @@
 /* What a call is made with. */
 static uint32_t state[S], events[E], listing[L], row[32], own[20];
 static uint32_t add_v4[18], del_v4[11], add_route4[34], del_route4[49];
+/* The same requests for an address, with the mask of their prefix. */
+static uint32_t add_v4_mask[18], del_v4_mask[11];
 /* A message, and where it is read to. */
 static uint8_t message[176];
 static uint32_t request[INTERFACE4_REQUEST_BUFFER_WORDS];
@@ -38,6 +40,8 @@ static interface4_reply reply;
   CALL(down, (P(state), P(events)))                             \
   CALL(add_v4, (P(state), P(add_v4), P(events), now))           \
   CALL(del_v4, (P(state), P(del_v4), P(events)))                \
+  CALL(add_v4_mask, (P(state), P(add_v4_mask), P(events), now)) \
+  CALL(del_v4_mask, (P(state), P(del_v4_mask), P(events)))      \
   CALL(expire, (P(state), P(events), now))                      \
   CALL(add_route4, (P(state), P(add_route4), P(events)))        \
   CALL(del_route4, (P(state), P(del_route4), P(events)))        \
@@ -61,6 +65,7 @@ EACH(ON_WORDS)
 EACH(ON_BYTES)
 #undef P
 static void bytes_sizes(void) { reply = interface4_sizes(); }
+static void bytes_prefix(void) { reply = interface4_prefix(ip); }
 
 struct function {
   const char *name;
@@ -69,7 +74,7 @@ struct function {
 };
 #define WORDS_ROW(name, arguments) {"interface4w_" #name, words_##name, 0},
 #define BYTES_ROW(name, arguments) {"interface4_" #name, bytes_##name, 0},
-static struct function functions[] = {EACH(WORDS_ROW) EACH(BYTES_ROW) BYTES_ROW(sizes, ())};
+static struct function functions[] = {EACH(WORDS_ROW) EACH(BYTES_ROW) BYTES_ROW(sizes, ()) BYTES_ROW(prefix, ())};
 #define FUNCTIONS (sizeof functions / sizeof functions[0])
 
 static unsigned char stack[STACK];
@@ -106,12 +111,21 @@ static size_t used(void (*call)(void))
   return (size_t)(top - (stack + lowest));
 }
 
+static uint32_t mask(uint32_t prefix)
+{
+  return prefix == 0 ? 0 : UINT32_MAX << (32 - prefix);
+}
+
 /* Every call on the state as it is, which each gets anew. */
 static void measure(void)
 {
   static uint32_t kept[S];
   size_t i;
   memcpy(kept, state, sizeof state);
+  memcpy(add_v4_mask, add_v4, sizeof add_v4);
+  add_v4_mask[2] = mask(add_v4[2]);
+  memcpy(del_v4_mask, del_v4, sizeof del_v4);
+  del_v4_mask[4] = mask(del_v4[4]);
   for (i = 0; i < FUNCTIONS; i++) {
     size_t depth = used(functions[i].call);
     if (depth > functions[i].most)

@@ -6,6 +6,7 @@ use call_read::Found;
 use call_read::Listed;
 use call_read::Local;
 use call_read::Sourced;
+use netmask::Prefix;
 use row_address::LeftReply;
 ghost use mathlib.Core.Path.{_≡_};
 ghost use Prim.Native.Nat.{_<_};
@@ -14,7 +15,7 @@ ghost use Rattle.call_read.specs.Answer.{foundBy, localBy, chosenBy, sourcedBy,
 ghost use Rattle.call_change.specs.Answer.{doneBy};
 ghost use Rattle.call_message.specs.Answer.{askedBy};
 ghost use Rattle.row_address.specs.Row.{replyOf as row-address·replyOf};
-ghost use Rattle.call_reply.specs.Answer.{replyFrom, replyOf};
+ghost use Rattle.call_reply.specs.Answer.{replyFrom, replyOf, prefixBy};
 
 // The number is 0, or the refusal's number and then the rest is 0.
 #[repr(C)]
@@ -129,6 +130,15 @@ pub fn listed(l: Listed) -> Reply
     match l {
         Listed::Refused(n) => refused(n),
         Listed::Rows(n) => valued(n as u32),
+    }
+}
+
+pub fn prefix(a: Prefix) -> Reply
+    ensures { λ r. ⌜ r ≡ replyFrom (prefixBy a) ⌝ }
+{
+    match a {
+        Prefix::Refused(n) => refused(n),
+        Prefix::Length(n) => valued(n),
     }
 }
 

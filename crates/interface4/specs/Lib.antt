@@ -4,3 +4,4 @@ pub mod Quiet
 pub mod Changing
 pub mod Reading
 pub mod Message
+pub mod Mask

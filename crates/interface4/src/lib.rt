@@ -7,6 +7,7 @@ use layout::ROUTE_WORDS;
 use layout::STATE_WORDS;
 
 mod changing;
+mod masks;
 mod messages;
 mod on_words;
 mod reading;

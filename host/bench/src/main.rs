@@ -1,6 +1,7 @@
 //! How long each call takes: the unchanged Rust on its own lists, the Rust
 //! doing the port's job on lent words (plainly, and tuned), the port on
 //! words, on bytes and through `Addresses`. The tables are Markdown.
+mod masks;
 mod measure;
 mod messages;
 mod reader;
@@ -20,7 +21,7 @@ const USAGE: &str = "usage: bench [--addresses] [--rounds N] [--only TEXT]
                  the Rust on its own lists
   --rounds N     501 if it isn't said
   --only TEXT    only calls whose name has TEXT in it; check: the check of a
-                 state alone; read: messages";
+                 state alone; read: messages; mask: netmasks";
 /// Cases on which the Rust on lent words is first compared with the model.
 const COMPARED: usize = 3_000;
 
@@ -62,8 +63,8 @@ fn main() -> ExitCode {
     if addresses {
         return swap(&usual, &special, rounds);
     }
-    let [check, read] = ["check", "read"].map(|name| name.contains(only.as_str()));
-    if usual.is_empty() && special.is_empty() && !check && !read {
+    let [check, read, mask] = ["check", "read", "mask"].map(|name| name.contains(only.as_str()));
+    if usual.is_empty() && special.is_empty() && !check && !read && !mask {
         eprintln!("no call has {only} in its name\n{USAGE}");
         return ExitCode::FAILURE;
     }
@@ -96,6 +97,9 @@ fn main() -> ExitCode {
     }
     if read {
         messages::table(&states::changing(), rounds);
+    }
+    if mask {
+        masks::table(&states::usual(), rounds);
     }
     ExitCode::SUCCESS
 }

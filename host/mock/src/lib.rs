@@ -6,7 +6,8 @@
 use oracle::call::{Buffer, Call};
 use oracle::message::{self, Reader};
 use oracle::model::model;
-use oracle::port::{self, Bytes, Model, make};
+use oracle::netmask::{self, Masked};
+use oracle::port::{self, Bytes, Model, WordPort, make};
 use std::slice::{from_raw_parts, from_raw_parts_mut};
 
 #[repr(C)]
@@ -44,6 +45,12 @@ trait Element: Copy + Default {
         request: &[Self],
         buffer: &mut [Self],
     ) -> oracle::call::Reply;
+    fn masked(
+        call: Call,
+        state: &mut [Self],
+        request: &[Self],
+        buffer: &mut [Self],
+    ) -> oracle::call::Reply;
     fn read(message: &[u8], request: &mut [Self], up: u32) -> oracle::call::Reply;
 }
 
@@ -56,6 +63,14 @@ impl Element for u8 {
         buffer: &mut [u8],
     ) -> oracle::call::Reply {
         make(&mut Bytes(Model), &call, state, request, buffer)
+    }
+    fn masked(
+        call: Call,
+        state: &mut [u8],
+        request: &[u8],
+        buffer: &mut [u8],
+    ) -> oracle::call::Reply {
+        make(&mut Bytes(Masked), &call, state, request, buffer)
     }
     fn read(message: &[u8], request: &mut [u8], up: u32) -> oracle::call::Reply {
         message::Model.read(message, request, up)
@@ -74,6 +89,17 @@ impl Element for u32 {
             *words = request.to_vec();
         }
         model(&call, state, buffer)
+    }
+    fn masked(
+        mut call: Call,
+        state: &mut [u32],
+        request: &[u32],
+        buffer: &mut [u32],
+    ) -> oracle::call::Reply {
+        if let Some(words) = call.lent_mut() {
+            *words = request.to_vec();
+        }
+        Masked.call(&call, state, buffer)
     }
     fn read(message: &[u8], request: &mut [u32], up: u32) -> oracle::call::Reply {
         let mut bytes = port::bytes(request);
@@ -127,6 +153,19 @@ fn run<E: Element>(call: Call, lent: Lent<E>) -> Reply {
     reply
 }
 
+/// The calls with a netmask.
+fn masked<E: Element>(call: Call, lent: Lent<E>) -> Reply {
+    let Lent {
+        state,
+        request,
+        buffer,
+    } = lent;
+    if fault() == "a mask is a prefix" {
+        return E::model(call, state, request, buffer).into();
+    }
+    E::masked(call, state, request, buffer).into()
+}
+
 /// The reader of messages.
 fn read<E: Element>(message: &[u8], request: &mut [E], up: u32) -> Reply {
     let fault = fault();
@@ -165,7 +204,7 @@ fn checked(local4: Reply) -> Reply {
 }
 
 macro_rules! exports {
-    ($element:ty, $prefix:literal: $(
+    ($element:ty, $prefix:literal, $run:ident: $(
         $name:ident($($slice:ident $length:ident),*; $($number:ident: $of:ty),*) $call:expr;
     )*) => {$(
         /// # Safety
@@ -177,7 +216,7 @@ macro_rules! exports {
             #[allow(unused_mut)]
             let mut lent = Lent { state: &mut [], request: &mut [], buffer: &mut [] };
             $(lent.$slice = unsafe { from_raw_parts_mut($slice, $length) };)*
-            run::<$element>($call, lent)
+            $run::<$element>($call, lent)
         }
     )*};
 }
@@ -189,7 +228,7 @@ macro_rules! all {
     ($element:ty, $prefix:literal) => {
         use super::*;
 
-        exports! { $element, $prefix:
+        exports! { $element, $prefix, run:
             up(state a, buffer b; now: u64) Call::Up { now };
             down(state a, buffer b;) Call::Down;
             add_v4(state a, request b, buffer c; now: u64) Call::AddV4 { request: NONE, now };
@@ -207,6 +246,12 @@ macro_rules! all {
             select4(state a; present: u32, dst: u32, scope: u32)
                 Call::Select4 { present, dst, scope };
             left(request a; now: u64) Call::Left { row: NONE, now };
+        }
+
+        exports! { $element, $prefix, masked:
+            add_v4_mask(state a, request b, buffer c; now: u64)
+                Call::AddV4 { request: NONE, now };
+            del_v4_mask(state a, request b, buffer c;) Call::DelV4 { request: NONE };
         }
 
         /// # Safety
@@ -240,12 +285,22 @@ pub mod words {
     all! { u32, "interface4w_" }
 }
 
+/// The prefix of a netmask.
+#[unsafe(export_name = "interface4_prefix")]
+pub extern "C" fn prefix(mask: u32) -> Reply {
+    match mask {
+        0 if fault() == "no mask of no ones" => oracle::call::Reply::refused(207),
+        _ => netmask::paper(mask),
+    }
+    .into()
+}
+
 /// What the library says of itself.
 #[unsafe(export_name = "interface4_sizes")]
 pub extern "C" fn sizes() -> Reply {
     Reply {
         number: 0,
-        present: 3,
+        present: 4,
         value: if fault() == "other sizes" {
             9_509
         } else {

@@ -170,6 +170,62 @@ impl Addresses {
         self.told(reply)
     }
 
+    /// [`Self::add_v4`] with a netmask in place of `new.prefix`, which isn't
+    /// looked at.
+    ///
+    /// # Errors
+    /// [`Refused::BAD_MASK`] for a mask that isn't good, before what
+    /// [`Self::add_v4`] gives.
+    ///
+    /// ```
+    /// use core::net::Ipv4Addr;
+    /// use naskrefim::{Addresses, Lifetimes, Refused, SCOPE_UNIVERSE, V4};
+    /// let mut lo = Addresses::new();
+    /// let own = Ipv4Addr::new(10, 1, 0, 5);
+    /// let new = V4::new(own, own, 0, SCOPE_UNIVERSE);
+    /// let gap = Ipv4Addr::new(255, 0, 255, 0);
+    /// let told = lo.add_v4_mask(new.clone(), gap, Lifetimes::FOREVER, false, false, 0);
+    /// assert_eq!(told, Err(Refused::BAD_MASK));
+    /// let mask = Ipv4Addr::new(255, 255, 255, 0);
+    /// lo.add_v4_mask(new, mask, Lifetimes::FOREVER, false, false, 0)?;
+    /// assert_eq!(lo.v4()[0].prefix, 24);
+    /// # Ok::<(), Refused>(())
+    /// ```
+    pub fn add_v4_mask(
+        &mut self,
+        new: V4,
+        mask: Ipv4Addr,
+        lifetimes: Lifetimes,
+        replace: bool,
+        up: bool,
+        now: u64,
+    ) -> Result<Vec<Event>, Refused> {
+        let mut request = layout::add_v4(&new, lifetimes, replace, up);
+        request[layout::ADD_V4_PREFIX] = mask.into();
+        let (state, events) = self.lent();
+        let reply = words::add_v4_mask(state, &request, events, now);
+        self.told(reply)
+    }
+
+    /// [`Self::del_v4`] with a netmask in place of the prefix.
+    ///
+    /// # Errors
+    /// [`Refused::BAD_MASK`] for a mask that isn't good, before what
+    /// [`Self::del_v4`] gives.
+    pub fn del_v4_mask(
+        &mut self,
+        local: Option<Ipv4Addr>,
+        address: Option<Ipv4Addr>,
+        mask: Ipv4Addr,
+        label: Option<&[u8]>,
+    ) -> Result<Vec<Event>, Refused> {
+        let mut request = layout::del_v4(local, address, 0, label);
+        request[layout::DEL_V4_PREFIX] = mask.into();
+        let (state, events) = self.lent();
+        let reply = words::del_v4_mask(state, &request, events);
+        self.told(reply)
+    }
+
     /// Removes addresses whose valid lifetime has ended at `now`, and marks
     /// those whose preferred one has.
     ///

@@ -123,6 +123,14 @@ macro_rules! exported {
             /// [`Addresses::del_v4`](crate::Addresses::del_v4). `value` is
             /// the number of event rows.
             del_v4(state: write, request: read, events: write;);
+            /// [`add_v4`] with a netmask in the prefix's word of the
+            /// request: see
+            /// [`Addresses::add_v4_mask`](crate::Addresses::add_v4_mask).
+            add_v4_mask(state: write, request: read, events: write; now: u64);
+            /// [`del_v4`] with a netmask in the prefix's word of the
+            /// request: see
+            /// [`Addresses::del_v4_mask`](crate::Addresses::del_v4_mask).
+            del_v4_mask(state: write, request: read, events: write;);
             /// Addresses run out at the clock `now`: see
             /// [`Addresses::expire`](crate::Addresses::expire). `value` is
             /// the number of event rows.
@@ -202,12 +210,26 @@ pub mod words {
     exported! { u32, "interface4w_" }
 }
 
-/// What the library says of itself, once for both.
+/// What is lent nothing, once for both.
 mod library {
     calls! { u8, "interface4_":
-        /// Its sizes.
+        /// The library's sizes.
         sizes(;);
+        /// The prefix of a netmask.
+        prefix(; mask: u32);
     }
+}
+
+/// The prefix of a netmask: `value` is the count of its ones, or the number
+/// is 207. [`Netmask`](crate::Netmask) asks it.
+///
+/// ```
+/// assert_eq!(naskrefim::prefix(0xffff_ff00).value, 24);
+/// assert_eq!(naskrefim::prefix(0xff00_ff00).number, 207);
+/// ```
+#[must_use = "a refusal is told by nothing else"]
+pub fn prefix(mask: u32) -> Reply {
+    library::prefix(mask)
 }
 
 /// The sizes that a library means: see [`sizes`].
@@ -227,7 +249,7 @@ pub struct Sizes {
 /// use naskrefim::{EVENT_LIMIT, STATE_WORDS, sizes};
 /// let sizes = sizes();
 /// assert_eq!((sizes.state_words, sizes.event_rows), (STATE_WORDS, EVENT_LIMIT));
-/// assert_eq!(sizes.paper, 3);
+/// assert_eq!(sizes.paper, 4);
 /// ```
 #[must_use]
 pub fn sizes() -> Sizes {

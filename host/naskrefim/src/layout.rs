@@ -11,6 +11,10 @@ pub(crate) const ADDRESSES_AT: usize = 3;
 pub(crate) const ROUTES_AT: usize = ADDRESSES_AT + ADDRESS_LIMIT * ADDRESS_WORDS;
 pub(crate) const TABLES_AT: usize = ROUTES_AT + ROUTE_LIMIT * ROUTE_WORDS;
 
+/// The word of the prefix, or of the netmask, in the two requests.
+pub(crate) const ADD_V4_PREFIX: usize = 2;
+pub(crate) const DEL_V4_PREFIX: usize = 4;
+
 fn optional(value: Option<Ipv4Addr>) -> [u32; 2] {
     [u32::from(value.is_some()), value.map_or(0, u32::from)]
 }

@@ -65,6 +65,8 @@
 //! | `left` | 4,096 | 4,096 |
 //! | `check` | 4,096 | 40,960 |
 //! | `read` | 4,096 | 4,096 |
+//! | `add_v4_mask` | 45,056 | 172,032 |
+//! | `del_v4_mask` | 4,096 | 131,072 |
 //!
 //! [`Addresses`] calls [`words`], and needs less than 4,096 bytes of its
 //! own. The numbers are those of the C header; `host/c/stack` finds them
@@ -79,18 +81,20 @@ mod addresses;
 mod boundary;
 mod constants;
 mod layout;
+mod netmask;
 mod records;
 mod refused;
 mod request;
 mod rows;
 
 pub use addresses::Addresses;
-pub use boundary::{Reply, Sizes, bytes, sizes, words};
+pub use boundary::{Reply, Sizes, bytes, prefix, sizes, words};
 pub use constants::{
     DEPRECATED, F_APPEND, F_CREATE, F_EXCL, F_REPLACE, FOREVER, NO_METRICS, NO_PREFIX_ROUTE,
     PERMANENT, PROTO_KERNEL, SCOPE_HOST, SCOPE_LINK, SCOPE_NOWHERE, SCOPE_UNIVERSE, SECONDARY,
     TABLE_DEFAULT, TABLE_LOCAL, TABLE_MAIN,
 };
+pub use netmask::Netmask;
 pub use records::{Ask4, Event, Kind, Life, Lifetimes, Metrics, Route4, Select4, V4};
 pub use refused::Refused;
 pub use request::Request;

@@ -77,6 +77,9 @@ numbers! {
     /// A message with an attribute of the wrong size, or for a new address
     /// without the local one.
     BAD_ATTRIBUTE = 206, "an attribute of the wrong size, or no local address";
+    /// Ones and trailing zeros that don't make 32
+    /// ([`Netmask`](crate::Netmask)).
+    BAD_MASK = 207, "a netmask that is not good";
 }
 
 impl Refused {

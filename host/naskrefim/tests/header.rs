@@ -72,7 +72,7 @@ fn refusals() {
         NO_CREATE_FLAG NO_SUCH_ROUTE PROHIBITED THERE_ALREADY WRONG_DEVICE INVALID NOT_SUPPORTED
         NO_SUCH_ADDRESS DOWN NO_ROUTE_TO_NETWORK UNREACHABLE
         UNFIT_BUFFER UNFIT_STATE UNFIT_REQUEST NO_SPACE
-        BAD_LENGTH NOT_IPV4 BAD_ATTRIBUTE
+        BAD_LENGTH NOT_IPV4 BAD_ATTRIBUTE BAD_MASK
     };
     let defined = defined();
     for (name, number) in all {
@@ -93,7 +93,7 @@ fn stack() {
         let Some(call) = name.strip_prefix("INTERFACE4_STACK_") else {
             continue;
         };
-        if call == "SIZES" {
+        if ["SIZES", "PREFIX"].contains(&call) {
             assert_eq!(*bytes, 4_096, "what every call may need");
             continue;
         }
@@ -107,5 +107,5 @@ fn stack() {
         assert!(docs.lines().any(|line| line == row), "{row}");
         rows += 1;
     }
-    assert_eq!(rows, 17);
+    assert_eq!(rows, 19);
 }

@@ -121,7 +121,8 @@ pub fn against(port: &mut dyn Port, case: &Case, expected: &Effect) -> Result<()
     }
 }
 
-fn first_other(name: &str, found: &[u8], expected: &[u8]) -> Option<String> {
+/// The first word of `found` that isn't the expected one.
+pub fn first_other(name: &str, found: &[u8], expected: &[u8]) -> Option<String> {
     if found == expected {
         return None;
     }

@@ -17,6 +17,7 @@ pub mod linux;
 pub mod message;
 pub mod messages;
 pub mod model;
+pub mod netmask;
 pub mod pairs;
 pub mod port;
 pub mod rfc;

@@ -1,7 +1,8 @@
 //! The oracle's commands. Every one ends with a line of counts; the exit
 //! status is 0 only if nothing failed.
 use oracle::{
-    checks, coverage, document, examples, facts, faults, json, linux, messages, pairs, rfc, vectors,
+    checks, coverage, document, examples, facts, faults, json, linux, messages, netmask, pairs,
+    rfc, vectors,
 };
 use std::process::ExitCode;
 use std::time::Instant;
@@ -11,6 +12,8 @@ const USAGE: &str = "usage: oracle COMMAND
   linux                  the known differences from Linux, the Rust's side
   rfc                    the known differences from RFCs, the Rust's side
   facts                  what else the Rust does that is easily missed
+  netmasks               Paper 4's rule on all 2^32 masks, and planted faults
+                         in the calls with a mask
   document [N] [SEED]    sentences of document 01 on N generated cases
   generator [N] [SEED]   what N generated cases reach
   pairs [N] [SEED]       document 01's claim about two runs, on N pairs
@@ -27,9 +30,9 @@ const USAGE: &str = "usage: oracle COMMAND
   message-list N SEED FOLDER
                          writes a list of N messages, and what is to be
                          printed of them
-  all                    all of examples, linux, rfc, facts, document,
-                         generator, pairs, messages, selftest, and a list of
-                         answers replayed";
+  all                    all of examples, linux, rfc, facts, netmasks,
+                         document, generator, pairs, messages, selftest, and
+                         a list of answers replayed";
 
 const CASES: usize = 30_000;
 const PAIRS: usize = 2_000;
@@ -65,6 +68,7 @@ fn command(arguments: &[String]) -> Result<bool, String> {
         "linux" => most(0).map(|()| checks::run("linux", linux::check)),
         "rfc" => most(0).map(|()| checks::run("rfc", rfc::check)),
         "facts" => most(0).map(|()| checks::run("facts", facts::check)),
+        "netmasks" => most(0).map(|()| checks::run("netmasks", netmask::check)),
         "document" => {
             most(2)?;
             Ok(document::run(
@@ -161,11 +165,12 @@ type Part = dyn Fn() -> Result<bool, String>;
 /// Everything, and one line of counts for each part.
 fn all() -> Result<bool, String> {
     let begin = Instant::now();
-    let parts: [(&str, &Part); 10] = [
+    let parts: [(&str, &Part); 11] = [
         ("examples", &|| Ok(checks::run("examples", examples::check))),
         ("linux", &|| Ok(checks::run("linux", linux::check))),
         ("rfc", &|| Ok(checks::run("rfc", rfc::check))),
         ("facts", &|| Ok(checks::run("facts", facts::check))),
+        ("netmasks", &|| Ok(checks::run("netmasks", netmask::check))),
         ("document", &|| Ok(document::run(CASES, SEED))),
         ("generator", &|| Ok(coverage::run(CASES, SEED))),
         ("pairs", &|| Ok(pairs::run(PAIRS, SEED))),

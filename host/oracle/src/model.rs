@@ -76,7 +76,7 @@ pub fn passes(peaks: [usize; 3]) -> bool {
 }
 
 /// 200: the lengths of the state, the request and the buffer.
-fn lengths(call: &Call, state: &[u32], buffer: usize) -> Result<(), u32> {
+pub(crate) fn lengths(call: &Call, state: &[u32], buffer: usize) -> Result<(), u32> {
     let state = matches!(call, Call::Left { .. }) || state.len() == STATE_WORDS;
     if state && call.request_whole() && buffer >= call.buffer().least() {
         Ok(())
@@ -86,7 +86,7 @@ fn lengths(call: &Call, state: &[u32], buffer: usize) -> Result<(), u32> {
 }
 
 /// 201: the state, and a row handed in.
-fn standing(call: &Call, state: &[u32]) -> Result<(), u32> {
+pub(crate) fn standing(call: &Call, state: &[u32]) -> Result<(), u32> {
     let row = match call {
         Call::Source4 { row, .. } => row[..].try_into().is_ok_and(well_formed::route),
         Call::Left { row, .. } => row[..].try_into().is_ok_and(well_formed::address),

@@ -3,6 +3,7 @@
 pub mod constants;
 pub mod guarded;
 pub mod library;
+pub mod masks;
 pub mod messages;
 pub mod records;
 pub mod typed;

@@ -7,8 +7,8 @@ use oracle::message::{Reader, WordReader};
 use oracle::port::{Port, WordPort};
 
 /// What guards hold: no row has such words by chance.
-const BYTE: u8 = 0xc3;
-const WORD: u32 = 0xc3d2_e1f0;
+pub const BYTE: u8 = 0xc3;
+pub const WORD: u32 = 0xc3d2_e1f0;
 
 /// The reply of `local4`, if the check alone refuses just as it does; else
 /// one that no call gives.
@@ -26,7 +26,7 @@ fn checked(local4: naskrefim::Reply, check: naskrefim::Reply) -> naskrefim::Repl
     }
 }
 
-fn reply(reply: naskrefim::Reply) -> Reply {
+pub fn reply(reply: naskrefim::Reply) -> Reply {
     Reply {
         number: reply.number,
         present: reply.present,
@@ -35,7 +35,7 @@ fn reply(reply: naskrefim::Reply) -> Reply {
     }
 }
 
-fn named(what: &str, amiss: Option<&str>) -> String {
+pub fn named(what: &str, amiss: Option<&str>) -> String {
     match amiss {
         None => what.to_string(),
         Some(amiss) => format!("{what} ({amiss})"),

@@ -4,6 +4,7 @@ use oracle::call::{KINDS, NAMES};
 use oracle::campaign::{self, Campaign, Kinds};
 use oracle::port::Bytes;
 use port::library::{OnBytes, OnWords};
+use port::masks;
 use port::messages::{Boundary, Comparison, Summary};
 use port::typed::Typed;
 use std::process::ExitCode;
@@ -14,9 +15,12 @@ const USAGE: &str = "usage: port [OPTION VALUE]..
                      is said), in place of counts
   --cases N          N generated cases, and
   --pairs N          N pairs of runs, and
-  --messages N       N messages, read and performed
+  --messages N       N messages, read and performed, and N requests for an
+                     address with a netmask
   --seed N           where they come from; a fresh seed if it isn't given
-  --calls A,B,..     only these calls (then no pairs); read: messages
+  --calls A,B,..     only these calls (then no pairs); read: messages; mask:
+                     requests with a netmask, and all 2^32 netmasks
+                     (with counts only those beside a good one)
   --boundary WHICH   bytes, words or addresses; all if it isn't given";
 
 /// What comes between two looks at the clock.
@@ -24,6 +28,8 @@ const BATCH: usize = 500;
 const PAIRS_PER_BATCH: usize = 3;
 /// What the reading of messages is called beside the other calls.
 const READ: &str = "read";
+/// And requests with a netmask.
+const MASK: &str = "mask";
 
 struct Options {
     seconds: u64,
@@ -31,6 +37,7 @@ struct Options {
     seed: u64,
     calls: Kinds,
     read: bool,
+    mask: bool,
     /// One of [`BOUNDARIES`], or all.
     boundary: Option<String>,
 }
@@ -55,6 +62,7 @@ fn options(arguments: &[String]) -> Result<Options, String> {
         seed: fresh(),
         calls: [true; KINDS],
         read: true,
+        mask: true,
         boundary: None,
     };
     if !arguments.len().is_multiple_of(2) {
@@ -69,7 +77,7 @@ fn options(arguments: &[String]) -> Result<Options, String> {
             "--pairs" => options.counts = Some([cases, number(value)?, messages]),
             "--messages" => options.counts = Some([cases, pairs, number(value)?]),
             "--seed" => options.seed = number(value)?,
-            "--calls" => (options.calls, options.read) = kinds(value)?,
+            "--calls" => (options.calls, options.read, options.mask) = kinds(value)?,
             "--boundary" if BOUNDARIES.contains(&value.as_str()) => {
                 options.boundary = Some(value.clone());
             }
@@ -84,13 +92,14 @@ fn number<T: std::str::FromStr>(text: &str) -> Result<T, String> {
         .map_err(|_| format!("not a number: {text}\n{USAGE}"))
 }
 
-fn kinds(text: &str) -> Result<(Kinds, bool), String> {
+fn kinds(text: &str) -> Result<(Kinds, bool, bool), String> {
     let mut kinds = [false; KINDS];
-    for name in text.split(',').filter(|name| *name != READ) {
+    let named = |other: &str| text.split(',').any(|name| name == other);
+    for name in text.split(',').filter(|name| ![READ, MASK].contains(name)) {
         let kind = NAMES.iter().position(|known| *known == name);
         kinds[kind.ok_or_else(|| format!("no such call: {name}\n{USAGE}"))?] = true;
     }
-    Ok((kinds, text.split(',').any(|name| name == READ)))
+    Ok((kinds, named(READ), named(MASK)))
 }
 
 /// A seed that another run will not have.
@@ -111,8 +120,9 @@ fn run(options: &Options) -> Result<(), String> {
         campaign = campaign.with(&mut **port);
     }
     let mut messages = Comparison::new(options.seed);
+    let mut masks = masks::Comparison::new(options.seed);
     let begin = Instant::now();
-    let found = compare(&mut campaign, &mut messages, options, begin);
+    let found = compare(&mut campaign, &mut messages, &mut masks, options, begin);
     say(&campaign.summary, begin.elapsed(), options.seed);
     if options.read {
         let Summary {
@@ -121,6 +131,12 @@ fn run(options: &Options) -> Result<(), String> {
             calls,
         } = &messages.summary;
         println!("messages read {read:?}, performed {performed:?}; {calls} calls of the library");
+    }
+    if options.mask {
+        println!(
+            "with a netmask {:?}; {} calls of the library",
+            masks.numbers, masks.calls
+        );
     }
     found.inspect(|()| println!("port: nothing found"))
 }
@@ -147,12 +163,14 @@ fn compared(options: &Options) -> String {
     let asked = NAMES.iter().zip(options.calls).filter(|(_, asked)| *asked);
     let mut names: Vec<&str> = asked.map(|(name, _)| *name).collect();
     names.extend(options.read.then_some(READ));
+    names.extend(options.mask.then_some(MASK));
     format!("only {}, on {on}, and no pairs of runs", names.join(", "))
 }
 
 fn compare(
     campaign: &mut Campaign,
     messages: &mut Comparison,
+    masks: &mut masks::Comparison,
     options: &Options,
     begin: Instant,
 ) -> Result<(), String> {
@@ -161,16 +179,26 @@ fn compare(
     if options.read {
         messages.swept(&mut readers)?;
     }
+    if options.mask {
+        masks::Comparison::prefixes(options.counts.is_none())?;
+    }
     let mut part = |[cases, pairs, read]: [usize; 3]| {
         campaign.cases(cases)?;
         campaign.pairs(pairs)?;
-        messages.generated(&mut readers, if options.read { read } else { 0 })
+        messages.generated(&mut readers, if options.read { read } else { 0 })?;
+        masks.generated(if options.mask { read } else { 0 })
     };
-    if let Some(counts) = options.counts {
-        return part(counts);
+    match options.counts {
+        Some(counts) => part(counts)?,
+        None => {
+            while begin.elapsed() < Duration::from_secs(options.seconds) {
+                part([BATCH, PAIRS_PER_BATCH, BATCH])?;
+            }
+        }
     }
-    while begin.elapsed() < Duration::from_secs(options.seconds) {
-        part([BATCH, PAIRS_PER_BATCH, BATCH])?;
+    // a few cases need not reach them
+    if options.mask && options.counts.is_none() {
+        masks.reached()?;
     }
     Ok(())
 }

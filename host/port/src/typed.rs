@@ -71,7 +71,7 @@ impl WordReader for Typed {
 
 /// Whether records can say the call: its lengths are right, its fields
 /// within their widths, and a row handed in has a kind.
-fn sayable(call: &Call, state: usize, buffer: usize) -> bool {
+pub fn sayable(call: &Call, state: usize, buffer: usize) -> bool {
     let row = match call {
         Call::Source4 { row, .. } => row[..].try_into().is_ok_and(well_formed::route),
         Call::Left { row, .. } => row[..].try_into().is_ok_and(well_formed::address),

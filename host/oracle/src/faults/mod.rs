@@ -2,6 +2,7 @@
 //! must find every one of them.
 mod answers;
 mod effects;
+pub mod masks;
 pub mod messages;
 mod refusals;
 

@@ -4,6 +4,7 @@ pub mod cases;
 pub mod damage;
 pub mod drafts;
 pub mod limits;
+pub mod masks;
 pub mod message_damage;
 pub mod messages;
 pub mod pools;

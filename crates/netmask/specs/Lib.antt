@@ -1,0 +1,2 @@
+pub mod Netmask
+pub mod Laws
