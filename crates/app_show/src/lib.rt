@@ -1,4 +1,6 @@
 // What the printing program prints: a state's listing, or why the bytes are refused. And the program itself, on any input.
+#![tactic(auto)]
+
 ghost use Rattle.std.specs.Prelude.{◌≡◌, true, ◌≤◌, length, take};
 ghost use Rattle.lists.specs.Lists.{put};
 ghost use Rattle.definition.specs.Words.{base_size, state_size, decode, well_formed};

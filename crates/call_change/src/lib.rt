@@ -1,5 +1,7 @@
 // The calls of the host that change a state, on lent words. Each refuses unfit input, and a list that would pass its limit, with a
 // number and then changes nothing.
+#![tactic(auto)]
+
 ghost use Rattle.std.specs.Prelude.{◌≡◌, ◌≤◌, length};
 ghost use Rattle.layout.specs.Event as Event;
 ghost use Rattle.definition.specs.Step.{event_room, up_call, down_call, add_v4_call, del_v4_call, expire_call, add_route4_call, del_route4_call};
@@ -11,7 +13,7 @@ use layout::{
 use life::Nanoseconds;
 
 // What a changing call answers: a refusal's number, or how many event rows it wrote.
-#[derive(Drop)]
+#[derive(Clone, Copy)]
 pub enum Done {
     Refused(u32),
     Rows(usize),

@@ -1,4 +1,6 @@
 // Every call by the number that the list of answers gives it (host/README.md), with its answer as numbers.
+#![tactic(auto)]
+
 ghost use Rattle.std.specs.Prelude.{◌≡◌, [], ◌≤◌, length};
 ghost use Rattle.layout.specs.Event as Event;
 ghost use Rattle.definition.specs.Call.{Call};

@@ -1,4 +1,6 @@
 // The requests for an address with a netmask in place of the prefix, on lent words: the calls of call_change, and 207 before 202.
+#![tactic(auto)]
+
 ghost use Rattle.std.specs.Prelude.{◌≡◌, true, ◌<◌, length};
 ghost use Rattle.netmask.specs.Netmask.{good, bad_mask};
 ghost use Rattle.definition.specs.Step.{unless};

@@ -1,4 +1,6 @@
 // The call that reads a message off a socket into a request, on lent bytes and words. What is refused writes nothing.
+#![tactic(auto)]
+
 ghost use Rattle.std.specs.Prelude.{◌≡◌, ◌≤◌, length};
 ghost use Rattle.lists.specs.Lists.{put};
 ghost use Rattle.netlink.specs.Exactly.{Shaped};
@@ -12,7 +14,7 @@ use layout::{ADD_ROUTE4_WORDS, ADD_V4_WORDS, DEL_ROUTE4_WORDS, DEL_V4_WORDS};
 use netlink::codes;
 
 // What a reading answers: a refusal's number, or the message's type and the words of the request that it wrote.
-#[derive(Drop)]
+#[derive(Clone, Copy)]
 pub enum Asked {
     Refused(u32),
     Request { kind: u32, words: u32 },

@@ -1,4 +1,6 @@
 // The calls of the host that read a state, on lent words. Each refuses unfit input with a number and then writes nothing.
+#![tactic(auto)]
+
 ghost use Rattle.std.specs.Prelude.{◌≡◌, [], ◌≤◌, ◌<◌, length, get_or};
 ghost use Rattle.lists.specs.Lists.{flat, put};
 ghost use Rattle.rows_lookup.specs.Flow.{flow_of};
@@ -14,21 +16,21 @@ use rows_lookup::{Flow, Looked};
 use rows_source::Selected;
 
 // What a lookup answers; the row stands in the buffer that it was lent.
-#[derive(Drop)]
+#[derive(Clone, Copy)]
 pub enum Found {
     Refused(u32),
     Row,
 }
 
 // Whether an address is the loopback's.
-#[derive(Drop)]
+#[derive(Clone, Copy)]
 pub enum Local {
     Refused(u32),
     Is(bool),
 }
 
 // The address chosen, if there is one.
-#[derive(Drop)]
+#[derive(Clone, Copy)]
 pub enum Chosen {
     Refused(u32),
     Nothing,
@@ -36,14 +38,14 @@ pub enum Chosen {
 }
 
 // The address that a connection leaves from.
-#[derive(Drop)]
+#[derive(Clone, Copy)]
 pub enum Sourced {
     Refused(u32),
     Address(u32),
 }
 
 // What a listing answers: a refusal's number, or how many rows it wrote.
-#[derive(Drop)]
+#[derive(Clone, Copy)]
 pub enum Listed {
     Refused(u32),
     Rows(usize),

@@ -1,4 +1,6 @@
 // select4 and primary_of over addresses as records: a lent slice of `V4`, and above it the words of a state.
+#![tactic(auto)]
+
 ghost use Rattle.std.specs.Prelude.{◌≡◌, true, List, map, length, take, ◌*◌, ◌≤◌, min};
 ghost use Rattle.lists.specs.Lists.{Row};
 ghost use Rattle.lists.specs.Laid.{Laid, Lays};
@@ -21,7 +23,7 @@ use row_address::V4;
 use rows_source::Selected;
 
 // The first address of the greatest rank so far, by its local address: none while the rank is 0.
-#[derive(Drop)]
+#[derive(Clone, Copy)]
 struct Best {
     rank: u32,
     local: u32,

@@ -1,4 +1,6 @@
 // A call's answer as four numbers, the same for every call.
+#![tactic(auto)]
+
 ghost use Rattle.std.specs.Prelude.{◌≡◌, ◌<◌};
 ghost use Rattle.definition.specs.Step.{unfit};
 ghost use Rattle.call_read.specs.Answer.{found_by, local_by, chosen_by, sourced_by, listed_by};
@@ -15,7 +17,7 @@ use row_address::LeftReply;
 
 // The number is 0, or the refusal's number and then the rest is 0.
 #[repr(C)]
-#[derive(Drop)]
+#[derive(Clone, Copy)]
 pub struct Reply {
     pub number: u32,
     pub present: u32,

@@ -1,4 +1,6 @@
 // Words as bytes, four a word, the lowest first. Plain loops over sums and remainders: the back end makes them vectors.
+#![tactic(auto)]
+
 ghost use Rattle.std.specs.Prelude.{◌≡◌, ◌*◌, ◌≤◌, length};
 ghost use Rattle.lists.specs.Lists.{put};
 ghost use Rattle.endian.specs.Endian.{words_of, bytes_of};

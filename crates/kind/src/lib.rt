@@ -1,8 +1,10 @@
 // What a route is.
+#![tactic(auto)]
+
 ghost use Rattle.std.specs.Prelude.{◌≡◌};
 ghost use Rattle.kind.specs.Kind.{code_of, kind_of, is_kind, error_of, least_scope};
 
-#[derive(Drop)]
+#[derive(Clone, Copy)]
 pub enum Kind {
     Unicast,
     Local,
@@ -13,7 +15,7 @@ pub enum Kind {
     Throw,
 }
 
-#[derive(Drop)]
+#[derive(Clone, Copy)]
 pub enum FoundKind {
     Is(Kind),
     Unknown,

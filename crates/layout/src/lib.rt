@@ -1,5 +1,7 @@
 // The layout of document 01's words, derived from its limits, and the numbers that rows, requests and answers hold, as Linux's
 // headers have them.
+#![tactic(auto)]
+
 pub mod add_route4;
 pub mod add_v4;
 pub mod address;

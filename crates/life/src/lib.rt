@@ -1,11 +1,13 @@
 // Lifetimes in seconds and the clock in nanoseconds. Only this crate converts.
+#![tactic(auto)]
+
 ghost use Rattle.std.specs.Prelude.{◌≡◌, ◌-◌};
 ghost use Rattle.life.specs.Life.{reached, age, left_of, stored_seconds, life_set, seconds, nanoseconds, clock, low_word, high_word};
 
-#[derive(Drop)]
+#[derive(Clone, Copy)]
 pub struct Seconds(pub u32);
 
-#[derive(Drop)]
+#[derive(Clone, Copy)]
 pub struct Nanoseconds(pub u64);
 
 // The lifetime that never ends.
@@ -17,7 +19,7 @@ const SECOND: u64 = 1000000000;
 pub const FUZZ: Nanoseconds = Nanoseconds(20000000);
 
 // The lifetimes of an address, from when they were last set, and when it was made and they were set.
-#[derive(Drop)]
+#[derive(Clone, Copy)]
 pub struct Life {
     pub valid: Seconds,
     pub preferred: Seconds,
@@ -26,7 +28,7 @@ pub struct Life {
 }
 
 // The lifetimes that a request asks an address to have.
-#[derive(Drop)]
+#[derive(Clone, Copy)]
 pub struct Lifetimes {
     pub valid: Seconds,
     pub preferred: Seconds,
@@ -40,7 +42,7 @@ impl Lifetimes {
 }
 
 // What is left of each lifetime.
-#[derive(Drop)]
+#[derive(Clone, Copy)]
 pub struct Left {
     pub preferred: Seconds,
     pub valid: Seconds,

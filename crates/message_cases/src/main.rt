@@ -1,5 +1,7 @@
 // What is made of recorded messages (host/README.md): the list is read from standard input, and each message gives a line with the
 // answer and the check of all words of the request's buffer.
+#![tactic(auto)]
+
 ghost use Rattle.std.specs.Prelude.{◌≤◌, length};
 
 use call_message::Asked;

@@ -1,4 +1,6 @@
 // Attributes of a netlink message in lent bytes.
+#![tactic(auto)]
+
 ghost use Rattle.std.specs.Prelude.{◌≡◌, ◌+◌, ◌*◌, ◌<◌, min, length, set};
 ghost use Rattle.netlink.specs.Attributes.{right as Attributes·right};
 ghost use Rattle.netlink_attributes.specs.Steps.{first_of, right_nested, Placed};
@@ -20,7 +22,7 @@ pub fn two(a: u8, b: u8) -> usize
 }
 
 // A place in lent bytes, handed on by value.
-#[derive(Drop)]
+#[derive(Clone, Copy)]
 pub struct Cursor {
     pub at: usize,
 }
@@ -41,7 +43,7 @@ impl Cursor {
 }
 
 // What begins some bytes: an attribute, with the bytes up to the next one, or none whose length is right.
-#[derive(Drop)]
+#[derive(Clone, Copy)]
 pub enum First {
     Attribute {
         code: usize,
@@ -127,7 +129,7 @@ pub fn right_nested(l: &[u8]) -> bool
 }
 
 // Where the payload of the last attribute of each code lies: its start, 0 for none, and its size. Codes above 17 share the place 18.
-#[derive(Drop)]
+#[derive(Clone, Copy)]
 pub struct Places {
     pub starts: [usize; 19],
     pub sizes: [usize; 19],

@@ -1,4 +1,6 @@
 // What refuses a message: its lengths, its type and family, the sizes of its attributes.
+#![tactic(auto)]
+
 ghost use Rattle.std.specs.Prelude.{◌≡◌, cond, ◌&&◌, ◌||◌, not, ◌+◌, ◌*◌, ◌≤◌, ◌<◌, length};
 ghost use Rattle.lists.specs.Lists.{all};
 ghost use Rattle.netlink.specs.Attributes.{attributes, last};

@@ -1,5 +1,7 @@
 // The words of a request, from the message's headers and the places of its attributes. What is read past an end is 0, as in the
 // definitions.
+#![tactic(auto)]
+
 ghost use Rattle.std.specs.Prelude.{◌≡◌, ◌&&◌, not, [], ◌++◌, ◌+◌, ◌-◌, ◌≤◌, ◌<◌, length, get_or, take, drop};
 ghost use Rattle.lists.specs.Lists.{put};
 ghost use Rattle.layout.specs.Flags.{has_bit};

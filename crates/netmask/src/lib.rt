@@ -1,9 +1,11 @@
 // The prefix that a netmask stands for, by the machine's counts of its ones and of its trailing zeros.
+#![tactic(auto)]
+
 ghost use Rattle.std.specs.Prelude.{◌≡◌};
 ghost use Rattle.netmask.specs.Netmask.{prefix_of};
 
 // What a netmask says.
-#[derive(Drop)]
+#[derive(Clone, Copy)]
 pub enum Prefix {
     Refused(u32),
     Length(u32),

@@ -1,4 +1,6 @@
 // Prefixes of IPv4 addresses, by masks. Addresses and lengths are words of 32 bits.
+#![tactic(auto)]
+
 ghost use mathlib.Core.Path.{_≡_};
 ghost use Prim.Native.Nat.{_≤_};
 ghost use lib.Dec.{eqb};

@@ -1,5 +1,7 @@
 // A record of the list of answers (host/README.md): a call with what the unchanged Rust answered. Here the call is made, and its
 // answer and every word that it was lent are compared with the record.
+#![tactic(auto)]
+
 pub mod record;
 
 ghost use Rattle.std.specs.Prelude.{◌≡◌, ◌≤◌, length, get_or, set};
@@ -191,7 +193,7 @@ fn agrees(r: &[u32], held: &mut [u32], buffer: &mut [u32]) -> bool
     same_reply(r, reply) & words::same_words(&left, held) & words::same_words(buffer, &wanted)
 }
 
-#[derive(Drop)]
+#[derive(Clone, Copy)]
 pub enum Verdict {
     // It is no whole record.
     Damaged,

@@ -1,5 +1,7 @@
 // What `select4` and `primary_of` answer over records, and over the words of a state that holds the same addresses: a line for each
 // case, with both answers.
+#![tactic(auto)]
+
 ghost use Rattle.definition.specs.Words.{state_size};
 ghost use Rattle.std.specs.Prelude.{◌+◌, ◌≤◌};
 
@@ -65,7 +67,7 @@ fn record(words: [u32; 20]) -> V4 {
 }
 
 // Three addresses, of which the first n are there.
-#[derive(Drop)]
+#[derive(Clone, Copy)]
 struct List {
     a: [u32; 20],
     b: [u32; 20],

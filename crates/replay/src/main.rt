@@ -1,5 +1,7 @@
 // Replays lists of answers (host/README.md): each argument names a file, and where there is none, standard input is read. Printed are
 // the records that the calls don't answer as recorded, how many of each call they do, and how many in all.
+#![tactic(auto)]
+
 ghost use Rattle.std.specs.Prelude.{◌≡◌, ℕ, ◌+◌, ◌*◌, ◌%◌, ◌^◌, ◌<◌, ◌≤◌, length, slice_index, slice_set};
 ghost use Rattle.definition.specs.Step.{event_room};
 ghost use Rattle.io.specs.Counts.{IsPrefixLen};

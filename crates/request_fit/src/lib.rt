@@ -1,5 +1,7 @@
 // Which requests are fit, each by the number with which it is refused, 0 if it isn't: every field within its width, and what is
 // absent 0. Of a request that hasn't its words nothing is said: its call is refused before.
+#![tactic(auto)]
+
 ghost use Rattle.std.specs.Prelude.{◌≡◌, cond, ◌&&◌, leb, ltb, ◌≤◌, length};
 ghost use Rattle.layout.specs.Request.{fit_del_v4, fit_route_words, fit_pairs, pair_count, fit_add_route4, fit_del_route4};
 ghost use Rattle.layout.specs.Request.{add_v4_size, del_v4_size, add_route4_size, del_route4_size};

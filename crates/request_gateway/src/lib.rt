@@ -1,4 +1,6 @@
 // How a route that a request asks for is reached: its device and its gateway.
+#![tactic(auto)]
+
 ghost use Rattle.std.specs.Prelude.{◌≡◌, true, ◌+◌, ◌*◌, ◌<◌, max, List, [], length, get_or};
 ghost use Rattle.std.proofs.Math.ListN.{get_elem?};
 ghost use Rattle.lists.specs.Lists.{Row};
@@ -14,7 +16,7 @@ use layout::{ROUTE_WORDS, add_route4, route};
 use rows_lookup::{Flow, Looked};
 
 // Whether a route of link scope reaches the gateway, or a refusal's number.
-#[derive(Drop)]
+#[derive(Clone, Copy)]
 pub enum Reached {
     By(bool),
     Refused(u32),

@@ -1,4 +1,6 @@
 // What a request for a route asks for, by its words alone.
+#![tactic(auto)]
+
 ghost use Rattle.std.specs.Prelude.{◌≡◌, cond, ◌≤◌, ◌<◌, length};
 ghost use Rattle.lists.specs.Lists.{put};
 ghost use Rattle.kind.specs.Kind.{is_kind};

@@ -1,5 +1,7 @@
 // What the program `routes` prints of several inputs, each a file. tools/make-states says how they are made. The last is a folder,
 // which can be opened and not read.
+#![tactic(auto)]
+
 fn print(path: &[u8]) {
     io::write_all(1, path);
     io::write_all(1, b"\n");

@@ -1,4 +1,6 @@
 // An IPv4 address: its record, read from a row of words, and the methods that take it by value.
+#![tactic(auto)]
+
 ghost use Rattle.std.specs.Prelude.{◌≡◌, true, ◌+◌, ◌-◌, ◌*◌, ◌^◌, ◌≤◌, length};
 ghost use Rattle.prefix.specs.Mask.{mask};
 ghost use Rattle.layout.specs.Address.{optional, fit_label, fit_address};
@@ -18,7 +20,7 @@ pub const DEPRECATED: u32 = 0x20;
 
 pub const PERMANENT: u32 = 0x80;
 
-#[derive(Drop)]
+#[derive(Clone, Copy)]
 pub enum Optional {
     Absent,
     Present(u32),
@@ -47,13 +49,13 @@ impl Optional {
 }
 
 // Sixteen bytes, little-endian, of which the first `len` are the label.
-#[derive(Drop)]
+#[derive(Clone, Copy)]
 pub struct Label {
     pub len: u32,
     pub words: [u32; 4],
 }
 
-#[derive(Drop)]
+#[derive(Clone, Copy)]
 pub struct V4 {
     pub local: u32,
     pub address: u32,
@@ -286,7 +288,7 @@ pub fn fit_address(row: &[u32]) -> bool
         )
 }
 
-#[derive(Drop)]
+#[derive(Clone, Copy)]
 pub enum LeftReply {
     Refused(u32),
     Left { preferred: u32, valid: u32 },

@@ -1,4 +1,6 @@
 // The routes that an address brings, and those that go with it, as rows written into a lent block.
+#![tactic(auto)]
+
 ghost use Rattle.std.specs.Prelude.{◌≡◌, List, ◌+◌, ◌*◌, ◌≤◌, length};
 ghost use Rattle.lists.specs.Lists.{Row, put, flat};
 ghost use Rattle.lists.specs.Laid.{Laid, Lays};

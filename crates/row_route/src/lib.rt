@@ -1,4 +1,6 @@
 // A route row: its record, whether it is fit, and its place in the order of routes.
+#![tactic(auto)]
+
 ghost use Rattle.std.specs.Prelude.{◌≡◌, ◌≤◌, eqb, length, true, drop};
 ghost use Rattle.prefix.specs.Mask.{hostBits};
 ghost use Rattle.kind.specs.Kind.{kind_of};
@@ -9,7 +11,7 @@ use kind::{FoundKind, Kind};
 use layout::{METRICS, ROUTE_WORDS, route};
 use row_address::Optional;
 
-#[derive(Drop)]
+#[derive(Clone, Copy)]
 pub struct Route4 {
     pub table: u32,
     pub dst: u32,

@@ -1,4 +1,6 @@
 // The address rows that requests and changes make, written from the start of a lent block on.
+#![tactic(auto)]
+
 ghost use Rattle.std.specs.Prelude.{◌≡◌, ◌≤◌, length};
 ghost use Rattle.lists.specs.Lists.{put};
 ghost use Rattle.layout.specs.Flags.{clear_bit, set_bit};

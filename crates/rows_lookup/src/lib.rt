@@ -1,4 +1,6 @@
 // Lookups over rows of routes: one pass, keeping the best.
+#![tactic(auto)]
+
 ghost use Rattle.std.specs.Prelude.{◌≡◌, ◌&&◌, ◌+◌, ◌*◌, ◌≤◌, ◌<◌, List, leb, length, get_or};
 ghost use Rattle.std.proofs.Math.ListN.{get_elem?};
 ghost use Rattle.lists.specs.Lists.{Row};
@@ -12,7 +14,7 @@ ghost use Rattle.rows_lookup.specs.AddrType.{type_rows, local_rows};
 use layout::{ROUTE_WORDS, route};
 
 // What a lookup asks for: a destination, and the tos, scope and device (0 for any) of the flow.
-#[derive(Drop)]
+#[derive(Clone, Copy)]
 pub struct Flow {
     pub ip: u32,
     pub tos: u32,
@@ -21,7 +23,7 @@ pub struct Flow {
 }
 
 // The tables that are read together: one or two.
-#[derive(Drop)]
+#[derive(Clone, Copy)]
 pub struct Tables {
     pub one: u32,
     pub other: u32,
@@ -84,7 +86,7 @@ pub fn table_lookup4(rows: &[u32], n: usize, set: Tables, f: Flow) -> usize
 }
 
 // What the row at a place comes to as an answer; none and a throw alike lead on.
-#[derive(Drop)]
+#[derive(Clone, Copy)]
 pub enum Ruling {
     Route,
     Refuse(u32),
@@ -92,7 +94,7 @@ pub enum Ruling {
 }
 
 // A lookup's answer: the place of its row, or a refusal's number.
-#[derive(Drop)]
+#[derive(Clone, Copy)]
 pub enum Looked {
     At(usize),
     Refused(u32),

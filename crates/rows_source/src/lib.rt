@@ -1,4 +1,6 @@
 // The source address for a destination, over rows of addresses and routes.
+#![tactic(auto)]
+
 ghost use Rattle.std.specs.Prelude.{◌≡◌, ◌+◌, ◌*◌, ◌≤◌, ◌<◌, List, length, get_or};
 ghost use Rattle.lists.specs.Lists.{Row};
 ghost use Rattle.lists.specs.Laid.{Laid, Lays};
@@ -10,7 +12,7 @@ ghost use Rattle.rows_source.specs.Selected.{wanted, local_in, source_rows};
 use layout::{ADDRESS_WORDS, ROUTE_WORDS, address, route};
 
 // An address that was chosen, or none.
-#[derive(Drop)]
+#[derive(Clone, Copy)]
 pub enum Selected {
     Local(u32),
     Nothing,

@@ -1,5 +1,7 @@
 // The rows of the state's lists, in words that hold a state: three counts, the addresses from 3 on, 20 words each, the
 // routes from 1283 on, 32 words each, the tables from 9475 on.
+#![tactic(auto)]
+
 ghost use Rattle.std.specs.Prelude.{◌≡◌, true, ◌+◌, ◌*◌, ◌≤◌, ◌<◌, length, set};
 ghost use Rattle.lists.specs.At.{insert_at, remove_at};
 ghost use Rattle.layout.specs.Address.{fit_address};

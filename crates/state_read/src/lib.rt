@@ -1,4 +1,6 @@
 // What is read of words that hold a state: each function lends the rows in use to the one that works over rows.
+#![tactic(auto)]
+
 ghost use Rattle.std.specs.Prelude.{◌≡◌, ◌+◌, ◌*◌, ◌≤◌, length, true};
 ghost use Rattle.rows_lookup.specs.Flow.{flow_of};
 ghost use Rattle.rows_lookup.specs.Answer.{found_by, placed};

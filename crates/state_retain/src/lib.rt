@@ -1,4 +1,6 @@
 // Routes retained in place: those that go leave zeros behind the others.
+#![tactic(auto)]
+
 ghost use Rattle.std.specs.Prelude.{◌≡◌, ◌+◌, ◌-◌, ◌*◌, ◌≤◌, ◌<◌, length, set};
 ghost use Rattle.lists.specs.Lists.{put, span, keep, zeros};
 ghost use Rattle.definition.specs.State.{State, with_routes};

@@ -1,4 +1,6 @@
 // The tables that a state lists.
+#![tactic(auto)]
+
 ghost use Rattle.std.specs.Prelude.{◌≡◌, ◌≤◌, length};
 ghost use Rattle.lists.specs.Lists.{among};
 ghost use Rattle.definition.specs.State.{State, with_tables};

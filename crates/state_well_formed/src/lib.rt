@@ -1,5 +1,7 @@
 // Whether words are a well-formed state. Every call asks it: each row in use is looked at, a route beside the next one, and
 // where that has no later place, beside those of its own place behind it; the words not in use are scanned.
+#![tactic(auto)]
+
 ghost use Rattle.std.specs.Prelude.{◌≡◌, true, not, ◌&&◌, [], ◌+◌, ◌*◌, ◌≤◌, ◌<◌, eqb, length, get_or, drop};
 ghost use Rattle.lists.specs.Lists.{Row, all, among, chop, eq_row};
 ghost use Rattle.layout.specs.Address.{fit_address};

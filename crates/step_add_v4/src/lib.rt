@@ -1,4 +1,6 @@
 // add_v4 and up over words that hold a state, with their events. Where a list lacks room the words are left anyhow.
+#![tactic(auto)]
+
 ghost use Rattle.std.specs.Prelude.{◌≡◌, true, ◌+◌, ◌*◌, ◌≤◌, ◌<◌, length};
 ghost use Rattle.layout.specs.Request.{fit_add_v4};
 ghost use Rattle.definition.specs.State.{State};

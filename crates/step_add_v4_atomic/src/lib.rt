@@ -1,4 +1,6 @@
 // add_v4 and up whole: where a list lacks room, the state and the event rows are left as they were.
+#![tactic(auto)]
+
 ghost use Rattle.std.specs.Prelude.{◌≡◌, true, List, ℕ, ◌+◌, ◌*◌, ◌≤◌, ◌<◌, length};
 ghost use Rattle.layout.specs.Request.{fit_add_v4};
 ghost use Rattle.definition.specs.State.{State};

@@ -1,4 +1,6 @@
 // Main routes that fall with their preferred source, emitted from the start of what is lent of the events.
+#![tactic(auto)]
+
 ghost use Rattle.std.specs.Prelude.{◌≡◌, ◌+◌, ◌*◌, ◌≤◌, ◌<◌, length};
 ghost use Rattle.definition.specs.State.{State};
 ghost use Rattle.definition.specs.Reference.Removal.{dependent_on};

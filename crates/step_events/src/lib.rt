@@ -1,4 +1,6 @@
 // Event rows, each written at the start of what is lent: 34 words, what it is, the flags of a new route or 0, the row, zeros.
+#![tactic(auto)]
+
 ghost use Rattle.std.specs.Prelude.{◌≡◌, ◌∷◌, ◌++◌, ◌≤◌, length};
 ghost use Rattle.lists.specs.Lists.{put, zeros};
 ghost use Rattle.layout.specs.Event.{new_addr4, del_addr4, new_route4, del_route4};
@@ -53,7 +55,7 @@ pub fn del_route4(ev: &mut [u32], r: &[u32])
 }
 
 // What a step came to: how many event rows it wrote, the reference's refusal, or that a list had no room.
-#[derive(Drop)]
+#[derive(Clone, Copy)]
 pub enum Done {
     Rows(usize),
     Refused(u32),

@@ -1,4 +1,6 @@
 // Addresses at the end of their lives: one that is due goes, and all begins again; one that fades is marked and emitted.
+#![tactic(auto)]
+
 ghost use Rattle.std.specs.Prelude.{◌≡◌, true, ◌+◌, ◌*◌, ◌≤◌, ◌<◌, length, set};
 ghost use Rattle.lists.specs.Lists.{put};
 ghost use Rattle.layout.specs.Address.{fit_address};

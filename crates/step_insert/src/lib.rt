@@ -1,4 +1,6 @@
 // A route put into its place among the rows.
+#![tactic(auto)]
+
 ghost use Rattle.std.specs.Prelude.{◌≡◌, true, false, not, ◌+◌, ◌*◌, ◌≤◌, ◌<◌, List, eqb, length};
 ghost use Rattle.std.specs.Int.Bits.{bit_and};
 ghost use Rattle.lists.specs.Lists.{Row};
@@ -25,7 +27,7 @@ fn one_if(b: bool) -> usize
 }
 
 // A row as the search for the run sees it: in front of the run, in it, or neither.
-#[derive(Drop)]
+#[derive(Clone, Copy)]
 pub struct Seen {
     pub in_front: bool,
     pub in_run: bool,
@@ -59,7 +61,7 @@ fn see(r: &[u32], new: &[u32]) -> Seen
 }
 
 // The run of the new row's destination, length and table stands from start up to end; so many rows were read to find it.
-#[derive(Drop)]
+#[derive(Clone, Copy)]
 pub struct FoundRun {
     pub start: usize,
     pub end: usize,
@@ -98,7 +100,7 @@ pub fn find_run(rows: &[u32], n: usize, new: &[u32]) -> FoundRun
 }
 
 // The rows alike the new one in table, dst, len, tos and priority stand from start up to end; whether it is there itself.
-#[derive(Drop)]
+#[derive(Clone, Copy)]
 pub struct Alike {
     pub start: usize,
     pub end: usize,
@@ -137,7 +139,7 @@ pub fn alike4(rows: &[u32], n: usize, new: &[u32]) -> Alike
 }
 
 // What an insertion is to do: a row more at a place with the flags emitted, another row in place of one, nothing, or a refusal.
-#[derive(Drop)]
+#[derive(Clone, Copy)]
 pub enum Plan {
     Add(usize, u32),
     Replace(usize),
@@ -146,7 +148,7 @@ pub enum Plan {
 }
 
 // What came of it. Full: there is no room for a row more, and nothing was changed.
-#[derive(Drop)]
+#[derive(Clone, Copy)]
 pub enum Inserted {
     Put(u32),
     Nothing,

@@ -1,4 +1,6 @@
 // The kernel's own routes: added with their table listed, with their events.
+#![tactic(auto)]
+
 ghost use Rattle.std.specs.Prelude.{◌≡◌, true, ◌≤◌, ◌<◌, length};
 ghost use Rattle.layout.specs.Route.{fit_route};
 ghost use Rattle.definition.specs.State.{State};

@@ -1,4 +1,6 @@
 // The route that a deletion names, taken out, with its event at the start of what is lent of the events.
+#![tactic(auto)]
+
 ghost use Rattle.std.specs.Prelude.{◌≡◌, List, ◌*◌, ◌≤◌, ◌<◌, length};
 ghost use Rattle.lists.specs.Lists.{Row};
 ghost use Rattle.lists.specs.Laid.{Laid, Lays};

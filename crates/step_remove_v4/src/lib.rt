@@ -1,4 +1,6 @@
 // Addresses taken out, with the routes that go with them.
+#![tactic(auto)]
+
 ghost use Rattle.std.specs.Prelude.{◌≡◌, true, List, ◌+◌, ◌*◌, ◌<◌, length};
 ghost use Rattle.lists.specs.Lists.{Row, any, eq_row};
 ghost use Rattle.lists.specs.Laid.{Laid, Lays};

@@ -1,4 +1,6 @@
 // Requests to add and to delete a route, over the state's words.
+#![tactic(auto)]
+
 ghost use Rattle.std.specs.Prelude.{◌≡◌, true, ◌||◌, eqb, ◌≤◌, length};
 ghost use Rattle.layout.specs.Request.{nlm_flags, fit_add_route4, fit_del_route4};
 ghost use Rattle.definition.specs.State.{State};

@@ -1,4 +1,6 @@
 // Routes as text, in ASCII: each function writes at a place of the lent bytes and answers the place behind what it wrote.
+#![tactic(auto)]
+
 ghost use Rattle.std.specs.Prelude.{◌≡◌, [], ◌∷◌, ◌++◌, ◌+◌, ◌*◌, ◌<◌, ◌≤◌, length};
 ghost use Rattle.lists.specs.Lists.{put, chop, each};
 ghost use Rattle.text.specs.Print.{digits, count_line, refused_line};

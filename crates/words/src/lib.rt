@@ -1,4 +1,6 @@
 // Runs of words in place. Places and lengths are in words, so one set serves rows of every length.
+#![tactic(auto)]
+
 ghost use Rattle.std.specs.Prelude.{◌≡◌, ◌++◌, ◌+◌, ◌≤◌, eqb, length};
 ghost use Rattle.lists.specs.Lists.{put, span, zeros, all_zero, eq_row, among};
 
