@@ -1,7 +1,7 @@
 -- A route row: 32 words (document 01, "The state, words of 32 bits").
 use Rattle.std.specs.Prelude.{ℕ, Bool, ◌&&◌, ◌||◌, eqb, leb, ltb, length, get_or, drop}
 use Rattle.lists.specs.Lists.{Row}
-use Rattle.prefix.specs.Mask.{hostBits}
+use Rattle.prefix.specs.Mask.{host_bits}
 use Rattle.kind.specs.Kind.{is_kind}
 use Rattle.layout.specs.Address.{optional}
 
@@ -65,7 +65,7 @@ unfoldable pub fit_route : Row → Bool
 fit_route r =
     eqb (length r) size
     && leb (len r) 32
-    && eqb (hostBits (dst r) (len r)) 0
+    && eqb (host_bits (dst r) (len r)) 0
     && ltb (tos r) 256
     && is_kind (kind r)
     && ltb (proto r) 256

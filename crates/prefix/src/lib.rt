@@ -1,18 +1,16 @@
 // Prefixes of IPv4 addresses, by masks. Addresses and lengths are words of 32 bits.
 #![tactic(auto)]
 
-ghost use mathlib.Core.Path.{_≡_};
-ghost use Prim.Native.Nat.{_≤_};
-ghost use lib.Dec.{eqb};
-ghost use Rattle·prefix·specs.specs.Mask.{mask, network, hostBits, broadcast, flowTos};
+ghost use Rattle.std.specs.Prelude.{◌≡◌, ◌≤◌, eqb};
+ghost use Rattle.prefix.specs.Mask.{mask, network, host_bits, broadcast, flow_tos};
 
 // The bits of a tos that a route's tos is matched against.
 const TOS_LEGACY: u32 = 0x1c;
 
 // A shift by 32 is none, so prefix 0 stands apart.
 pub fn mask4(prefix: u32) -> u32
-    requires { ⌜ prefix ≤ 32 ⌝ }
-    ensures { λ r. ⌜ r ≡ mask prefix ⌝ }
+    requires { prefix ≤ 32 }
+    ensures { result ≡ mask prefix }
 {
     if prefix == 0 {
         return 0;
@@ -21,36 +19,36 @@ pub fn mask4(prefix: u32) -> u32
 }
 
 pub fn network4(ip: u32, prefix: u32) -> u32
-    requires { ⌜ prefix ≤ 32 ⌝ }
-    ensures { λ r. ⌜ r ≡ network ip prefix ⌝ }
+    requires { prefix ≤ 32 }
+    ensures { result ≡ network ip prefix }
 {
     ip & mask4(prefix)
 }
 
 pub fn host_bits4(ip: u32, prefix: u32) -> u32
-    requires { ⌜ prefix ≤ 32 ⌝ }
-    ensures { λ r. ⌜ r ≡ hostBits ip prefix ⌝ }
+    requires { prefix ≤ 32 }
+    ensures { result ≡ host_bits ip prefix }
 {
     ip & !mask4(prefix)
 }
 
 pub fn broadcast4(ip: u32, prefix: u32) -> u32
-    requires { ⌜ prefix ≤ 32 ⌝ }
-    ensures { λ r. ⌜ r ≡ broadcast ip prefix ⌝ }
+    requires { prefix ≤ 32 }
+    ensures { result ≡ broadcast ip prefix }
 {
     let m = mask4(prefix);
     (ip & m) | !m
 }
 
 pub fn same_network(a: u32, b: u32, prefix: u32) -> bool
-    requires { ⌜ prefix ≤ 32 ⌝ }
-    ensures { λ r. ⌜ r ≡ eqb (network a prefix) (network b prefix) ⌝ }
+    requires { prefix ≤ 32 }
+    ensures { result ≡ eqb (network a prefix) (network b prefix) }
 {
     (a ^ b) & mask4(prefix) == 0
 }
 
 pub fn flow_tos(tos: u32) -> u32
-    ensures { λ r. ⌜ r ≡ flowTos tos ⌝ }
+    ensures { result ≡ flow_tos tos }
 {
     tos & TOS_LEGACY
 }

@@ -6,7 +6,7 @@ use Rattle.std.specs.Int.Bits.{bit_and}
 use Rattle.std.proofs.lemmas.Bool.{lt-leb}
 use Rattle.lists.specs.Lists.{Row, put}
 use Rattle.lists.specs.Put.{put-behind}
-use Rattle.prefix.specs.Mask.{hostBits}
+use Rattle.prefix.specs.Mask.{host_bits}
 use Rattle.kind.specs.Kind.{error_of}
 use Rattle.layout.specs.Route.{dst, len, tos, priority, kind, proto, scope, prefsrc_present, prefsrc, gateway_present, gateway}
 use Rattle.layout.specs.Request.{rtm_flags}
@@ -22,7 +22,7 @@ onlink-says q = has_and 2 (rtm_flags q)
 pub prefix-long : (q : Row) → 32 < len q → true ≡ bad_prefix q
 prefix-long q h = rw (lt-leb (len q) 32 h)
 
-pub prefix-short : (q : Row) (n : ℕ) → len q ≤ 32 → n ≡ hostBits (dst q) (len q) → not (eqb n 0) ≡ bad_prefix q
+pub prefix-short : (q : Row) (n : ℕ) → len q ≤ 32 → n ≡ host_bits (dst q) (len q) → not (eqb n 0) ≡ bad_prefix q
 prefix-short q n h e = rw (le-leb (len q) 32 h, e)
 
 -- the first 15 words, then the metrics behind them

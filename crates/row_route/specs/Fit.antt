@@ -9,14 +9,14 @@ use Rattle.std.proofs.Math.Pow.{mod-mod-pow}
 use Rattle.std.proofs.lemmas.Bool.{eqb-false}
 use Rattle.lists.specs.Lists.{Row}
 use Rattle.lists.specs.Bools.{test-case}
-use Rattle.prefix.specs.Mask.{hostBits}
+use Rattle.prefix.specs.Mask.{host_bits}
 use Rattle.kind.specs.Kind.{is_kind}
 use Rattle.layout.specs.Address.{optional}
 use Rattle.layout.specs.Route.{fit_route, dst, len, tos, kind, proto, scope, prefsrc_present, prefsrc, gateway_present, gateway, device, onlink, uses_gateway}
 
 -- what is left in the low word of an address that is shifted by its prefix
-shifted : (a p : ℕ) → p ≤ 32 → bit_and (a * 2 ^ p % 2 ^ 64) (2 ^ 32 - 1) ≡ hostBits a p * 2 ^ p
-unfolding hostBits
+shifted : (a p : ℕ) → p ≤ 32 → bit_and (a * 2 ^ p % 2 ^ 64) (2 ^ 32 - 1) ≡ host_bits a p * 2 ^ p
+unfolding host_bits
 shifted a p h =
     let whole : (32 - p) + p ≡ 32 = omega arith in
     and_mask (a * 2 ^ p % 2 ^ 64) 32
@@ -25,15 +25,15 @@ shifted a p h =
     ∙ mod-pow-add (a * 2 ^ p) (32 - p) p
     ∙ rw (shl-shr a p, mul-mod_left a (2 ^ p)) (add-zero (a % 2 ^ (32 - p) * 2 ^ p))
 
-pub host_shifted : (a p : ℕ) → p ≤ 32 → eqb (bit_and (a * 2 ^ p % 2 ^ 64) (2 ^ 32 - 1)) 0 ≡ eqb (hostBits a p) 0
+pub host_shifted : (a p : ℕ) → p ≤ 32 → eqb (bit_and (a * 2 ^ p % 2 ^ 64) (2 ^ 32 - 1)) 0 ≡ eqb (host_bits a p) 0
 host_shifted a p h =
     ap (λ (x : ℕ). eqb x 0) (shifted a p h)
-    ∙ test-case (eqb (hostBits a p) 0)
-    (λ e. eq-eqb (hostBits a p * 2 ^ p) 0 (ap (λ (x : ℕ). x * 2 ^ p) (eqb-true (hostBits a p) 0 e) ∙ zero-mul (2 ^ p)) ∙ sym e)
-    (λ e. ne_eqb (hostBits a p * 2 ^ p) 0 (λ q. eqb-false (hostBits a p) 0 e (sym (shl-shr (hostBits a p) p) ∙ ap (λ (x : ℕ). x / 2 ^ p) q ∙ zero-div (2 ^ p))) ∙ sym e)
+    ∙ test-case (eqb (host_bits a p) 0)
+    (λ e. eq-eqb (host_bits a p * 2 ^ p) 0 (ap (λ (x : ℕ). x * 2 ^ p) (eqb-true (host_bits a p) 0 e) ∙ zero-mul (2 ^ p)) ∙ sym e)
+    (λ e. ne_eqb (host_bits a p * 2 ^ p) 0 (λ q. eqb-false (host_bits a p) 0 e (sym (shl-shr (host_bits a p) p) ∙ ap (λ (x : ℕ). x / 2 ^ p) q ∙ zero-div (2 ^ p))) ∙ sym e)
 
 -- the tests in the code's order
-pub fit-tests : (r : Row) {host known source via : Bool} → length r ≡ 32 → len r ≤ 32 → host ≡ eqb (hostBits (dst r) (len r)) 0 → known ≡ is_kind (kind r)
+pub fit-tests : (r : Row) {host known source via : Bool} → length r ≡ 32 → len r ≤ 32 → host ≡ eqb (host_bits (dst r) (len r)) 0 → known ≡ is_kind (kind r)
     → source ≡ optional (prefsrc_present r) (prefsrc r) → via ≡ optional (gateway_present r) (gateway r)
     → (host && ltb (tos r) 256 && ltb (proto r) 256 && ltb (scope r) 256 && known && source && via && leb (device r) 1 && leb (onlink r) 1 && leb (uses_gateway r) 1) ≡ fit_route r
 unfolding fit_route

@@ -2,7 +2,7 @@
 #![tactic(auto)]
 
 ghost use Rattle.std.specs.Prelude.{◌≡◌, ◌≤◌, eqb, length, true, drop};
-ghost use Rattle.prefix.specs.Mask.{hostBits};
+ghost use Rattle.prefix.specs.Mask.{host_bits};
 ghost use Rattle.kind.specs.Kind.{kind_of};
 ghost use Rattle.layout.specs.Route.{fit_route, before};
 ghost use Rattle.row_route.specs.Route4.{kind_in, bit_of, route4_of, row_of};
@@ -133,7 +133,7 @@ impl Route4 {
 // The bits behind a prefix are 0: they are what is left in the low word once the prefix is shifted out of it.
 fn no_host_bits(ip: u32, prefix: u32) -> bool
     requires { prefix ≤ 32 }
-    ensures { result ≡ eqb (hostBits ip prefix) 0 }
+    ensures { result ≡ eqb (host_bits ip prefix) 0 }
 {
     ((ip as u64) << prefix) & 0xffff_ffff == 0
 }

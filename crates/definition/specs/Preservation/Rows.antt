@@ -8,7 +8,7 @@ use Rattle.lists.specs.Lists.{Row, all, zeros}
 use Rattle.lists.specs.Bools.{and_iff, or-false, cond-case}
 use Rattle.lists.specs.All.{all_append, all_cons}
 use Rattle.lists.specs.Rows.{sized, length-zeros}
-use Rattle.prefix.specs.Mask.{network, hostBits, broadcast}
+use Rattle.prefix.specs.Mask.{network, host_bits, broadcast}
 use Rattle.kind.specs.Kind.{is_kind, error_of, least_scope}
 use Rattle.layout.specs.Address as Address
 use Rattle.layout.specs.Address.{fit_address, prefix, set_flags, set_proto, set_priority}
@@ -57,20 +57,20 @@ asked-fit q now long h =
     (λ k. let f = fields_request (spelled 18 q) k in address_fields _ refl (record { short = f.short; announced = f.announced; wide = f.wide; by = f.by; labelled = f.labelled })) h
 
 -- ---- the kernel's routes
-host_bits-network : (a p : ℕ) → hostBits (network a p) p ≡ 0
-unfolding hostBits network
+host_bits-network : (a p : ℕ) → host_bits (network a p) p ≡ 0
+unfolding host_bits network
 host_bits-network a p =
     let m : ℕ = 2 ^ (32 - p) in
     ap (λ (x : ℕ). x % m) (sym (zero-add (a / m * m))) ∙ add-mul-mod_self_right 0 (a / m) m ∙ zero-mod m
 
-host_bits-none : (a : ℕ) → hostBits a 32 ≡ 0
-unfolding hostBits
+host_bits-none : (a : ℕ) → host_bits a 32 ≡ 0
+unfolding host_bits
 host_bits-none a = mod-one a
 
 behind_fifteen : (n : ℕ) → n ≡ 17 → eqb (suc (suc (suc (suc (suc (suc (suc (suc (suc (suc (suc (suc (suc (suc (suc n))))))))))))))) 32 ≡ true
 behind_fifteen n h = rw h
 
-pub kernel_route-fit : (dst len priority kind source : ℕ) → leb len 32 ≡ true → hostBits dst len ≡ 0 → is_kind kind ≡ true
+pub kernel_route-fit : (dst len priority kind source : ℕ) → leb len 32 ≡ true → host_bits dst len ≡ 0 → is_kind kind ≡ true
     → fit_route (kernel_route dst len priority kind source) ≡ true
 unfolding fit_route kernel_route
 kernel_route-fit dst len priority kind source h z k =
@@ -78,7 +78,7 @@ kernel_route-fit dst len priority kind source h z k =
     cond-case (λ (x : ℕ). ltb x 256 ≡ true) (eqb kind broadcast_kind) (λ e. refl) (λ e. refl)
     in
     simp and_iff
-    (((((((((((behind_fifteen (length (zeros 17)) (length-zeros 17), h), eq-eqb (hostBits dst len) 0 z), refl), k), refl), scoped), (refl, refl)), (refl, refl)), refl), refl), refl)
+    (((((((((((behind_fifteen (length (zeros 17)) (length-zeros 17), h), eq-eqb (host_bits dst len) 0 z), refl), k), refl), scoped), (refl, refl)), (refl, refl)), refl), refl), refl)
 
 pub local_route-fit : (source : ℕ) (a : Row) → fit_route (local_route source a) ≡ true
 unfolding local_route is_kind
@@ -147,15 +147,15 @@ refuse-zero true n h k = absurd (omega arith)
 refuse-zero false n h k = refl
 
 -- a request whose form is right names a prefix without host bits and one of the kinds
-pub form_right : (q : Row) → form_check q ≡ 0 → (leb (len q) 32 ≡ true) × (hostBits (dst q) (len q) ≡ 0) × (is_kind (kind q) ≡ true)
+pub form_right : (q : Row) → form_check q ≡ 0 → (leb (len q) 32 ≡ true) × (host_bits (dst q) (len q) ≡ 0) × (is_kind (kind q) ≡ true)
 unfolding form_check
 form_right q h =
     let a = then-zero (refuse (bad_prefix q) 22) _ h in
     let b = then-zero (refuse (ltb (Route.scope q) (least_scope (kind q)) || dead_flags q) 22) _ a.1 in
     let c = then-zero (metrics_error q) (refuse (not (is_kind (kind q))) (cond (unsupported (kind q)) 95 22)) b.1 in
-    let d = or-false (not (leb (len q) 32)) (not (eqb (hostBits (dst q) (len q)) 0)) (refuse-zero (bad_prefix q) 22 (omega arith) a.0) in
+    let d = or-false (not (leb (len q) 32)) (not (eqb (host_bits (dst q) (len q)) 0)) (refuse-zero (bad_prefix q) 22 (omega arith) a.0) in
     let e = refuse-zero (not (is_kind (kind q))) (cond (unsupported (kind q)) 95 22) (cond-case (λ (n : ℕ). 0 < n) (unsupported (kind q)) (λ e. omega arith) (λ e. omega arith)) c.1 in
-    (not-false (leb (len q) 32) d.0, eqb-true (hostBits (dst q) (len q)) 0 (not-false (eqb (hostBits (dst q) (len q)) 0) d.1), not-false (is_kind (kind q)) e)
+    (not-false (leb (len q) 32) d.0, eqb-true (host_bits (dst q) (len q)) 0 (not-false (eqb (host_bits (dst q) (len q)) 0) d.1), not-false (is_kind (kind q)) e)
 
 mark-fit : (b : Bool) → leb (mark b) 1 ≡ true
 mark-fit b = cond-case (λ (n : ℕ). leb n 1 ≡ true) b (λ e. refl) (λ e. refl)
@@ -167,4 +167,4 @@ asked_route-fit q linked long fit form =
     let f = form_right q form in
     let metrics : length (take 17 (drop 16 q)) ≡ 17 = simp (length-take, length-drop) (omega arith) in
     simp and_iff
-    (((((((((((behind_fifteen (length (take 17 (drop 16 q))) metrics, f.0), eq-eqb (hostBits (dst q) (len q)) 0 f.1), k.0.0.0.0.0.0.0.0.1), f.2), k.0.0.0.0.0.0.1), k.0.0.0.0.0.1), k.0.0.0.0.1), k.0.0.0.1), mark-fit (eqb (error_of (kind q)) 0)), mark-fit (onlink_flag q)), mark-fit linked)
+    (((((((((((behind_fifteen (length (take 17 (drop 16 q))) metrics, f.0), eq-eqb (host_bits (dst q) (len q)) 0 f.1), k.0.0.0.0.0.0.0.0.1), f.2), k.0.0.0.0.0.0.1), k.0.0.0.0.0.1), k.0.0.0.0.1), k.0.0.0.1), mark-fit (eqb (error_of (kind q)) 0)), mark-fit (onlink_flag q)), mark-fit linked)

@@ -2,7 +2,7 @@
 use Rattle.std.specs.Prelude.{ℕ, Bool, false, cond, not, ◌&&◌, ◌||◌, List, [], ◌∷◌, eqb, leb, ltb}
 use Rattle.std.proofs.Math.Option.{Option, none, some}
 use Rattle.lists.specs.Lists.{Row, keep, among}
-use Rattle.prefix.specs.Mask.{network, flowTos}
+use Rattle.prefix.specs.Mask.{network, flow_tos}
 use Rattle.kind.specs.Kind.{error_of}
 use Rattle.layout.specs.Route.{table, dst, len, tos, kind, scope, device}
 use Rattle.definition.specs.State.{State}
@@ -54,7 +54,7 @@ rejects r = not (eqb (error_of (kind r)) 0)
 unfoldable pub fits : Flow → Row → Bool
 fits f r =
     eqb (dst r) (network f.ip (len r))
-    && (eqb (tos r) 0 || eqb (tos r) (flowTos f.tos))
+    && (eqb (tos r) 0 || eqb (tos r) (flow_tos f.tos))
     && leb f.scope (scope r)
     && (rejects r || eqb f.oif 0 || (eqb f.oif 1 && eqb (device r) 1))
 

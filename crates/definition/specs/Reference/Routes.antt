@@ -2,7 +2,7 @@
 use Rattle.std.specs.Prelude.{ℕ, ◌+◌, max, Bool, true, false, cond, not, ◌&&◌, ◌||◌, [], ◌∷◌, eqb, leb, ltb, get_or}
 use Rattle.std.proofs.Math.Option.{Option, none, some}
 use Rattle.lists.specs.Lists.{Row, all, first, remove_first}
-use Rattle.prefix.specs.Mask.{hostBits}
+use Rattle.prefix.specs.Mask.{host_bits}
 use Rattle.kind.specs.Kind.{is_kind, error_of, least_scope}
 use Rattle.layout.specs.Flags.{has_bit, dead_bit, onlink_bit, linkdown_bit}
 use Rattle.layout.specs.Route.{table, dst, len, tos, priority, kind, proto, scope, prefsrc_present, prefsrc, gateway_present, gateway, device}
@@ -20,7 +20,7 @@ table_named q = cond (eqb (table q) 0) main_table (table q)
 
 -- a length over 32, or bits outside it
 abbrev pub bad_prefix : Row → Bool
-bad_prefix q = not (leb (len q) 32) || not (eqb (hostBits (dst q) (len q)) 0)
+bad_prefix q = not (leb (len q) 32) || not (eqb (host_bits (dst q) (len q)) 0)
 
 -- flags that no request may set [NEXTHOP_DEAD; RTNH_F_DEAD, RTNH_F_LINKDOWN]
 abbrev pub dead_flags : Row → Bool
