@@ -1,0 +1,45 @@
+-- `app_show::show_words` meets its contract: by the form of the first words.
+-- Assumes nothing.
+use Prim.Native.Nat.{ℕ}
+use mathlib.Core.Path.{sym, ap, ◌∙◌}
+use mathlib.Core.List.{List}
+use native.Mathlib.Nat.{zero-add}
+use native.Mathlib.Omega.{arith}
+use lib.ListN.{length}
+use Rattle.lists.specs.Lists.{put}
+use Rattle.definition.specs.Preservation.Step.{base-long}
+use Rattle.app_show.specs.Laws.{shown-well, shown_ill}
+use borrow.Author.Rules.{rules}
+use Rattle.app_show.proofs.show_words.Goals as goal
+
+pub slice_bounds-well_formed-end : goal.slice_bounds-well_formed-end
+slice_bounds-well_formed-end c =
+    sym (base-long c.args.s.now c.requires.0)
+
+pub well_formed-requires : goal.well_formed-requires
+well_formed-requires c =
+    base-long c.args.s.now c.requires.0
+
+pub slice_bounds-show_listing-end : goal.slice_bounds-show_listing-end
+slice_bounds-show_listing-end c =
+    sym (base-long c.args.s.now c.requires.0)
+
+pub show_listing-requires : goal.show_listing-requires
+show_listing-requires c =
+    (base-long c.args.s.now c.requires.0, sym c.well-formed-2.ensures ∙ c.if-well_formed.true, c.requires.1)
+
+pub returns-then-well_formed : goal.returns-then-well_formed
+returns-then-well_formed c =
+    let a = c.args in
+    let listing = c.show_listing.ensures in
+    let e = sym (shown-well a.s.now (sym c.well-formed-2.ensures ∙ c.if-well_formed.true)) in
+    (listing.0, (listing.1.0 ∙ ap (λ (x : List ℕ). length x) e, listing.1.1 ∙ ap (λ (x : List ℕ). put 0 x a.out.now) e))
+
+pub returns : goal.returns
+returns c =
+    let a = c.args in
+    let line = c.refused_line.ensures in
+    let e = sym (shown_ill a.s.now (sym c.well-formed-2.ensures ∙ c.if-well_formed.false)) in (
+      omega (arith, line.0),
+      (line.1.0 ∙ zero-add _ ∙ ap (λ (x : List ℕ). length x) e, line.1.1 ∙ ap (λ (x : List ℕ). put 0 x a.out.now) e),
+    )

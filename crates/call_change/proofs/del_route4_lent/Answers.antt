@@ -1,0 +1,91 @@
+-- `call_change::del_route4_lent` meets its contract.
+-- Assumes nothing.
+use native.Mathlib.Omega.{arith}
+use mathlib.Core.Path.{sym}
+use Rattle.layout.specs.Request.{del_route4_size, fit_del_route4}
+use Rattle.definition.specs.Call as Call
+use Rattle.definition.specs.Words.{state_of}
+use Rattle.definition.specs.Step.{unless, events_fit, semantics, del_route4_call}
+use Rattle.definition.specs.Reference.Routes.{del_route4_request}
+use Rattle.definition.specs.Preservation.Change.{unless-passed}
+use Rattle.definition.specs.Preservation.Numbers.{del_route4-number}
+use Rattle.state.specs.Represents.{fit-some}
+use Rattle.call_read.specs.Laws.{passed, lent}
+use Rattle.call_change.specs.Laws.{request-checked, sizes, sound, answers-refused, answers-passed}
+use Rattle.call_change.specs.Steps.{whole-answers}
+use borrow.Author.Rules.{rules}
+use Rattle.call_change.proofs.del_route4_lent.Goals as goal
+
+pub returns-then-n-ne0 : goal.returns-then-n-ne0
+unfolding del_route4_call
+returns-then-n-ne0 c =
+    let a = c.args in
+    let q = a.q.now in
+    let w = a.state.now in
+    let ev = a.events.now in
+    let call = semantics (Call.del_route4 q a.room) in
+    let n-is =
+    request-checked del_route4_size q (events_fit a.room) (unless (fit_del_route4 q) 202) w
+    c.checked-n.ensures c.fit_del_route4-fit.ensures
+    in
+    answers-refused call w ev n-is c.if-n-ne0.true
+
+pub slice_bounds-del_route4-end : goal.slice_bounds-del_route4-end
+slice_bounds-del_route4-end c =
+    let a = c.args in
+    let q = a.q.now in
+    let w = a.state.now in
+    let ev = a.events.now in
+    let call = semantics (Call.del_route4 q a.room) in
+    let n-is =
+    request-checked del_route4_size q (events_fit a.room) (unless (fit_del_route4 q) 202) w
+    c.checked-n.ensures c.fit_del_route4-fit.ensures
+    in
+    let p = passed call.checks w n-is c.if-n-ne0.false in
+    omega (arith, p.long)
+
+pub slice_bounds-del_route4-end-2 : goal.slice_bounds-del_route4-end-2
+slice_bounds-del_route4-end-2 c =
+    let a = c.args in
+    let q = a.q.now in
+    let w = a.state.now in
+    let ev = a.events.now in
+    let call = semantics (Call.del_route4 q a.room) in
+    let n-is =
+    request-checked del_route4_size q (events_fit a.room) (unless (fit_del_route4 q) 202) w
+    c.checked-n.ensures c.fit_del_route4-fit.ensures
+    in
+    let p = passed call.checks w n-is c.if-n-ne0.false in
+    sym (lent p)
+
+pub del_route4-requires : goal.del_route4-requires
+del_route4-requires c =
+    let a = c.args in
+    let q = a.q.now in
+    let w = a.state.now in
+    let ev = a.events.now in
+    let call = semantics (Call.del_route4 q a.room) in
+    let n-is =
+    request-checked del_route4_size q (events_fit a.room) (unless (fit_del_route4 q) 202) w
+    c.checked-n.ensures c.fit_del_route4-fit.ensures
+    in
+    let p = passed call.checks w n-is c.if-n-ne0.false in
+    let size = sizes del_route4_size q a.room p.room in
+    (fit-some (sound p), ((size.long, unless-passed (fit_del_route4 q) p.fit), omega (arith, c.requires size.room)))
+
+pub returns : goal.returns
+unfolding del_route4_call
+returns c =
+    let a = c.args in
+    let q = a.q.now in
+    let w = a.state.now in
+    let ev = a.events.now in
+    let call = semantics (Call.del_route4 q a.room) in
+    let n-is =
+    request-checked del_route4_size q (events_fit a.room) (unless (fit_del_route4 q) 202) w
+    c.checked-n.ensures c.fit_del_route4-fit.ensures
+    in
+    let p = passed call.checks w n-is c.if-n-ne0.false in
+    answers-passed call w p
+    (whole-answers p (del_route4_request q (state_of w)) (del_route4-number q (state_of w))
+    (c.del_route4.ensures (state_of w) p.holds) c.of_done.ensures)

@@ -1,0 +1,60 @@
+-- `call_change::down_lent` meets its contract.
+-- Assumes nothing.
+use native.Mathlib.Omega.{arith}
+use mathlib.Core.Path.{sym}
+use Rattle.definition.specs.Call as Call
+use Rattle.definition.specs.Words.{state_of}
+use Rattle.definition.specs.Step.{semantics, down_call}
+use Rattle.definition.specs.Reference.Addresses.{down}
+use Rattle.call_read.specs.Laws.{passed, lent, valid}
+use Rattle.call_change.specs.Laws.{answers-refused, answers-passed}
+use Rattle.call_change.specs.Steps.{down_answers}
+use borrow.Author.Rules.{rules}
+use Rattle.call_change.proofs.down_lent.Goals as goal
+
+pub returns-then-n-ne0 : goal.returns-then-n-ne0
+unfolding down_call
+returns-then-n-ne0 c =
+    let a = c.args in
+    let w = a.state.now in
+    let ev = a.events.now in
+    let call = semantics (Call.down a.room) in
+    answers-refused call w ev c.checked-n.ensures c.if-n-ne0.true
+
+pub slice_bounds-down-end : goal.slice_bounds-down-end
+slice_bounds-down-end c =
+    let a = c.args in
+    let w = a.state.now in
+    let ev = a.events.now in
+    let call = semantics (Call.down a.room) in
+    let p = passed call.checks w c.checked-n.ensures c.if-n-ne0.false in
+    omega (arith, p.long)
+
+pub slice_bounds-down-end-2 : goal.slice_bounds-down-end-2
+slice_bounds-down-end-2 c =
+    let a = c.args in
+    let w = a.state.now in
+    let ev = a.events.now in
+    let call = semantics (Call.down a.room) in
+    let p = passed call.checks w c.checked-n.ensures c.if-n-ne0.false in
+    sym (lent p)
+
+pub down-requires : goal.down-requires
+down-requires c =
+    let a = c.args in
+    let w = a.state.now in
+    let ev = a.events.now in
+    let call = semantics (Call.down a.room) in
+    let p = passed call.checks w c.checked-n.ensures c.if-n-ne0.false in
+    valid p
+
+pub returns : goal.returns
+unfolding down_call
+returns c =
+    let a = c.args in
+    let w = a.state.now in
+    let ev = a.events.now in
+    let call = semantics (Call.down a.room) in
+    let p = passed call.checks w c.checked-n.ensures c.if-n-ne0.false in
+    answers-passed call w p
+    (down_answers w ev p (c.down.ensures (state_of w) p.holds))

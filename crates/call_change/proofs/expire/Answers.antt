@@ -1,0 +1,70 @@
+-- `call_change::expire` meets its contract.
+-- Assumes nothing.
+use native.Mathlib.Omega.{arith}
+use mathlib.Core.Path.{refl, sym}
+use lib.ListN.{length}
+use borrow.Author.Tests.{leb-true}
+use Rattle.life.specs.Life.{allowance}
+use Rattle.definition.specs.Call as Call
+use Rattle.definition.specs.Words.{state_of}
+use Rattle.definition.specs.Step.{event_room, semantics, expire_call}
+use Rattle.definition.specs.Reference.Removal.{expire}
+use Rattle.definition.specs.Preservation.Peaks.{expire-roomy}
+use Rattle.call_read.specs.Laws.{checked_as, passed, lent}
+use Rattle.call_change.specs.Laws.{answers-refused, answers-passed}
+use Rattle.call_change.specs.Steps.{fitting, within-answers}
+use borrow.Author.Rules.{rules}
+use Rattle.call_change.proofs.expire.Goals as goal
+
+pub returns-then-n-ne0 : goal.returns-then-n-ne0
+unfolding expire_call
+returns-then-n-ne0 c =
+    let a = c.args in
+    let w = a.state.now in
+    let ev = a.events.now in
+    let call = semantics (Call.expire (length ev) a.clock) in
+    let n-is = checked_as call.checks w c.checked-n.ensures refl c.fit_expire.ensures in
+    answers-refused call w ev n-is c.if-n-ne0.true
+
+pub slice_bounds-expire-end : goal.slice_bounds-expire-end
+slice_bounds-expire-end c =
+    let a = c.args in
+    let w = a.state.now in
+    let ev = a.events.now in
+    let call = semantics (Call.expire (length ev) a.clock) in
+    let n-is = checked_as call.checks w c.checked-n.ensures refl c.fit_expire.ensures in
+    let p = passed call.checks w n-is c.if-n-ne0.false in
+    omega (arith, p.long)
+
+pub slice_bounds-expire-end-2 : goal.slice_bounds-expire-end-2
+slice_bounds-expire-end-2 c =
+    let a = c.args in
+    let w = a.state.now in
+    let ev = a.events.now in
+    let call = semantics (Call.expire (length ev) a.clock) in
+    let n-is = checked_as call.checks w c.checked-n.ensures refl c.fit_expire.ensures in
+    let p = passed call.checks w n-is c.if-n-ne0.false in
+    sym (lent p)
+
+pub expire-requires : goal.expire-requires
+expire-requires c =
+    let a = c.args in
+    let w = a.state.now in
+    let ev = a.events.now in
+    let call = semantics (Call.expire (length ev) a.clock) in
+    let n-is = checked_as call.checks w c.checked-n.ensures refl c.fit_expire.ensures in
+    let p = passed call.checks w n-is c.if-n-ne0.false in
+    record { state = state_of w; fits = fitting p (leb-true event_room (length ev) p.room) }
+
+pub returns : goal.returns
+unfolding expire_call
+returns c =
+    let a = c.args in
+    let w = a.state.now in
+    let ev = a.events.now in
+    let call = semantics (Call.expire (length ev) a.clock) in
+    let n-is = checked_as call.checks w c.checked-n.ensures refl c.fit_expire.ensures in
+    let p = passed call.checks w n-is c.if-n-ne0.false in
+    answers-passed call w p
+    (within-answers (state_of w) (expire allowance a.clock (state_of w)) w (expire-roomy allowance a.clock (state_of w) p.good)
+    (c.expire.ensures (state_of w) (fitting p (leb-true event_room (length ev) p.room))))

@@ -1,0 +1,24 @@
+-- `call_dispatch::expire` meets its contract.
+-- Assumes nothing.
+use mathlib.Core.Path.{refl}
+use lib.ListN.{length}
+use Rattle.definition.specs.Call.{Call}
+use Rattle.definition.specs.Step.{expire_call}
+use Rattle.call_dispatch.specs.Laws.{done-small, change-made}
+use borrow.Author.Rules.{rules}
+use Rattle.call_dispatch.proofs.expire.Goals as goal
+
+pub done-requires : goal.done-requires
+unfolding expire_call
+done-requires c =
+    let a = c.args in
+    let ev = a.events.now in
+    done-small (Call.expire (length ev) a.clock) a.state.now c.expire.result c.expire.ensures refl
+
+pub returns : goal.returns
+unfolding expire_call
+returns c =
+    let a = c.args in
+    let ev = a.events.now in
+    let e = c.expire.ensures in
+    change-made (Call.expire (length ev) a.clock) a.state.now c.expire.result e refl refl c.done.ensures

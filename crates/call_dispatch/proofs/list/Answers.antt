@@ -1,0 +1,26 @@
+-- `call_dispatch::list` meets its contract.
+-- Assumes nothing.
+use mathlib.Core.Path.{refl}
+use lib.ListN.{length}
+use Rattle.definition.specs.Call.{Call}
+use Rattle.definition.specs.Step.{dump4_call}
+use Rattle.call_read.specs.Answer.{listed_by}
+use Rattle.call_read.specs.Listing.{dump4-lists, listed_small}
+use Rattle.call_dispatch.specs.Laws.{read_made, list-is}
+use borrow.Author.Rules.{rules}
+use Rattle.call_dispatch.proofs.list.Goals as goal
+
+pub listed-requires : goal.listed-requires
+listed-requires c =
+    let a = c.args in
+    let room = length a.listing.now in
+    listed_small c.dump4.result (dump4_call room a.state.now).reply c.dump4.ensures.says (dump4-lists a.state.now room)
+
+pub returns : goal.returns
+unfolding dump4_call
+returns c =
+    let a = c.args in
+    let l = a.listing.now in
+    let e = c.dump4.ensures in
+    read_made (Call.dump4 (length l)) a.state.now (listed_by c.dump4.result) c.listed.result c.listed.ensures e.says l _
+    (list-is (length l)) refl e.rows

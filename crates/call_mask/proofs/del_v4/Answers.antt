@@ -1,0 +1,49 @@
+-- `call_mask::del_v4` meets its contract.
+-- Assumes nothing.
+use native.Mathlib.Omega.{arith}
+use mathlib.Core.Path.{◌≡◌, sym, ap, subst, ◌∙◌}
+use mathlib.Core.Bool.{true}
+use Prim.Native.Nat.{ℕ}
+use lib.ListN.{length}
+use Rattle.lists.specs.Lists.{Row}
+use Rattle.layout.specs.Request.{del_v4_size, fit_del_v4}
+use Rattle.netmask.specs.Netmask.{good, bad_mask}
+use Rattle.definition.specs.Step.{unless, del_v4_call}
+use Rattle.call_change.specs.Laws.{answers-refused}
+use Rattle.call_mask.specs.Masked.{del_v4_mask, mask_at, prefixed, del_v4_masked, del_v4_mask_call}
+use Rattle.call_mask.specs.Laws.{unsized, bad_mask_lem, bad_some, mask-good, del_v4-good, answers_as}
+use borrow.Author.Rules.{rules}
+use Rattle.call_mask.proofs.del_v4.Invariants.{number}
+use Rattle.call_mask.proofs.del_v4.Goals as goal
+
+pub returns-then-q-ne-DEL_V4_WORDS : goal.returns-then-q-ne-DEL_V4_WORDS
+unfolding del_v4_mask_call
+returns-then-q-ne-DEL_V4_WORDS c =
+    let a = c.args in
+    let q = a.q.now in
+    let w = a.state.now in
+    let ev = a.events.now in
+    answers-refused (del_v4_masked q (length ev)) w ev (unsized del_v4_size del_v4_mask q (length ev) (unless (fit_del_v4 (prefixed del_v4_mask q)) 202) w c.if-q-ne-DEL_V4_WORDS.true) (λ z. omega arith)
+
+pub returns-then-n-ne0 : goal.returns-then-n-ne0
+unfolding del_v4_mask_call
+returns-then-n-ne0 c =
+    let at_own = (copied c).before in
+    let a = (start at_own).args in
+    let q = a.q.now in
+    let w = a.state.now in
+    let ev = a.events.now in
+    let n-is = bad_mask_lem del_v4_size del_v4_mask q (length ev) (unless (fit_del_v4 (prefixed del_v4_mask q)) 202) w at_own.before.if1.left (number c) c.if-n-ne0.true c.checked.ensures in
+    answers-refused (del_v4_masked q (length ev)) w ev n-is (bad_some (length ev) w c.if-n-ne0.true c.checked.ensures)
+
+pub returns : goal.returns
+returns c =
+    let at_own = (copied c).before in
+    let a = (start at_own).args in
+    let q = a.q.now in
+    let w = a.state.now in
+    let ev = a.events.now in
+    let is-good : good (mask_at del_v4_mask q) ≡ true = mask-good (good (mask_at del_v4_mask q)) (number c) c.if-n-ne0.false in
+    let Copy-is = (copied c).copy.ensures in
+    let own_is = c.to_prefix-n.ensures.1 (ap (λ (x : Row). good (mask_at del_v4_mask x)) Copy-is ∙ is-good) ∙ ap (prefixed del_v4_mask) Copy-is in
+    answers_as (del_v4-good q (length ev) w is-good ∙ ap (λ (x : Row). del_v4_call x (length ev) w) (sym own_is)) c.del_v4.ensures

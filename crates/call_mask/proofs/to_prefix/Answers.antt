@@ -1,0 +1,25 @@
+-- `call_mask::to_prefix` meets its contract.
+-- Assumes nothing.
+use mathlib.Core.Path.{sym, ap, ◌∙◌}
+use lib.ListN.{set}
+use Prim.Native.Nat.{ℕ}
+use Rattle.lists.specs.Bools.{true-false}
+use Rattle.netmask.specs.Netmask.{good}
+use Rattle.call_mask.specs.Masked.{mask_at}
+use Rattle.call_mask.specs.Laws.{to-prefix_bad, to-prefix-good}
+use borrow.Author.Rules.{rules}
+use Rattle.call_mask.proofs.to_prefix.Goals as goal
+
+pub returns-in-Refused : goal.returns-in-Refused
+returns-in-Refused c =
+    let a = c.args in
+    let m = mask_at a.at a.q.now in
+    let said = to-prefix_bad m _ (sym c.prefix_of.ensures ∙ c.in-Refused.is) in
+    (said.0, λ g. absurd (true-false (good m) g said.1))
+
+pub returns-in-Length : goal.returns-in-Length
+returns-in-Length c =
+    let a = c.args in
+    let m = mask_at a.at a.q.now in
+    let said = to-prefix-good m _ (sym c.prefix_of.ensures ∙ c.in-Length.is) in
+    (said.0, λ g. ap (λ (p : ℕ). set a.q.now a.at p) said.1)

@@ -1,0 +1,56 @@
+-- `call_records::read` meets its contract. The invariant: the rows before place i are read back from the records.
+-- Assumes nothing.
+use Prim.Native.Nat.{ℕ, ◌-◌, ◌≤◌, ◌<◌, zero-le}
+use native.Mathlib.Omega.{arith}
+use mathlib.Core.Path.{◌≡◌, refl, ap, ◌∙◌}
+use mathlib.Core.List.{List, map}
+use lib.Dec.{lit<}
+use lib.ListN.{length, take, length-set}
+use lib.Seq.{take_all}
+use borrow.Author.Rules.{rules}
+use Rattle.lists.specs.Lists.{Row}
+use Rattle.lists.specs.Laid.{Laid, laid-part}
+use Rattle.lists.specs.Pass.{part-fit, laid-rows}
+use Rattle.layout.specs.Address.{fit_address}
+use Rattle.row_address.specs.Words.{row_of}
+use Rattle.call_records.specs.Laws.{read_more}
+use Rattle.call_records.proofs.read.Goals as goal
+
+pub loop-i-init : goal.loop-i-init
+loop-i-init c = (zero-le, refl, λ l h. refl)
+
+pub record_of-v-requires : goal.record_of-v-requires
+record_of-v-requires c =
+    let w = c.args.words.now in
+    let n = c.args.n in
+    let i = c.loop-i.i in
+    part-fit w n (lit< tt) c.requires.1 c.requires.2 i c.loop-i-test.true
+
+pub loop-i-preserved : goal.loop-i-preserved
+loop-i-preserved c =
+    let inv = c.loop-i.invariant in
+    let w = c.args.words.now in
+    let n = c.args.n in
+    let i = c.loop-i.i in
+    let rows = c.loop-i.rows in
+    let long : length rows ≡ 64 = inv.1 in
+    let less : i < n = c.loop-i-test.true in
+    let most : n ≤ 64 = c.requires.0 in (
+      omega arith,
+      simp length-set long,
+      λ l h.
+          let there : i < length l = omega (arith, laid-rows w n (lit< tt) c.requires.1 l h) in
+          read_more rows i l c.record_of-v.result (omega arith) there (c.record_of-v.ensures.1 ∙ laid-part h i there) (inv.2 l h),
+    )
+
+pub returns : goal.returns
+returns c =
+    let inv = c.loop-i.invariant in
+    let w = c.args.words.now in
+    let n = c.args.n in
+    let i = c.loop-i.i in
+    let rows = c.loop-i.rows in
+    let over : n ≡ i = omega (arith, inv.0, c.loop-i-test.false) in
+    λ l h.
+    let whole : length l ≤ i = omega (arith, laid-rows w n (lit< tt) c.requires.1 l h) in
+    ap (λ (k : ℕ). map row_of (take k rows)) over ∙ inv.2 l h ∙ take_all i l whole

@@ -1,0 +1,41 @@
+-- `call_records::select4_words` meets its contract.
+-- Assumes nothing.
+use mathlib.Core.Path.{refl, sym}
+use Rattle.definition.specs.Call as Call
+use Rattle.definition.specs.Words.{state_of}
+use Rattle.definition.specs.Step.{semantics, select4_call}
+use Rattle.call_read.specs.Laws.{checked_as, lent, valid, passed, says-refused, says-passed, chosen-refused, chosen-answer}
+use borrow.Author.Rules.{rules}
+use Rattle.call_records.proofs.select4_words.Goals as goal
+
+pub returns-then-n-ne0 : goal.returns-then-n-ne0
+unfolding select4_call
+returns-then-n-ne0 c =
+    let a = c.args in
+    let call = semantics (Call.select4 a.dst_present a.dst a.scope) in
+    let n-is = checked_as call.checks a.state.now c.checked-n.ensures refl c.fit_select.ensures in
+    says-refused call a.state.now n-is c.if-n-ne0.true (chosen-refused c.checked-n.result c.if-n-ne0.true)
+
+pub slice_bounds-select4_in-end : goal.slice_bounds-select4_in-end
+slice_bounds-select4_in-end c =
+    let a = c.args in
+    let call = semantics (Call.select4 a.dst_present a.dst a.scope) in
+    let n-is = checked_as call.checks a.state.now c.checked-n.ensures refl c.fit_select.ensures in
+    sym (lent (passed call.checks a.state.now n-is c.if-n-ne0.false))
+
+pub select4_in-requires : goal.select4_in-requires
+select4_in-requires c =
+    let a = c.args in
+    let call = semantics (Call.select4 a.dst_present a.dst a.scope) in
+    let n-is = checked_as call.checks a.state.now c.checked-n.ensures refl c.fit_select.ensures in
+    valid (passed call.checks a.state.now n-is c.if-n-ne0.false)
+
+pub returns : goal.returns
+unfolding select4_call
+returns c =
+    let a = c.args in
+    let call = semantics (Call.select4 a.dst_present a.dst a.scope) in
+    let n-is = checked_as call.checks a.state.now c.checked-n.ensures refl c.fit_select.ensures in
+    let p = passed call.checks a.state.now n-is c.if-n-ne0.false in
+    says-passed call a.state.now p
+    (chosen-answer c.select4_in.result _ c.chosen_for.ensures (c.select4_in.ensures (state_of a.state.now) p.holds))

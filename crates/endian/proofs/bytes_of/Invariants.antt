@@ -1,0 +1,19 @@
+-- `endian::bytes_of` meets its contract: after i iterations the bytes of the first i words are put.
+-- Assumes nothing.
+use Prim.Native.Nat.{ℕ, ◌-◌, ◌≤◌}
+use mathlib.Core.Path.{◌≡◌, refl, ap, ◌∙◌}
+use mathlib.Core.List.{List}
+use native.Mathlib.Omega.{arith}
+use lib.ListN.{length, take, length-set}
+use lib.Seq.{take_all}
+use Rattle.lists.specs.Lists.{put}
+use Rattle.endian.specs.Endian.{bytes_of}
+use Rattle.endian.specs.Laws.{bytes-none, four-more-bytes}
+use borrow.Author.Rules.{rules}
+use Rattle.endian.proofs.bytes_of.Given as goal
+
+abbrev pub invariant-loop-i : goal.invariant-loop-i
+invariant-loop-i l = (l.i ≤ length l.words) × (length l.out ≡ length l.initial.out) × (l.out ≡ put 0 (bytes_of (take l.i l.words)) l.initial.out)
+
+abbrev pub decreases-loop-i : goal.decreases-loop-i
+decreases-loop-i l = length l.words - l.i

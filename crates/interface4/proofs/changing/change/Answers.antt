@@ -1,0 +1,47 @@
+-- `interface4::changing::change` meets its contract.
+-- Assumes nothing.
+use mathlib.Core.Path.{◌≡◌, refl, sym, ap, ◌∙◌}
+use mathlib.Core.Bool.{true}
+use native.Mathlib.Omega.{arith}
+use borrow.Author.Tests.{not-true, not-false}
+use Rattle.call_reply.specs.Answer.{numbers_in}
+use Rattle.interface4.specs.Made.{made_gave}
+use Rattle.interface4.specs.Changing.{change_fits, EnoughBytes, fits, changed-no, emitted-room, still, changed-yes}
+use borrow.Author.Rules.{rules}
+use Rattle.interface4.proofs.changing.change.Invariants.{fit, there}
+use Rattle.interface4.proofs.changing.change.Goals as goal
+
+pub returns-then-not-request-size : goal.returns-then-not-request-size
+returns-then-not-request-size c =
+    let a = c.args in
+    changed-no a.code a.size a.request.now a.state.now a.events.now a.clock c.requires
+    (not-true _ c.if-not-request-size.true) (ap numbers_in c.refused.ensures)
+
+pub words_of-requires : goal.words_of-requires
+words_of-requires c =
+    omega (arith, (there c).request, (start c).requires.few)
+
+pub words_of-requires-2 : goal.words_of-requires-2
+words_of-requires-2 c = omega (arith, (there c).state)
+
+pub give_back-requires : goal.give_back-requires
+give_back-requires c =
+    let a = (start c).args in
+    let kept = still a.code a.size a.request.now a.state.now a.events.now a.clock (start c).requires (fit c) _ _
+    c.words_of.ensures c.words_of-2.ensures refl (made_gave c.change-answer.ensures)
+    (λ i. (c.slice_known-1.given i).fits) in
+    ((search rules, (there c).state), λ h. kept (sym c.still-kept.ensures ∙ h))
+
+pub give_rows-requires : goal.give_rows-requires
+give_rows-requires c =
+    let a = (start c).args in
+    let room = emitted-room a.code a.size a.request.now a.state.now a.events.now a.clock (start c).requires (fit c) _ _
+    c.words_of.ensures c.words_of-2.ensures refl (made_gave c.change-answer.ensures) in
+    (room.0, omega (arith, room.1, (there c).events))
+
+pub returns : goal.returns
+returns c =
+    let a = (start c).args in
+    changed-yes a.code a.size a.request.now a.state.now a.events.now a.clock (start c).requires (fit c) _ _
+    c.words_of.ensures c.words_of-2.ensures refl (made_gave c.change-answer.ensures)
+    c.give_back.ensures.0 c.give_rows.ensures.0 c.give_back.ensures.1 c.give_rows.ensures.1

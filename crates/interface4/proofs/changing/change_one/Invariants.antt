@@ -1,0 +1,20 @@
+-- `interface4::changing::change_one` meets its contract.
+-- Assumes nothing.
+use mathlib.Core.Path.{◌≡◌, refl, sym, ap, ◌∙◌}
+use mathlib.Core.Bool.{true}
+use native.Mathlib.Omega.{arith}
+use borrow.Author.Tests.{not-true, not-false}
+use Rattle.call_reply.specs.Answer.{numbers_in}
+use Rattle.interface4.specs.Changing.{change_fits, EnoughBytes, fits, changed-no, emitted-room, still, changed-yes, one_gave}
+use borrow.Author.Rules.{rules}
+use Rattle.interface4.proofs.changing.change_one.Given as goal
+
+pub fit : (c : tie.Else1) → change_fits (start c).args.size (start c).args.request.now (start c).args.state.now (start c).args.events.now ≡ true
+fit c = not-false _ c.if1.false
+
+pub there : (c : tie.Else1) → EnoughBytes (start c).args.size (start c).args.request.now (start c).args.state.now (start c).args.events.now
+there c = fits _ _ _ _ (fit c)
+
+-- behind the test there are as many bytes as there must be
+abbrev start : tie.Else1 → tie.Start
+start c = c.before.before.before.before

@@ -1,0 +1,9 @@
+-- `interface4::masks::as_bytes` meets its contract.
+-- Assumes nothing.
+use Rattle.interface4.specs.Mask.{bytes_back}
+use borrow.Author.Rules.{rules}
+use Rattle.interface4.proofs.masks.as_bytes.Goals as goal
+
+pub returns : goal.returns
+returns c =
+    bytes_back c.args.q.now c.args.out.now c.requires c.bytes_of.ensures (λ i. (c.shared_slice_known-1.given i).fits)

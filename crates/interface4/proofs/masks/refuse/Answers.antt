@@ -1,0 +1,45 @@
+-- `interface4::masks::refuse` meets its contract.
+-- Assumes nothing.
+use Prim.Native.Nat.{ℕ, ◌*◌}
+use native.Mathlib.Omega.{arith}
+use mathlib.Core.Path.{◌≡◌, refl, sym, ap, ◌∙◌}
+use mathlib.Core.Bool.{true}
+use mathlib.Core.List.{List}
+use borrow.Author.Tests.{not-true, not-false}
+use Rattle.lists.specs.Bools.{cond-true, cond-false}
+use Rattle.endian.specs.Endian.{words_of}
+use Rattle.endian.specs.Laws.{words-whole}
+use Rattle.definition.specs.Words.{state_size}
+use Rattle.definition.specs.Call.{refusal}
+use Rattle.definition.specs.Step.{checked, event_room}
+use Rattle.definition_bytes.specs.Bytes.{with}
+use Rattle.call_reply.specs.Answer.{reply_of}
+use Rattle.interface4.specs.Mask.{state-long}
+use borrow.Author.Rules.{rules}
+use Rattle.interface4.proofs.masks.refuse.Goals as goal
+
+abbrev number : ℕ → List ℕ → ℕ
+number n w = checked (record { buffers = true; row = true; request = n }) w
+
+fit : (c : tie.Else1) → with (start c).args.state.now (4 * event_room) (start c).args.room ≡ true
+fit c = not-false _ c.if1.false
+
+pub returns-then-not-state-room : goal.returns-then-not-state-room
+returns-then-not-state-room c =
+    let a = c.args in
+    let s = a.state.now in
+    c.refused.ensures
+    ∙ ap reply_of (sym (cond-false (with s (4 * event_room) a.room) (refusal (number a.number (words_of s))) (refusal 200) (not-true _ c.if-not-state-room.true)))
+
+pub words_of-requires : goal.words_of-requires
+words_of-requires c =
+    omega (arith, state-long (start c).args.state.now (start c).args.room (fit c))
+
+pub returns : goal.returns
+returns c =
+    let a = (start c).args in
+    let s = a.state.now in
+    let words = words-whole state_size s _ _ (state-long s a.room (fit c)) refl c.words_of.ensures in
+    let said = c.checked.ensures ∙ ap (number a.number) words in
+    c.refused-2.ensures ∙ ap (λ (n : ℕ). reply_of (refusal n)) said
+    ∙ ap reply_of (sym (cond-true (with s (4 * event_room) a.room) (refusal (number a.number (words_of s))) (refusal 200) (fit c)))

@@ -1,0 +1,38 @@
+-- `interface4::reading::find` meets its contract.
+-- Assumes nothing.
+use Prim.Native.Nat.{◌*◌}
+use native.Mathlib.Omega.{arith}
+use mathlib.Core.Path.{◌≡◌, refl, ap}
+use mathlib.Core.Bool.{true}
+use lib.ListN.{length}
+use borrow.Author.Tests.{not-true, not-false}
+use Rattle.endian.specs.Laws.{words-whole}
+use Rattle.definition.specs.Words.{state_size}
+use Rattle.definition_bytes.specs.Bytes.{with}
+use Rattle.call_reply.specs.Answer.{numbers_in}
+use lib.Dec.{eqb}
+use Rattle.layout.specs.Route as Route
+use Rattle.interface4.specs.Reading.{EnoughRoom, fits, found-no, one, found-yes}
+use borrow.Author.Rules.{rules}
+use Rattle.interface4.proofs.reading.find.Invariants.{fit, there}
+use Rattle.interface4.proofs.reading.find.Goals as goal
+
+pub returns-then-not-state-row : goal.returns-then-not-state-row
+returns-then-not-state-row c =
+    let a = c.args in
+    found-no a.code a.a a.b a.c a.state.now a.row.now (not-true _ c.if-not-state-row.true) (ap numbers_in c.refused.ensures)
+
+pub words_of-requires : goal.words_of-requires
+words_of-requires c = omega (arith, (there c).state)
+
+pub give_rows-requires : goal.give_rows-requires
+give_rows-requires c =
+    let few = one (eqb c.find-answer.result.number 0) in
+    (omega (arith, few), omega (arith, few, (there c).room))
+
+pub returns : goal.returns
+returns c =
+    let a = (start c).args in
+    let words = words-whole state_size a.state.now _ _ (there c).state refl c.words_of.ensures in
+    found-yes a.code a.a a.b a.c a.state.now a.row.now words refl c.find-answer.ensures (fit c)
+    (λ i. (c.shared_slice_known-1.given i).fits) c.give_rows.ensures.0 c.give_rows.ensures.1

@@ -1,0 +1,39 @@
+-- `interface4::reading::interface4_dump4` meets its contract.
+-- Assumes nothing.
+use Prim.Native.Nat.{◌*◌}
+use native.Mathlib.Omega.{arith}
+use mathlib.Core.Path.{◌≡◌, refl, ap}
+use mathlib.Core.Bool.{true}
+use lib.ListN.{length}
+use borrow.Author.Tests.{not-true, not-false}
+use Rattle.endian.specs.Laws.{words-whole}
+use Rattle.definition.specs.Words.{state_size}
+use Rattle.definition_bytes.specs.Bytes.{with}
+use Rattle.call_reply.specs.Answer.{numbers_in}
+use Rattle.definition.specs.Step.{listing_room}
+use Rattle.interface4.specs.Reading.{EnoughRoom, fits, listed-no, listing-room, listed-yes}
+use borrow.Author.Rules.{rules}
+use Rattle.interface4.proofs.reading.interface4_dump4.Invariants.{fit, there}
+use Rattle.interface4.proofs.reading.interface4_dump4.Goals as goal
+
+pub returns-then-not-state-listing : goal.returns-then-not-state-listing
+returns-then-not-state-listing c =
+    let a = c.args in
+    listed-no a.state.now a.listing.now (not-true _ c.if-not-state-listing.true) (ap numbers_in c.refused.ensures)
+
+pub words_of-requires : goal.words_of-requires
+words_of-requires c = omega (arith, (there c).state)
+
+pub give_rows-requires : goal.give_rows-requires
+give_rows-requires c =
+    let a = (start c).args in
+    let words = words-whole state_size a.state.now _ _ (there c).state refl c.words_of.ensures in
+    let room = listing-room a.state.now a.listing.now words refl c.list-answer.ensures in
+    (omega (arith, room), omega (arith, room, (there c).room))
+
+pub returns : goal.returns
+returns c =
+    let a = (start c).args in
+    let words = words-whole state_size a.state.now _ _ (there c).state refl c.words_of.ensures in
+    listed-yes a.state.now a.listing.now words refl c.list-answer.ensures (fit c)
+    (λ i. (c.shared_slice_known-1.given i).fits) c.give_rows.ensures.0 c.give_rows.ensures.1

@@ -1,0 +1,13 @@
+-- `message_cases::replay_record` reads within the bytes that it has.
+-- Assumes nothing.
+use mathlib.Core.Path.{sym}
+use native.Mathlib.Omega.{arith}
+use lib.Seq.{length-take-le}
+use borrow.Author.Rules.{rules}
+use Rattle.message_cases.proofs.replay_record.Goals as goal
+
+pub slice_bounds-replay_bytes-end : goal.slice_bounds-replay_bytes-end
+slice_bounds-replay_bytes-end c =
+    let bytes = c.buffer-bytes in
+    let n = c.wide-n.result in
+    sym (length-take-le n bytes.result (omega (arith, bytes.ensures, c.if-n-gt-MOST.false)))

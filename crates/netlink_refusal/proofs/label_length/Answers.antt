@@ -1,0 +1,33 @@
+use borrow.Author.Rules.{rules}
+use Prim.Native.Nat.{◌+◌, ◌-◌, ◌≤◌}
+use mathlib.Core.Path.{◌≡◌, ap}
+use native.Mathlib.Omega.{arith}
+use lib.ListN.{length, drop, drop_of_length-le}
+use Rattle.netlink.specs.Reader.{label}
+use Rattle.netlink_refusal.specs.Laws.{until-here, until-on}
+use Rattle.netlink_refusal.proofs.label_length.Goals as goal
+
+pub loop-i-init : goal.loop-i-init
+loop-i-init c = (omega arith, omega arith)
+
+pub returns-then-p-i-eq0 : goal.returns-then-p-i-eq0
+returns-then-p-i-eq0 c =
+    let at_loop = c.loop-i in
+    let p = c.args.p.now in
+    let e = until-here p at_loop.i c.loop-i-test.true c.if-p-i-eq0.true in
+    let n = ap length e in
+    (omega (arith, n, at_loop.invariant.1), at_loop.invariant.0)
+
+pub loop-i-preserved : goal.loop-i-preserved
+loop-i-preserved c =
+    let at_loop = c.loop-i in
+    let p = c.args.p.now in
+    let n = until-on p at_loop.i c.loop-i-test.true c.if-p-i-eq0.false in
+    (omega arith, omega (arith, n, at_loop.invariant.1))
+
+pub returns : goal.returns
+returns c =
+    let at_loop = c.loop-i in
+    let p = c.args.p.now in
+    let n : length (label (drop at_loop.i p)) ≡ 0 = ap (λ x. length (label x)) (drop_of_length-le p {i = at_loop.i} c.loop-i-test.false) in
+    (omega (arith, n, at_loop.invariant.1), at_loop.invariant.0)

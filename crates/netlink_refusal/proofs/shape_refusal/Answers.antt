@@ -1,0 +1,47 @@
+use borrow.Author.Rules.{rules}
+use mathlib.Core.Path.{sym, ap, ◌∙◌}
+use native.Mathlib.Omega.{arith}
+use Rattle.netlink.specs.Exactly.{Headed}
+use Rattle.netlink.specs.Reader.{is_address, is_route}
+use Rattle.netlink_refusal.specs.Shape.{address_refusal, route_refusal}
+use Rattle.netlink_refusal.specs.RefusalLaws.{unheaded, of_address, of_route, of_other}
+use Rattle.netlink_refusal.proofs.shape_refusal.Invariants.{header}
+use Rattle.netlink_refusal.proofs.shape_refusal.Goals as goal
+
+pub returns-then-long-lt-HEADER : goal.returns-then-long-lt-HEADER
+returns-then-long-lt-HEADER c = unheaded c.args.m.now (λ h. omega (arith, h.long))
+
+pub returns-then-n-lt-HEADER : goal.returns-then-n-lt-HEADER
+returns-then-n-lt-HEADER c =
+    unheaded c.args.m.now (λ h. omega (arith, h.covers, c.message_length-n.ensures))
+
+pub returns-then-long-n : goal.returns-then-long-n
+returns-then-long-n c =
+    unheaded c.args.m.now (λ h. omega (arith, h.ends, c.message_length-n.ensures))
+
+pub returns-then-either : goal.returns-then-either
+returns-then-either c =
+    let m = (at-start c).args.m.now in
+    let kind = c.message_type-t.ensures in
+    let size = (at-header c).before.before.message-length.ensures in
+    c.address_refusal.ensures
+    ∙ ap (address_refusal m) size
+    ∙ of_address m (header c) (ap is_address (sym kind) ∙ sym c.either.ensures ∙ c.if-either.true)
+
+pub returns-then-either-2 : goal.returns-then-either-2
+returns-then-either-2 c =
+    let m = (at-start c).args.m.now in
+    let kind = c.message_type-t.ensures in
+    let size = (at-header c).before.before.message-length.ensures in
+    c.route_refusal.ensures
+    ∙ ap (route_refusal m) size
+    ∙ of_route m (header c)
+    (ap is_address (sym kind) ∙ sym c.either.ensures ∙ c.if-either.false)
+    (ap is_route (sym kind) ∙ sym c.either-2.ensures ∙ c.if-either-2.true)
+
+pub returns : goal.returns
+returns c =
+    let kind = c.message_type-t.ensures in
+    of_other (at-start c).args.m.now (header c)
+    (ap is_address (sym kind) ∙ sym c.either.ensures ∙ c.if-either.false)
+    (ap is_route (sym kind) ∙ sym c.either-2.ensures ∙ c.if-either-2.false)

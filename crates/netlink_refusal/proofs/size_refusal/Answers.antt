@@ -1,0 +1,31 @@
+use borrow.Author.Rules.{rules}
+use mathlib.Core.Path.{◌≡◌, sym, ◌∙◌}
+use mathlib.Core.Bool.{true, false}
+use borrow.Author.Tests.{eq-eqb, ne_eqb, not-true, not-false}
+use Rattle.lists.specs.Lists.{all}
+use Rattle.netlink.specs.Attributes.{attributes}
+use Rattle.netlink.specs.Reader.{sized_in}
+use Rattle.netlink_refusal.specs.RefusalLaws.{wrongly_sized, sized_but_local}
+use Rattle.netlink_refusal.proofs.size_refusal.Goals as goal
+
+all-sized : (c : tie.Else1) → all (sized_in (at-start c).args.t) (attributes (at-start c).args.l.now) ≡ true
+all-sized c = let call = c.before.sizes in sym call.ensures ∙ not-false call.result c.if1.false
+
+pub returns-then-not-sizes : goal.returns-then-not-sizes
+returns-then-not-sizes c =
+    let call = c.sizes in
+    wrongly_sized c.args.t (attributes c.args.l.now) (sym call.ensures ∙ not-true call.result c.if-not-sizes.true)
+
+pub returns-then-t-ne-RTM_NEWADDR : goal.returns-then-t-ne-RTM_NEWADDR
+returns-then-t-ne-RTM_NEWADDR c =
+    sized_but_local (at-start c).args.t _ true (all-sized c) (rw (ne_eqb (at-start c).args.t 20 c.if-t-ne-RTM_NEWADDR.true))
+
+pub returns-then-has : goal.returns-then-has
+returns-then-has c =
+    let new = eq-eqb (at-start c).args.t 20 c.if-t-ne-RTM_NEWADDR.false in
+    sized_but_local (at-start c).args.t _ true (all-sized c) (rw new (sym c.has.ensures ∙ c.if-has.true))
+
+pub returns : goal.returns
+returns c =
+    let new = eq-eqb (at-start c).args.t 20 c.if-t-ne-RTM_NEWADDR.false in
+    sized_but_local (at-start c).args.t _ false (all-sized c) (rw new (sym c.has.ensures ∙ c.if-has.false))

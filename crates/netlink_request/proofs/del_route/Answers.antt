@@ -1,0 +1,15 @@
+use mathlib.Core.Path.{ap, ◌∙◌}
+use mathlib.Core.List.{List}
+use Prim.Native.Nat.{ℕ}
+use Rattle.lists.specs.Lists.{put}
+use Rattle.netlink.specs.Attributes.{attributes}
+use Rattle.netlink_request.specs.Laws.{del_route-laid}
+use borrow.Author.Rules.{rules}
+use Rattle.netlink_request.proofs.del_route.Goals as goal
+
+pub returns : goal.returns
+returns c =
+    let a = c.args in
+    c.lay.ensures
+    ∙ ap (λ (x : List ℕ). put 0 x a.request.now)
+    (del_route-laid a.m.now (attributes a.l.now) c.route_front-front.ensures c.route_back-way.ensures c.pairs_asked-back.ensures)

@@ -1,0 +1,37 @@
+use Prim.Native.Nat.{◌-◌, ◌≤◌}
+use mathlib.Core.Path.{◌≡◌, refl, ◌∙◌}
+use native.Mathlib.Omega.{arith}
+use lib.ListN.{length, take, length-set}
+use Rattle.lists.specs.Lists.{put}
+use Rattle.netlink.specs.Attributes.{attributes}
+use Rattle.netlink_request.specs.Metrics.{known, unknown, metric_words, words-begun, words_more, words-ended, words-refused}
+use borrow.Author.Rules.{rules}
+use Rattle.netlink_request.proofs.metrics.Goals as goal
+
+pub returns-then-starts-ne0 : goal.returns-then-starts-ne0
+returns-then-starts-ne0 c =
+    let l = c.args.l.now in
+    let t = c.table-t in
+    words-refused (attributes l) (unknown l t.result.starts t.result.sizes t.ensures c.if-starts-ne0.true)
+
+pub loop-k-init : goal.loop-k-init
+loop-k-init c =
+    let l = c.args.l.now in
+    (omega arith, omega arith, refl, words-begun (attributes l))
+
+pub loop-k-preserved : goal.loop-k-preserved
+loop-k-preserved c =
+    let l = attributes c.args.l.now in
+    let inv = c.loop-k.invariant in (
+      omega arith,
+      omega arith,
+      length-set c.loop-k.words c.loop-k.k c.number_at.result ∙ inv.2,
+      words_more l _ c.loop-k.words c.loop-k.k c.number_at.result refl inv.0 (omega (arith, c.loop-k-test.true)) inv.3 c.number_at.ensures,
+    )
+
+pub returns : goal.returns
+returns c =
+    let l = c.args.l.now in
+    let t = c.table-t in
+    words-ended (attributes l) _ _ c.loop-k.k refl c.loop-k-test.false c.loop-k.invariant.3
+    (known l t.result.starts t.result.sizes t.ensures c.if-starts-ne0.false)

@@ -1,0 +1,23 @@
+use native.Mathlib.Omega.{arith}
+use Rattle.netlink_request.specs.Laws.{missing, present}
+use Rattle.netlink_request.specs.Metrics.{words-none}
+use borrow.Author.Rules.{rules}
+use Rattle.netlink_request.proofs.metrics_asked.Goals as goal
+
+pub returns-then-start-eq0 : goal.returns-then-start-eq0
+returns-then-start-eq0 c =
+    let a = c.args in
+    rw (missing a.l.now a.starts.now a.sizes.now c.requires 8 (omega arith) c.if-start-eq0.true) words-none
+
+pub overflow_add-end : goal.overflow_add-end
+overflow_add-end c =
+    omega (arith, c.requires.inside 8)
+
+pub slice_bounds-metrics-end : goal.slice_bounds-metrics-end
+slice_bounds-metrics-end c =
+    omega (arith, c.requires.inside 8)
+
+pub returns : goal.returns
+returns c =
+    let a = c.args in
+    rw (present a.l.now a.starts.now a.sizes.now c.requires 8 (omega arith) c.if-start-eq0.false) c.metrics.ensures

@@ -1,0 +1,10 @@
+use mathlib.Core.Path.{◌∙◌}
+use Rattle.netlink.specs.Attributes.{attributes}
+use Rattle.netlink_request.specs.Laws.{new_route-back-laid}
+use borrow.Author.Rules.{rules}
+use Rattle.netlink_request.proofs.new_route_back.Goals as goal
+
+pub returns : goal.returns
+returns c =
+    let a = c.args in
+    new_route-back-laid a.up a.m.now (attributes a.l.now) c.lay.ensures c.word.ensures c.half.ensures.0 c.metrics_asked-asked.ensures

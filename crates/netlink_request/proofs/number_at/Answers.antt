@@ -1,0 +1,23 @@
+use native.Mathlib.Omega.{arith}
+use mathlib.Core.Path.{◌∙◌}
+use Rattle.netlink_request.specs.Laws.{missing, present}
+use borrow.Author.Rules.{rules}
+use Rattle.netlink_request.proofs.number_at.Goals as goal
+
+pub returns-then-start-eq0 : goal.returns-then-start-eq0
+returns-then-start-eq0 c =
+    let a = c.args in
+    rw (missing a.l.now a.starts.now a.sizes.now c.requires.0 a.k c.requires.1 c.if-start-eq0.true)
+
+pub overflow_add-end : goal.overflow_add-end
+overflow_add-end c =
+    omega (arith, c.requires.0.inside c.args.k)
+
+pub slice_bounds-word-end : goal.slice_bounds-word-end
+slice_bounds-word-end c =
+    omega (arith, c.requires.0.inside c.args.k)
+
+pub returns : goal.returns
+returns c =
+    let a = c.args in
+    rw (present a.l.now a.starts.now a.sizes.now c.requires.0 a.k c.requires.1 c.if-start-eq0.false) c.word.ensures

@@ -1,0 +1,7 @@
+-- `recorded::changed` meets its contract.
+-- Assumes nothing.
+use borrow.Author.Rules.{rules}
+use Rattle.recorded.proofs.changed.Goals as goal
+
+pub returns : goal.returns
+returns c = rw (c.wide-a.ensures, c.wide-e.ensures)

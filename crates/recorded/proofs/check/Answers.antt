@@ -1,0 +1,30 @@
+-- `recorded::check` meets its contract: the sum so far, and then the words that are left, give the check.
+-- Assumes nothing.
+use Prim.Native.Nat.{ℕ, ◌-◌, ◌+◌, ◌*◌, ◌%◌, ◌≤◌, ◌<◌}
+use mathlib.Core.Path.{◌≡◌, refl, sym, ap, ◌∙◌}
+use native.Mathlib.Omega.{arith}
+use lib.ListN.{length, drop}
+use Rattle.recorded.specs.Record.{check_from}
+use Rattle.recorded.specs.Laws.{check-next, check-end}
+use borrow.Author.Rules.{rules}
+use Rattle.recorded.proofs.check.Goals as goal
+
+pub loop-i-init : goal.loop-i-init
+loop-i-init c = (omega arith, omega arith, refl)
+
+pub overflow_add-sum : goal.overflow_add-sum
+overflow_add-sum c = omega (arith, c.long.ensures, c.shared_slice_known-in-loop-i-1.given c.loop-i.i)
+
+pub loop-i-preserved : goal.loop-i-preserved
+loop-i-preserved c =
+    let l = c.args.words.now in
+    let i = c.loop-i.i in
+    let s = c.loop-i.sum in (
+      omega arith,
+      omega arith,
+      ap (λ (x : ℕ). check_from ((s * 16777619 + x) % 4294967296) (drop (i + 1) l)) c.long.ensures ∙ sym (check-next l i s (omega arith)) ∙ c.loop-i.invariant.2,
+    )
+
+pub returns : goal.returns
+returns c =
+    sym (check-end c.args.words.now c.loop-i.i c.loop-i.sum (omega arith)) ∙ c.loop-i.invariant.2

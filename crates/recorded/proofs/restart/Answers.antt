@@ -1,0 +1,25 @@
+-- `recorded::restart` meets its contract.
+-- Assumes nothing.
+use mathlib.Core.Path.{sym, ◌∙◌}
+use native.Mathlib.Omega.{arith}
+use lib.Dec.{eqb}
+use lib.ListN.{length, get_or}
+use borrow.Author.Tests.{eq-eqb, ne_eqb}
+use Rattle.lists.specs.Lists.{put, zeros}
+use Rattle.lists.specs.Bools.{cond-true, cond-false}
+use borrow.Author.Rules.{rules}
+use Rattle.recorded.proofs.restart.Goals as goal
+
+pub returns-then-r-ne1 : goal.returns-then-r-ne1
+returns-then-r-ne1 c =
+    let a = c.args in
+    let f = get_or a.r.now 3 0 in
+    let h = a.held.now in
+    sym (cond-false (eqb f 1) (put 0 (zeros (length h)) h) h (ne_eqb f 1 c.if-r-ne1.true))
+
+pub returns : goal.returns
+returns c =
+    let a = c.args in
+    let f = get_or a.r.now 3 0 in
+    let h = a.held.now in
+    c.clear.ensures ∙ sym (cond-true (eqb f 1) (put 0 (zeros (length h)) h) h (eq-eqb f 1 (omega (arith, c.if-r-ne1.false))))

@@ -1,0 +1,7 @@
+-- `recorded::rows` meets its contract.
+-- Assumes nothing.
+use borrow.Author.Rules.{rules}
+use Rattle.recorded.proofs.rows.Goals as goal
+
+pub returns : goal.returns
+returns c = rw c.wide-a.ensures

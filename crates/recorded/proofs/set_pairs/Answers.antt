@@ -1,0 +1,33 @@
+-- `recorded::set_pairs` meets its contract: the pairs that are left, put in what is there, give the words.
+-- Assumes nothing.
+use lib.ListN.{length-set}
+use Prim.Native.Nat.{◌-◌, ◌+◌, ◌*◌, ◌/◌, ◌≤◌}
+use mathlib.Core.Path.{◌≡◌, refl, sym, ap, ◌∙◌}
+use native.Mathlib.Omega.{arith}
+use lib.ListN.{length, drop, length-drop}
+use Rattle.recorded.specs.Record.{set_all}
+use Rattle.recorded.specs.Laws.{set_next, set_rest}
+use borrow.Author.Rules.{rules}
+use Rattle.recorded.proofs.set_pairs.Goals as goal
+
+pub loop-k-init : goal.loop-k-init
+loop-k-init c = (refl, omega arith, refl, refl)
+
+pub loop-k-preserved : goal.loop-k-preserved
+loop-k-preserved c =
+    let l = c.args.pairs.now in
+    let k = c.loop-k.k in
+    let e = c.set_word.ensures in (
+      refl,
+      omega arith,
+      ap length e ∙ simp length-set c.loop-k.invariant.2,
+      ap (set_all (drop (2 * (k + 1)) l)) e ∙ sym (set_next l c.loop-k.s k (omega arith)) ∙ c.loop-k.invariant.3,
+    )
+
+pub shape_of-s : goal.shape_of-s
+shape_of-s c = c.loop-k.invariant.2
+
+pub returns : goal.returns
+returns c =
+    let l = c.args.pairs.now in
+    sym (set_rest (drop (2 * c.loop-k.k) l) c.loop-k.s (omega (arith, length-drop (2 * c.loop-k.k) l))) ∙ c.loop-k.invariant.3

@@ -1,0 +1,17 @@
+-- `recorded::set_pairs` meets its contract: the pairs that are left, put in what is there, give the words.
+-- Assumes nothing.
+use lib.ListN.{length-set}
+use Prim.Native.Nat.{◌-◌, ◌+◌, ◌*◌, ◌/◌, ◌≤◌}
+use mathlib.Core.Path.{◌≡◌, refl, sym, ap, ◌∙◌}
+use native.Mathlib.Omega.{arith}
+use lib.ListN.{length, drop, length-drop}
+use Rattle.recorded.specs.Record.{set_all}
+use Rattle.recorded.specs.Laws.{set_next, set_rest}
+use borrow.Author.Rules.{rules}
+use Rattle.recorded.proofs.set_pairs.Given as goal
+
+abbrev pub invariant-loop-k : goal.invariant-loop-k
+invariant-loop-k l = (l.initial.s ≡ length l.n / 2) × (l.k ≤ l.initial.s) × (length l.s ≡ length l.pairs) × (set_all (drop (2 * l.k) l.n) l.s ≡ set_all l.n l.pairs)
+
+abbrev pub decreases-loop-k : goal.decreases-loop-k
+decreases-loop-k l = l.initial.s - l.k

@@ -1,0 +1,13 @@
+-- `replay::count` meets its contract.
+-- Assumes nothing.
+use Rattle.std.proofs.Common.{ℕ, ◌+◌, ◌%◌, get_or, set, ap, ◌∙◌, arith, rules}
+use Rattle.replay.proofs.count.Goals as goal
+
+pub returns-then-k-ge16 : goal.returns-then-k-ge16
+returns-then-k-ge16 c = λ h. absurd (omega (arith, c.wide-k.ensures))
+
+pub returns : goal.returns
+returns c =
+    let a = c.args in
+    let l = a.counts.now in
+    λ h. ap (set l c.wide-k.result) c.wrapping_add_u64.ensures ∙ ap (λ (i : ℕ). set l i ((get_or l i 0 + 1) % 18446744073709551616)) c.wide-k.ensures

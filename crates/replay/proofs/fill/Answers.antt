@@ -1,0 +1,19 @@
+-- `replay::fill` meets its contract: the words below i are as they are to be.
+-- Assumes nothing.
+use Rattle.std.proofs.Common.{◌≡◌, ℕ, ◌+◌, ◌-◌, ◌<◌, ◌≤◌, length, get_or, refl, ◌∙◌, arith, length-set, rules}
+use Rattle.replay.specs.Fill.{filled}
+use Rattle.replay.proofs.fill.Goals as goal
+
+pub loop-i-init : goal.loop-i-init
+loop-i-init c = (omega arith, refl, λ k h. absurd (omega arith))
+
+pub loop-i-preserved : goal.loop-i-preserved
+loop-i-preserved c =
+    let w = c.loop-i in
+    (omega arith, length-set w.buffer w.i _ ∙ w.invariant.1, filled w.buffer w.i c.loop-i-test.true w.invariant.2)
+
+pub shape_of-buffer : goal.shape_of-buffer
+shape_of-buffer c = c.loop-i.invariant.1
+
+pub returns : goal.returns
+returns c = λ k h. c.loop-i.invariant.2 k (omega (arith, c.loop-i.invariant.1, c.loop-i-test.false))

@@ -1,0 +1,10 @@
+-- `replay::run` ends: a record less is left with each turn.
+-- Assumes nothing.
+use Rattle.std.proofs.Common.{◌-◌, ◌≤◌, rules}
+use Rattle.replay.proofs.run.Given as goal
+
+abbrev pub invariant-loop-i : goal.invariant-loop-i
+invariant-loop-i l = l.i ≤ l.records
+
+abbrev pub decreases-loop-i : goal.decreases-loop-i
+decreases-loop-i l = l.records - l.i

@@ -1,0 +1,10 @@
+-- `request_gateway::reached_at` meets its contract.
+-- Assumes nothing.
+use Rattle.request_gateway.specs.Laws.{reached-row}
+use mathlib.Core.Path.{◌∙◌}
+use borrow.Author.Rules.{rules}
+use Rattle.request_gateway.proofs.reached_at.Goals as goal
+
+pub returns : goal.returns
+returns c = let a = c.args in
+    λ l h. c.row_reached.ensures ∙ reached-row a.rows.now a.n c.requires.0 l h a.i c.requires.2 a.q.now

@@ -1,0 +1,24 @@
+-- `request_select::select_route` meets its contract.
+-- Assumes nothing.
+use Rattle.lists.specs.Pass.{part-width, find_here, find_past, find_end}
+use lib.Dec.{lit<}
+use Rattle.definition.specs.Reference.Routes.{selects}
+use Rattle.layout.specs.Route.{fit_route}
+use Rattle.lists.specs.Place.{place_of}
+use Rattle.lists.specs.Laid.{Laid}
+use Rattle.lists.specs.Lists.{Row}
+use lib.ListN.{drop}
+use native.Mathlib.Omega.{arith}
+use mathlib.Core.List.{List}
+use mathlib.Core.Path.{◌≡◌, sym, ◌∙◌}
+use Prim.Native.Nat.{◌+◌, ◌-◌, ◌≤◌}
+use borrow.Author.Rules.{rules}
+use Rattle.request_select.proofs.select_route.Given as goal
+
+abbrev pub invariant-loop-i : goal.invariant-loop-i
+invariant-loop-i l =
+    (l.i ≤ l.n)
+    × ((l : List Row) → Laid 32 fit_route l.rows l → place_of (selects l.q) l ≡ l.i + place_of (selects l.q) (drop l.i l))
+
+abbrev pub decreases-loop-i : goal.decreases-loop-i
+decreases-loop-i l = l.n - l.i

@@ -1,0 +1,24 @@
+use mathlib.Core.Path.{sym, ap, ◌∙◌}
+use native.Mathlib.Omega.{arith}
+use borrow.Author.Tests.{not-true, not-false}
+use Rattle.row_candidates.specs.Laws.{append_none, append_one}
+use Prim.Native.Nat.{ℕ, ◌*◌}
+use lib.ListN.{get_or}
+use Rattle.lists.specs.Lists.{put}
+use Rattle.prefix.specs.Mask.{broadcast}
+use Rattle.definition.specs.Reference.Addresses.{kernel_route}
+use Rattle.row_subnet.specs.OwnRoutes.{has_broadcast_routes}
+use borrow.Author.Rules.{rules}
+use Rattle.row_candidates.proofs.append_subnet.Goals as goal
+
+pub returns-then-not-has_broadcast_routes : goal.returns-then-not-has_broadcast_routes
+returns-then-not-has_broadcast_routes c =
+    let a = c.args in
+    let x = a.a.now in
+    ((omega arith, omega arith), append_none (has_broadcast_routes x) (kernel_route (broadcast (get_or x 1 0) (get_or x 2 0)) 32 0 3 a.source) a.k a.out.now (sym c.has_broadcast_routes.ensures ∙ not-true c.has_broadcast_routes.result c.if-not-has_broadcast_routes.true))
+
+pub returns : goal.returns
+returns c =
+    let a = c.args in
+    let x = a.a.now in
+    ((omega arith, omega arith), append_one (has_broadcast_routes x) (kernel_route (broadcast (get_or x 1 0) (get_or x 2 0)) 32 0 3 a.source) a.k a.out.now (sym c.has_broadcast_routes.ensures ∙ not-false c.has_broadcast_routes.result c.if-not-has_broadcast_routes.false) (c.kernel_route.ensures ∙ ap (λ (d : ℕ). put (32 * a.k) (kernel_route d 32 0 3 a.source) a.out.now) c.broadcast4-last.ensures))

@@ -1,0 +1,13 @@
+use Prim.Native.Nat.{ℕ}
+use mathlib.Core.Path.{ap, ◌∙◌}
+use lib.ListN.{get_or}
+use Rattle.lists.specs.Lists.{put}
+use Rattle.definition.specs.Reference.Addresses.{kernel_route}
+use borrow.Author.Rules.{rules}
+use Rattle.row_candidates.proofs.prefix_route4.Goals as goal
+
+pub returns : goal.returns
+returns c =
+    let a = c.args in
+    c.kernel_route.ensures
+    ∙ ap (λ (d : ℕ). put a.at (kernel_route d (get_or a.a.now 2 0) a.priority 2 a.source) a.out.now) c.network4-network.ensures

@@ -1,0 +1,29 @@
+-- `row_route::Route4::words` meets its contract.
+-- Assumes nothing.
+use Prim.Native.Nat.{ℕ}
+use mathlib.Core.Path.{◌≡◌, refl, sym, ◌∙◌}
+use lib.ListN.{length, length-map, replicate}
+use denote.Laws.{Is}
+use denote.Struct.Laws as LL
+use Rattle.row_route.specs.declared.Route4.{Route4}
+use Rattle.row_route.specs.Route4.{head-room, written}
+use Rattle.row_route.specs.contracts.Route4 as T
+use Rattle.row_route.proofs.Route4.TheLaws as T'
+use borrow.Author.Rules.{rules}
+use Rattle.row_route.proofs.Route4.words.Goals as goal
+
+-- its metrics are the fourteenth field
+long : (r : Route4) → Is T.the_row r (LL.vals T.the_type T'.the_laws r) → length r.metrics ≡ 17
+long r is = sym (length-map r.metrics (λ (x : ℕ). x)) ∙ is.1.1.1.1.1.1.1.1.1.1.1.1.1.1.1.0.1.0.1
+
+pub store-requires-2 : goal.store-requires-2
+store-requires-2 c =
+    head-room c.args.self c.code.result c.mark.result c.value.result c.mark-2.result c.value-2.result c.bit.result c.bit-2.result c.bit-3.result
+    (replicate 32 0) c.store.new.0 c.store.new.0 refl (long c.args.self c.well-formed.0) c.store.ensures
+
+pub returns : goal.returns
+returns c =
+    written c.args.self c.code.result c.mark.result c.value.result c.mark-2.result c.value-2.result c.bit.result c.bit-2.result c.bit-3.result
+    (replicate 32 0) c.store.new.0 c.store-2.new.0 refl (long c.args.self c.well-formed.0)
+    c.code.ensures c.mark.ensures c.value.ensures c.mark-2.ensures c.value-2.ensures c.bit.ensures c.bit-2.ensures c.bit-3.ensures
+    c.store.ensures c.store-2.ensures

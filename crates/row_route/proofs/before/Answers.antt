@@ -1,0 +1,15 @@
+-- `row_route::before` meets its contract: destinations that differ decide, and behind the same one the tests are the definition's.
+-- Assumes nothing.
+use Rattle.row_route.specs.Order.{before-other, before_same}
+use borrow.Author.Rules.{rules}
+use Rattle.row_route.proofs.before.Goals as goal
+
+pub returns-then-a-b : goal.returns-then-a-b
+returns-then-a-b c =
+    let at-if1 = c.if-a-b in
+    before-other c.args.a.now c.args.b.now at-if1.true
+
+pub returns : goal.returns
+returns c =
+    let at-if1 = c.if-a-b in
+    before_same c.args.a.now c.args.b.now at-if1.false

@@ -1,0 +1,25 @@
+-- `row_route::fit_route` meets its contract: after the length and the prefix, which the host bits need, the same tests.
+-- Assumes nothing.
+use borrow.Author.Tests.{eq-eqb, ne_eqb, lt-leb}
+use Rattle.layout.specs.Route.{fit_route}
+use Rattle.row_route.specs.Fit.{fit-tests}
+use borrow.Author.Rules.{rules}
+use Rattle.row_route.proofs.fit_route.Goals as goal
+
+pub returns-then-r-ne-ROUTE_WORDS : goal.returns-then-r-ne-ROUTE_WORDS
+unfolding fit_route
+returns-then-r-ne-ROUTE_WORDS c = simp (ne_eqb _ _ c.if-r-ne-ROUTE_WORDS.true)
+
+pub returns-then-r-gt32 : goal.returns-then-r-gt32
+unfolding fit_route
+returns-then-r-gt32 c = simp (eq-eqb _ _ c.if-r-ne-ROUTE_WORDS.false, lt-leb _ _ c.if-r-gt32.true)
+
+pub returns : goal.returns
+returns c =
+    let at-if1 = c.if-r-ne-ROUTE_WORDS in
+    let at-if2 = c.if-r-gt32 in
+    let at-no-host-bits = c.no_host_bits in
+    let at-is-kind = c.is_kind in
+    let at-fit-optional = c.fit_optional in
+    let at-fit-optional2 = c.fit_optional-2 in
+    fit-tests c.args.r.now at-if1.false at-if2.false at-no-host-bits.ensures at-is-kind.ensures at-fit-optional.ensures at-fit-optional2.ensures

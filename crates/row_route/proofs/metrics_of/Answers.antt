@@ -1,0 +1,14 @@
+-- `row_route::metrics_of` meets its contract.
+-- Assumes nothing.
+use native.Mathlib.Omega.{arith}
+use mathlib.Core.Path.{◌≡◌, ◌∙◌}
+use lib.ListN.{length, drop, length-drop}
+use lib.Seq.{take_all}
+use borrow.Author.Rules.{rules}
+use Rattle.row_route.proofs.metrics_of.Goals as goal
+
+pub returns : goal.returns
+returns c =
+    let w = c.args.row.now in
+    let l : length w ≡ 32 = c.requires in
+    c.copy.ensures ∙ take_all 17 (drop 15 w) (rw length-drop (omega arith))

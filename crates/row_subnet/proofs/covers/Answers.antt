@@ -1,0 +1,7 @@
+use Rattle.definition.specs.Reference.Addresses.{covers}
+use borrow.Author.Rules.{rules}
+use Rattle.row_subnet.proofs.covers.Goals as goal
+
+pub returns : goal.returns
+unfolding covers
+returns c = c.same_network.ensures

@@ -1,0 +1,5 @@
+use borrow.Author.Rules.{rules}
+use Rattle.row_subnet.proofs.own_network.Goals as goal
+
+pub returns : goal.returns
+returns c = cc

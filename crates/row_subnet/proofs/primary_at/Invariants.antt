@@ -1,0 +1,23 @@
+use Prim.Native.Nat.{◌+◌, ◌-◌, ◌≤◌}
+use mathlib.Core.List.{List}
+use mathlib.Core.Path.{◌≡◌, sym, ◌∙◌}
+use native.Mathlib.Nat.{zero-add}
+use native.Mathlib.Omega.{arith}
+use lib.Dec.{lit<}
+use lib.ListN.{drop}
+use Rattle.lists.specs.Lists.{Row}
+use Rattle.lists.specs.Laid.{Laid}
+use Rattle.lists.specs.Place.{place_of}
+use Rattle.lists.specs.Pass.{find_here, find_past, find_end}
+use Rattle.layout.specs.Address.{fit_address}
+use Rattle.row_subnet.specs.OwnRoutes.{primary_for}
+use Rattle.row_subnet.specs.Laws.{part-short}
+use borrow.Author.Rules.{rules}
+use Rattle.row_subnet.proofs.primary_at.Given as goal
+
+abbrev pub invariant-loop-i : goal.invariant-loop-i
+invariant-loop-i l =
+    (l.i ≤ l.n) × ((l : List Row) → Laid 20 fit_address l.addresses l → place_of (primary_for l.a) l ≡ l.i + place_of (primary_for l.a) (drop l.i l))
+
+abbrev pub decreases-loop-i : goal.decreases-loop-i
+decreases-loop-i l = l.n - l.i

@@ -1,0 +1,7 @@
+use lib.ListN.{get_or}
+use Rattle.layout.specs.Bits.{has_and}
+use borrow.Author.Rules.{rules}
+use Rattle.row_subnet.proofs.secondary.Goals as goal
+
+pub returns : goal.returns
+returns c = has_and 0 (get_or c.args.a.now 6 0)

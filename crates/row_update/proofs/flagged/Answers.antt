@@ -1,0 +1,15 @@
+use mathlib.Core.Path.{ap, ◌∙◌}
+use native.Mathlib.Omega.{arith}
+use mathlib.Core.List.{List}
+use Prim.Native.Nat.{ℕ}
+use Rattle.lists.specs.Lists.{put}
+use Rattle.row_update.specs.Rows.{flagged_row}
+use borrow.Author.Rules.{rules}
+use Rattle.row_update.proofs.flagged.Goals as goal
+
+pub returns : goal.returns
+returns c =
+    let a = c.args in
+    c.rewritten.ensures
+    ∙ ap (λ (v : List ℕ). put 0 v a.out.now)
+    (flagged_row a.a.now c.requires.0 (omega (arith, c.shared_slice_known-1.given 16)) a.flags c.life_of.result (omega (arith, c.shared_slice_known-1.given 18)) c.life_of.ensures)

@@ -1,0 +1,31 @@
+use borrow.Author.Tests.{not-true, not-false}
+use Rattle.rows_lookup.specs.Flow.{set_of}
+use Rattle.rows_lookup.specs.AddrType.{type-none, type-rejects, type-kind}
+use borrow.Author.Rules.{rules}
+use Rattle.rows_lookup.proofs.addr_type4.Goals as goal
+
+pub returns-then-not-listed : goal.returns-then-not-listed
+returns-then-not-listed c = λ l h. rw (not-true c.args.listed c.if-not-listed.true)
+
+pub returns-then-n-place : goal.returns-then-n-place
+returns-then-n-place c =
+    let a = c.args in
+    λ l h.
+    rw (not-false a.listed c.if-not-listed.false)
+    (type-none a.rows.now a.n c.requires.0 l h (set_of a.set) a.ip c.table_lookup4-place.result (c.table_lookup4-place.ensures l h) c.if-n-place.true)
+
+pub returns-then-error_of-ne0 : goal.returns-then-error_of-ne0
+returns-then-error_of-ne0 c =
+    let a = c.args in
+    λ l h.
+    rw (not-false a.listed c.if-not-listed.false)
+    (type-rejects a.rows.now a.n c.requires.0 l h (set_of a.set) a.ip c.table_lookup4-place.result (c.table_lookup4-place.ensures l h)
+    c.if-n-place.false c.error_of.result c.error_of.ensures c.if-error_of-ne0.true)
+
+pub returns : goal.returns
+returns c =
+    let a = c.args in
+    λ l h.
+    rw (not-false a.listed c.if-not-listed.false)
+    (type-kind a.rows.now a.n c.requires.0 l h (set_of a.set) a.ip c.table_lookup4-place.result (c.table_lookup4-place.ensures l h)
+    c.if-n-place.false c.error_of.result c.error_of.ensures c.if-error_of-ne0.false)

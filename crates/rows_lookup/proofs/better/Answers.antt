@@ -1,0 +1,5 @@
+use borrow.Author.Rules.{rules}
+use Rattle.rows_lookup.proofs.better.Goals as goal
+
+pub returns : goal.returns
+returns c = cc

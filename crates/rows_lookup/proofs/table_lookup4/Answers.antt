@@ -1,0 +1,52 @@
+use Prim.Native.Nat.{◌-◌, ◌≤◌}
+use mathlib.Core.Bool.{Bool, ◌&&◌}
+use mathlib.Core.List.{List}
+use native.Mathlib.Omega.{arith}
+use Rattle.lists.specs.Lists.{Row}
+use Rattle.lists.specs.Laid.{Laid}
+use Rattle.layout.specs.Route.{table, fit_route}
+use Rattle.definition.specs.Reference.Lookup.{fits, answer}
+use Rattle.rows_lookup.specs.Flow.{flow_of, set_of}
+use Rattle.rows_lookup.specs.Best.{Best}
+use Rattle.rows_lookup.specs.Pass.{part-fits, pass-start, pass_taken, pass-stays, pass-end}
+use Rattle.rows_lookup.specs.declared.Flow.{Flow}
+use Rattle.rows_lookup.specs.declared.Tables.{Tables}
+use mathlib.Core.Logic.{⊎_elim}
+use mathlib.Core.Path.{sym, ◌∙◌}
+use borrow.Author.Rules.{rules}
+use Rattle.rows_lookup.proofs.table_lookup4.Invariants.{passing}
+use Rattle.rows_lookup.proofs.table_lookup4.Goals as goal
+
+pub loop-i-init : goal.loop-i-init
+loop-i-init c =
+    let a = c.args in
+    (search rules, λ l h. pass-start a.rows.now a.n c.requires.0 (passing a.set a.f) l h)
+
+pub better-requires : goal.better-requires
+better-requires c =
+    part-fits c.args.rows.now c.args.n c.requires.0 c.loop-i.i c.loop-i-test.true c.requires.1
+
+pub overflow_add-least : goal.overflow_add-least
+overflow_add-least c =
+    let fit = part-fits c.args.rows.now c.args.n c.requires.0 c.loop-i.i c.loop-i-test.true c.requires.1 in
+    record { fits = omega (arith, fit.1) }
+
+pub loop-i-preserved : goal.loop-i-preserved
+loop-i-preserved c =
+    let a = c.args in
+    let better = c.better.ensures in
+    let taken = c.loop-i-test.true in (
+      omega arith,
+      λ l h.
+          let sofar = c.loop-i.invariant.1 l h in
+          ⊎_elim
+          (λ w.
+          rw (w.2, w.3) (pass_taken a.rows.now a.n c.requires.0 (passing a.set a.f) l h c.loop-i.i c.loop-i.best c.loop-i.least taken sofar (sym better ∙ w.0.taken)))
+          (λ w.
+          rw (w.1, w.2) (pass-stays a.rows.now a.n c.requires.0 (passing a.set a.f) l h c.loop-i.i c.loop-i.best c.loop-i.least taken sofar (sym better ∙ w.0.left)))
+          c.if-better.branch,
+    )
+
+pub returns : goal.returns
+returns c =
+    λ l h. unfold answer in pass-end c.args.rows.now c.args.n c.requires.0 (passing c.args.set c.args.f) l h c.loop-i.i c.loop-i.best c.loop-i.least (search rules) (c.loop-i.invariant.1 l h)

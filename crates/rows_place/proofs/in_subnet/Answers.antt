@@ -1,0 +1,36 @@
+use Prim.Native.Nat.{◌-◌, ◌≤◌}
+use mathlib.Core.List.{List}
+use mathlib.Core.Path.{◌≡◌, refl, sym, ◌∙◌}
+use native.Mathlib.Omega.{arith}
+use lib.Dec.{lit<}
+use lib.ListN.{drop}
+use Rattle.lists.specs.Lists.{Row, any}
+use Rattle.lists.specs.Laid.{Laid}
+use Rattle.lists.specs.Pass.{some-here, some-past, some_end}
+use Rattle.layout.specs.Address.{fit_address}
+use Rattle.definition.specs.Reference.Addresses.{same_subnet}
+use Rattle.row_subnet.specs.Laws.{part-short}
+use borrow.Author.Rules.{rules}
+use Rattle.rows_place.proofs.in_subnet.Goals as goal
+
+pub loop-i-init : goal.loop-i-init
+loop-i-init c = (search rules, λ l h. refl)
+
+pub same_subnet-requires : goal.same_subnet-requires
+same_subnet-requires c =
+    (part-short c.args.addresses.now c.args.n c.requires.0.0 c.requires.0.1 c.loop-i.i c.loop-i-test.true, c.requires.1)
+
+pub returns-then-same_subnet : goal.returns-then-same_subnet
+returns-then-same_subnet c =
+    let a = c.args in
+    λ l h. some-here a.addresses.now a.n (lit< tt) c.requires.0.0 (λ old. same_subnet old a.q.now) l h c.loop-i.i (c.loop-i.invariant.1 l h) c.loop-i-test.true (sym c.same_subnet.ensures ∙ c.if-same_subnet.true)
+
+pub loop-i-preserved : goal.loop-i-preserved
+loop-i-preserved c =
+    let a = c.args in
+    (omega arith, λ l h. some-past a.addresses.now a.n (lit< tt) c.requires.0.0 (λ old. same_subnet old a.q.now) l h c.loop-i.i (c.loop-i.invariant.1 l h) c.loop-i-test.true (sym c.same_subnet.ensures ∙ c.if-same_subnet.false))
+
+pub returns : goal.returns
+returns c =
+    let a = c.args in
+    λ l h. some_end a.addresses.now a.n (lit< tt) c.requires.0.0 (λ old. same_subnet old a.q.now) l h c.loop-i.i (c.loop-i.invariant.1 l h) c.loop-i-test.false

@@ -1,0 +1,5 @@
+use borrow.Author.Rules.{rules}
+use Rattle.rows_place.proofs.reroutes.Goals as goal
+
+pub returns : goal.returns
+returns c = cc

@@ -1,0 +1,39 @@
+use Prim.Native.Nat.{◌-◌, ◌≤◌}
+use mathlib.Core.List.{List}
+use mathlib.Core.Path.{◌≡◌, refl, sym, ◌∙◌}
+use native.Mathlib.Omega.{arith}
+use lib.Dec.{lit<}
+use lib.ListN.{drop}
+use Rattle.lists.specs.Lists.{Row, any}
+use Rattle.lists.specs.Laid.{Laid}
+use Rattle.lists.specs.Pass.{some-here, some-past, some_end}
+use Rattle.layout.specs.Address.{fit_address}
+use Rattle.row_subnet.specs.Laws.{part-short}
+use Rattle.rows_wanted.specs.Wants.{wants_row}
+use Rattle.rows_wanted.specs.Laws.{wanted-rows}
+use borrow.Author.Rules.{rules}
+use Rattle.rows_wanted.proofs.wanted.Goals as goal
+
+pub loop-i-init : goal.loop-i-init
+loop-i-init c = (search rules, λ l h. refl)
+
+pub wants-requires : goal.wants-requires
+wants-requires c =
+    part-short c.args.addresses.now c.args.n c.requires.0.0 c.requires.0.1 c.loop-i.i c.loop-i-test.true
+
+pub returns-then-wants : goal.returns-then-wants
+returns-then-wants c =
+    let a = c.args in
+    λ l h. some-here a.addresses.now a.n (lit< tt) c.requires.0.0 (wants_row a.r.now) l h c.loop-i.i (c.loop-i.invariant.1 l h) c.loop-i-test.true (sym c.wants.ensures ∙ c.if-wants.true) ∙ wanted-rows l a.r.now
+
+pub loop-i-preserved : goal.loop-i-preserved
+loop-i-preserved c =
+    let a = c.args in (
+      omega arith,
+      λ l h. some-past a.addresses.now a.n (lit< tt) c.requires.0.0 (wants_row a.r.now) l h c.loop-i.i (c.loop-i.invariant.1 l h) c.loop-i-test.true (sym c.wants.ensures ∙ c.if-wants.false),
+    )
+
+pub returns : goal.returns
+returns c =
+    let a = c.args in
+    λ l h. some_end a.addresses.now a.n (lit< tt) c.requires.0.0 (wants_row a.r.now) l h c.loop-i.i (c.loop-i.invariant.1 l h) c.loop-i-test.false ∙ wanted-rows l a.r.now

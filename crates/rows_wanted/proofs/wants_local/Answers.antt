@@ -1,0 +1,18 @@
+use borrow.Author.Tests.{eq-eqb, ne_eqb}
+use Rattle.rows_wanted.specs.Laws.{other_length, same_length}
+use borrow.Author.Rules.{rules}
+use Rattle.rows_wanted.proofs.wants_local.Goals as goal
+
+pub returns-then-dst-a : goal.returns-then-dst-a
+returns-then-dst-a c = rw c.if-dst-a.true
+
+pub returns-then-len-a : goal.returns-then-len-a
+returns-then-len-a c =
+    let a = c.args in
+    other_length a.a.now a.dst a.len c.if-dst-a.false (ne_eqb _ _ c.if-len-a.true)
+
+pub returns : goal.returns
+returns c =
+    let a = c.args in
+    rw (c.has_prefix_route-brings.ensures, c.network4-network.ensures)
+    (same_length a.a.now a.dst a.len c.if-dst-a.false (eq-eqb _ _ c.if-len-a.false))

@@ -1,0 +1,25 @@
+-- `state::replace_route` meets its contract: the words with another row in the place hold the list with it.
+-- Assumes nothing.
+use Prim.Native.Nat.{◌-◌}
+use native.Mathlib.Omega.{arith}
+use Rattle.definition.specs.Preservation.Fit.{length-route}
+use Rattle.state.specs.Represents.{sizes-valid, count-routes}
+use Rattle.state.specs.Change.{replace_route}
+use borrow.Author.Rules.{rules}
+use Rattle.state.proofs.replace_route.Goals as goal
+
+pub overflow_mul-i : goal.overflow_mul-i
+overflow_mul-i c = omega (arith, sizes-valid c.requires.0)
+
+pub overflow_add-i : goal.overflow_add-i
+overflow_add-i c = omega (arith, sizes-valid c.requires.0)
+
+pub store-requires : goal.store-requires
+store-requires c =
+    omega (arith, sizes-valid c.requires.0, length-route c.args.row.now c.requires.1.1)
+
+pub returns : goal.returns
+returns c = λ st h.
+    let at_store = c.store in
+    let a = c.args in
+    rw at_store.ensures (replace_route h a.i a.row.now (omega (arith, count-routes h, c.requires.1.0)) c.requires.1.1)

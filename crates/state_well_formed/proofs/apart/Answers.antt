@@ -1,0 +1,40 @@
+-- `state_well_formed::apart` meets its contract: the row is none of those behind it where it is none of those still to be looked at.
+-- Assumes nothing.
+use mathlib.Core.Path.{◌≡◌, refl, sym, ◌∙◌}
+use mathlib.Core.List.{[]}
+use mathlib.Core.Bool.{true, false, not}
+use Prim.Native.Nat.{◌+◌, ◌-◌, ◌≤◌, ◌<◌}
+use native.Mathlib.Omega.{arith}
+use lib.ListN.{get_or, drop}
+use Rattle.lists.specs.Lists.{Row, all, chop, eq_row}
+use Rattle.lists.specs.Rows.{length-chop}
+use Rattle.lists.specs.Next.{all_end}
+use Rattle.state_well_formed.specs.Order.{past-run, ordered-later, two-before, two-same}
+use borrow.Author.Rules.{rules}
+use Rattle.state_well_formed.proofs.apart.Goals as goal
+
+pub loop-j-init : goal.loop-j-init
+loop-j-init c = (omega (arith, c.requires), omega arith, refl)
+
+pub returns-then-before : goal.returns-then-before
+returns-then-before c o =
+    let at_loop = c.loop-j in
+    let at-loop-test = c.loop-j-test in
+    let at-before2 = c.before-in-loop-j in
+    sym (at_loop.invariant.2 ∙ past-run (chop 32 c.args.n c.args.p.now) (get_or (chop 32 c.args.n c.args.p.now) c.args.i []) at_loop.j (ordered-later (chop 32 c.args.n c.args.p.now) c.args.i at_loop.j (omega (arith, at_loop.invariant.1)) o) (omega (arith, length-chop 32 c.args.n c.args.p.now, at-loop-test.true)) (two-before c.args.n c.args.p.now c.args.i at_loop.j c.requires.1 at-loop-test.true true at-before2.ensures c.if-before.true))
+
+pub returns-then-same_words : goal.returns-then-same_words
+returns-then-same_words c o =
+    let at_loop = c.loop-j in
+    let at-loop-test = c.loop-j-test in
+    sym (at_loop.invariant.2 ∙ two-same c.args.n c.args.p.now c.args.i at_loop.j c.requires.1 at-loop-test.true true c.same_words.ensures c.if-same_words.true)
+
+pub loop-j-preserved : goal.loop-j-preserved
+loop-j-preserved c =
+    let at_loop = c.loop-j in
+    let at-loop-test = c.loop-j-test in
+    (omega arith, omega arith, at_loop.invariant.2 ∙ two-same c.args.n c.args.p.now c.args.i at_loop.j c.requires.1 at-loop-test.true false c.same_words.ensures c.if-same_words.false)
+
+pub returns : goal.returns
+returns c o =
+    sym (c.loop-j.invariant.2 ∙ all_end (λ (b : Row). not (eq_row (get_or (chop 32 c.args.n c.args.p.now) c.args.i []) b)) (chop 32 c.args.n c.args.p.now) c.loop-j.j (omega (arith, length-chop 32 c.args.n c.args.p.now, c.loop-j-test.false)))

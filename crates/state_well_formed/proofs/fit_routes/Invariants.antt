@@ -1,0 +1,20 @@
+-- `state_well_formed::fit_routes` meets its contract: all rows are fit where those still to be looked at are.
+-- Assumes nothing.
+use mathlib.Core.Path.{◌≡◌, refl, sym, ◌∙◌}
+use mathlib.Core.Bool.{true, false}
+use Prim.Native.Nat.{◌-◌, ◌≤◌}
+use native.Mathlib.Omega.{arith}
+use lib.ListN.{drop}
+use Rattle.lists.specs.Lists.{all, chop}
+use Rattle.lists.specs.Rows.{length-chop}
+use Rattle.lists.specs.Next.{all_end}
+use Rattle.layout.specs.Route.{fit_route}
+use Rattle.state_well_formed.specs.Look.{fit-iteration}
+use borrow.Author.Rules.{rules}
+use Rattle.state_well_formed.proofs.fit_routes.Given as goal
+
+abbrev pub invariant-loop-i : goal.invariant-loop-i
+invariant-loop-i l = (l.i ≤ l.n) × (all fit_route (chop 32 l.n l.p) ≡ all fit_route (drop l.i (chop 32 l.n l.p)))
+
+abbrev pub decreases-loop-i : goal.decreases-loop-i
+decreases-loop-i l = l.n - l.i

@@ -1,0 +1,25 @@
+-- `state_well_formed::rising` meets its contract: each row passed over is in its place, so what is left says the same.
+-- Assumes nothing.
+use mathlib.Core.Path.{◌≡◌, refl, ◌∙◌}
+use Prim.Native.Nat.{◌-◌, ◌≤◌}
+use native.Mathlib.Omega.{arith}
+use lib.ListN.{drop}
+use Rattle.lists.specs.Lists.{chop}
+use Rattle.state_well_formed.specs.Place.{in_place, rise_iteration}
+use borrow.Author.Rules.{rules}
+use Rattle.state_well_formed.proofs.rising.Goals as goal
+
+pub loop-i-init : goal.loop-i-init
+loop-i-init c = (omega (arith, c.requires), omega arith, refl)
+
+pub loop-i-preserved : goal.loop-i-preserved
+loop-i-preserved c =
+    let at_loop = c.loop-i in
+    let at-loop-test = c.loop-i-test in
+    (omega arith, omega arith, at_loop.invariant.2 ∙ rise_iteration c.args.n c.args.p.now at_loop.i at-loop-test.true c.before-in-loop-i.ensures c.if-before.true)
+
+pub returns-else-before : goal.returns-else-before
+returns-else-before c = c.loop-i.invariant
+
+pub returns : goal.returns
+returns c = c.loop-i.invariant

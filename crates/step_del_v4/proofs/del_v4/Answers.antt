@@ -1,0 +1,103 @@
+use Rattle.step_del_v4.specs.Asked.{deleted_none, deleted_there, deleted_rows}
+use Rattle.step_remove_v4.specs.One.{address_row, address-end, put-row, row-present}
+use Rattle.step_drop_prefsrc.specs.Delete.{ready_valid}
+use Rattle.state_read.specs.Parts.{length-addresses, lays_addresses, laid-addresses}
+use Rattle.state.specs.Represents.{sizes-valid}
+use Rattle.layout.specs.Address.{fit_address}
+use Rattle.lists.specs.Laid.{Laid, Lays}
+use lib.ListN.{length}
+use native.Mathlib.Omega.{arith}
+use mathlib.Core.List.{List}
+use mathlib.Core.Path.{refl, sym, ap, subst, ◌∙◌}
+use Prim.Native.Nat.{ℕ, ◌*◌, ◌-◌}
+use borrow.Author.Rules.{rules}
+use Rattle.step_del_v4.proofs.del_v4.Goals as goal
+
+pub address_count-n-requires : goal.address_count-n-requires
+address_count-n-requires c = (sizes-valid (ready_valid c.requires.0)).long
+
+pub find-i-requires : goal.find-i-requires
+find-i-requires c =
+    let v = ready_valid c.requires.0 in (
+      (
+        ap length c.addresses.ensures ∙ length-addresses v ∙ ap (λ (n : ℕ). 20 * n) (sym c.address_count-n.ensures),
+        subst (Lays 20 fit_address) (sym c.addresses.ensures) (lays_addresses v),
+      ),
+      c.requires.1,
+    )
+
+pub returns-then-n-i : goal.returns-then-n-i
+returns-then-n-i c =
+    let i = c.find-i in
+    let m = c.address_count-n in
+    λ st f. deleted_none c.args.q.now f m.result i.result m.ensures (i.ensures st.addresses (subst (λ (x : List ℕ). Laid 20 fit_address x st.addresses) (sym c.addresses.ensures) (laid-addresses f.holds))) c.if-n-i.true
+
+pub overflow_mul-at : goal.overflow_mul-at
+overflow_mul-at c =
+    let i = c.find-i in
+    let m = c.address_count-n in
+    let b = c.if-n-i.false in
+    let y = c.requires.0 in
+    let z = address-end y i.result (omega (arith, b, m.ensures)) in
+    record { fits = omega (arith, z.1) }
+
+pub overflow_add-at : goal.overflow_add-at
+overflow_add-at c =
+    let i = c.find-i in
+    let m = c.address_count-n in
+    let b = c.if-n-i.false in
+    let y = c.requires.0 in
+    let z = address-end y i.result (omega (arith, b, m.ensures)) in
+    record { fits = omega (arith, z.1) }
+
+pub overflow_add-end : goal.overflow_add-end
+overflow_add-end c =
+    let i = c.find-i in
+    let m = c.address_count-n in
+    let b = c.if-n-i.false in
+    let y = c.requires.0 in
+    let z = address-end y i.result (omega (arith, b, m.ensures)) in
+    record { fits = omega (arith, z.1) }
+
+pub offset_bounds-s-at : goal.offset_bounds-s-at
+offset_bounds-s-at c =
+    let i = c.find-i in
+    let m = c.address_count-n in
+    let b = c.if-n-i.false in
+    let y = c.requires.0 in
+    let z = address-end y i.result (omega (arith, b, m.ensures)) in
+    record { fits = omega (arith, z.1) }
+
+pub slice_bounds-store-end-2 : goal.slice_bounds-store-end-2
+slice_bounds-store-end-2 c =
+    let i = c.find-i in
+    let m = c.address_count-n in
+    let b = c.if-n-i.false in
+    let y = c.requires.0 in
+    let z = address-end y i.result (omega (arith, b, m.ensures)) in
+    omega (arith, z.0)
+
+pub remove_v4-k-requires : goal.remove_v4-k-requires
+remove_v4-k-requires c =
+    let i = c.find-i in
+    let m = c.address_count-n in
+    let b = c.if-n-i.false in
+    let y = c.requires.0 in
+    let z = address-end y i.result (omega (arith, b, m.ensures)) in
+    let q = c.store.ensures ∙ put-row (address_row c.args.s.now i.result) _ z.3 refl in
+    let row = c.store.new.0 in
+    row-present y row i.result (omega (arith, b, m.ensures)) q
+
+pub returns : goal.returns
+returns c =
+    let i = c.find-i in
+    let m = c.address_count-n in
+    let b = c.if-n-i.false in
+    let y = c.requires.0 in
+    let z = address-end y i.result (omega (arith, b, m.ensures)) in
+    let q = c.store.ensures ∙ put-row (address_row c.args.s.now i.result) _ z.3 refl in
+    let row = c.store.new.0 in
+    λ st f.
+    let e = i.ensures st.addresses (subst (λ (x : List ℕ). Laid 20 fit_address x st.addresses) (sym c.addresses.ensures) (laid-addresses f.holds)) in
+    deleted_rows c.args.q.now f m.result i.result m.ensures e b row q
+    (c.remove_v4-k.ensures st f (deleted_there c.args.q.now f m.result i.result m.ensures e b row q))

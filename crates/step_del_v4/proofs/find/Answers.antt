@@ -1,0 +1,40 @@
+use Rattle.definition.specs.Reference.Removal.{deletes}
+use Rattle.row_subnet.specs.Laws.{part-short}
+use Rattle.layout.specs.Address.{fit_address}
+use Rattle.lists.specs.Pass.{find_here, find_past, find_end}
+use Rattle.lists.specs.Place.{place_of}
+use Rattle.lists.specs.Laid.{Laid}
+use Rattle.lists.specs.Lists.{Row}
+use lib.ListN.{drop}
+use lib.Dec.{lit<}
+use native.Mathlib.Omega.{arith}
+use native.Mathlib.Nat.{zero-add}
+use mathlib.Core.Path.{◌≡◌, sym, ◌∙◌}
+use mathlib.Core.List.{List}
+use Prim.Native.Nat.{◌+◌, ◌-◌, ◌≤◌}
+use borrow.Author.Rules.{rules}
+use Rattle.step_del_v4.proofs.find.Goals as goal
+
+pub loop-i-init : goal.loop-i-init
+loop-i-init c = (search rules, λ l h. sym (zero-add (place_of (deletes c.args.q.now) l)))
+
+pub deletes-requires : goal.deletes-requires
+deletes-requires c =
+    (c.requires.1, part-short c.args.rows.now c.args.n c.requires.0.0 c.requires.0.1 c.loop-i.i c.loop-i-test.true)
+
+pub returns-then-deletes : goal.returns-then-deletes
+returns-then-deletes c =
+    let a = c.args in
+    λ l h. find_here a.rows.now a.n (lit< tt) c.requires.0.0 (deletes a.q.now) l h c.loop-i.i (c.loop-i.invariant.1 l h) c.loop-i-test.true (sym c.deletes.ensures ∙ c.if-deletes.true)
+
+pub loop-i-preserved : goal.loop-i-preserved
+loop-i-preserved c =
+    let a = c.args in (
+      omega arith,
+      λ l h. find_past a.rows.now a.n (lit< tt) c.requires.0.0 (deletes a.q.now) l h c.loop-i.i (c.loop-i.invariant.1 l h) c.loop-i-test.true (sym c.deletes.ensures ∙ c.if-deletes.false),
+    )
+
+pub returns : goal.returns
+returns c =
+    let a = c.args in
+    λ l h. find_end a.rows.now a.n (lit< tt) c.requires.0.0 (deletes a.q.now) l h c.loop-i.i (c.loop-i.invariant.1 l h) c.loop-i.invariant.0 c.loop-i-test.false

@@ -1,0 +1,34 @@
+use Rattle.step_drop_routes.specs.Iterations.{any_row}
+use Rattle.step_drop_routes.specs.One.{loses}
+use Rattle.state.specs.Represents.{Represents}
+use Rattle.definition.specs.State.{State}
+use Rattle.lists.specs.Pass.{part-width, some-here, some-past, some_end}
+use Rattle.lists.specs.Laid.{Laid}
+use Rattle.lists.specs.Lists.{Row, any}
+use lib.ListN.{drop}
+use lib.Dec.{lit<}
+use native.Mathlib.Omega.{arith}
+use mathlib.Core.List.{List}
+use mathlib.Core.Path.{◌≡◌, refl, sym, ◌∙◌}
+use Prim.Native.Nat.{◌-◌, ◌≤◌}
+use borrow.Author.Rules.{rules}
+use Rattle.step_drop_routes.proofs.loses.Goals as goal
+
+pub loop-j-init : goal.loop-j-init
+loop-j-init c = (search rules, λ st h l q. refl)
+
+pub lost-requires : goal.lost-requires
+lost-requires c =
+    (c.requires.0, part-width c.args.rows.now c.args.m (lit< tt) c.requires.1.0 c.requires.1.1 c.loop-j.j c.loop-j-test.true)
+
+pub returns-then-lost : goal.returns-then-lost
+returns-then-lost c =
+    λ st h l q. some-here c.args.rows.now c.args.m (lit< tt) c.requires.1.0 (loses st.addresses) l q c.loop-j.j (c.loop-j.invariant.1 st h l q) c.loop-j-test.true (sym (c.lost.ensures st h) ∙ c.if-lost.true)
+
+pub loop-j-preserved : goal.loop-j-preserved
+loop-j-preserved c =
+    (omega arith, λ st h l q. some-past c.args.rows.now c.args.m (lit< tt) c.requires.1.0 (loses st.addresses) l q c.loop-j.j (c.loop-j.invariant.1 st h l q) c.loop-j-test.true (sym (c.lost.ensures st h) ∙ c.if-lost.false))
+
+pub returns : goal.returns
+returns c =
+    λ st h l q. some_end c.args.rows.now c.args.m (lit< tt) c.requires.1.0 (loses st.addresses) l q c.loop-j.j (c.loop-j.invariant.1 st h l q) c.loop-j-test.false

@@ -1,0 +1,28 @@
+-- `step_events::address_event` meets its contract: the row, the zeros behind it and the two words in front are one run.
+-- Assumes nothing.
+use mathlib.Core.Path.{ap, ◌∙◌}
+use mathlib.Core.List.{List}
+use Prim.Native.Nat.{ℕ}
+use native.Mathlib.Omega.{arith}
+use lib.ListN.{set, length-set}
+use Rattle.lists.specs.Lists.{put, zeros}
+use Rattle.step_events.specs.Row.{address-written}
+use borrow.Author.Rules.{rules}
+use Rattle.step_events.proofs.address_event.Goals as goal
+
+pub bounds-ev-0 : goal.bounds-ev-0
+bounds-ev-0 c =
+    let at_clear = c.clear in
+    let at_store = c.store in
+    simp length-set (omega (arith, (at_clear.auto.0 ∙ at_store.auto.0), c.requires))
+
+pub shape_of-ev : goal.shape_of-ev
+shape_of-ev c = simp length-set (c.clear.auto.0 ∙ c.store.auto.0)
+
+pub returns : goal.returns
+returns c =
+    let at_clear = c.clear in
+    let at_store = c.store in
+    let a = c.args in
+    ap (λ (l : List ℕ). set (set l 1 0) 0 a.kind) (at_clear.ensures ∙ ap (put 22 (zeros 12)) at_store.ensures)
+    ∙ address-written a.kind a.a.now a.ev.now c.requires.1 c.requires.0

@@ -1,0 +1,20 @@
+-- `step_events::route_event` meets its contract: the row and the two words in front are one run.
+-- Assumes nothing.
+use mathlib.Core.Path.{ap, ◌∙◌}
+use mathlib.Core.List.{List}
+use Prim.Native.Nat.{ℕ}
+use native.Mathlib.Omega.{arith}
+use lib.ListN.{set, length-set}
+use Rattle.step_events.specs.Row.{row_written}
+use borrow.Author.Rules.{rules}
+use Rattle.step_events.proofs.route_event.Goals as goal
+
+pub bounds-ev-0 : goal.bounds-ev-0
+bounds-ev-0 c = simp length-set (omega (arith, c.store.auto.0, c.requires))
+
+pub returns : goal.returns
+returns c =
+    let at_store = c.store in
+    let a = c.args in
+    ap (λ (l : List ℕ). set (set l 1 a.flags) 0 a.kind) at_store.ensures
+    ∙ row_written a.kind a.flags a.r.now a.ev.now (omega (arith, c.requires))

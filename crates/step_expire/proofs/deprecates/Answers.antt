@@ -1,0 +1,12 @@
+use Rattle.step_expire.specs.Loop.{deprecates-is}
+use Rattle.life.specs.declared.Life.{Life}
+use Rattle.life.specs.Life.{reached}
+use mathlib.Core.Path.{ap, ◌∙◌}
+use borrow.Author.Rules.{rules}
+use Rattle.step_expire.proofs.deprecates.Goals as goal
+
+pub returns : goal.returns
+returns c =
+    let a = c.args in
+    deprecates-is a.allowance.0 a.clock.0 a.a.now c.reached-over.result
+    (c.reached-over.ensures ∙ ap (λ (l : Life). reached a.allowance.0 l.preferred.0 l.changed.0 a.clock.0) c.life_of-life.ensures)

@@ -1,0 +1,24 @@
+use Rattle.step_expire.specs.Loop.{Expiring, next-less, expiring_start, expiring_facts, expiring_next, expiring_end, expiring_fewer}
+use Rattle.step_drop_routes.specs.Iterations.{step-facts}
+use Rattle.step_drop_prefsrc.specs.Delete.{ready_valid}
+use Rattle.step_events.specs.Iterations.{going_ready, going-fits}
+use Rattle.step_events.specs.EmitsWithin.{RoomFor}
+use Rattle.state.specs.Represents.{sizes-valid}
+use Rattle.definition.specs.Preservation.Shrinking.{potential}
+use Rattle.definition.specs.Words.{address_count, base_size}
+use Rattle.definition.specs.State.{State}
+use lib.ListN.{length}
+use native.Mathlib.Omega.{arith}
+use Prim.Native.Nat.{◌-◌, ◌*◌, ◌≤◌}
+use mathlib.Core.Path.{◌≡◌, sym, ◌∙◌}
+use borrow.Author.Rules.{rules}
+use Rattle.step_expire.proofs.expire.Given as goal
+
+abbrev pub invariant-loop-i : goal.invariant-loop-i
+invariant-loop-i l =
+    (l.n ≡ address_count l.s)
+    × (((34 * l.k ≤ length l.ev) × (length l.s ≡ base_size) × (length l.ev ≡ length l.clock) × (l.k ≤ 384)) × ((l.i ≤ address_count l.s) × (address_count l.s ≤ 64)))
+    × ((st : State) → RoomFor potential st l.allowance l.clock → Expiring l.initial.s.0 l.initial.ev.0 st l.i l.k l.s l.clock l.ev)
+
+abbrev pub decreases-loop-i : goal.decreases-loop-i
+decreases-loop-i l = 66 * l.n - l.i

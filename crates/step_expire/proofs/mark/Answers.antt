@@ -1,0 +1,36 @@
+use Rattle.step_expire.specs.Loop.{marked_row, marked-fits}
+use mathlib.Core.Path.{subst}
+use Rattle.state.specs.Represents.{Represents}
+use Rattle.definition.specs.Preservation.Fit.{length-address}
+use Rattle.definition.specs.State.{with_addresses}
+use Rattle.layout.specs.Event.{new_addr4}
+use Rattle.lists.specs.Lists.{Row, put}
+use lib.ListN.{set}
+use mathlib.Core.List.{List}
+use Prim.Native.Nat.{ℕ}
+use mathlib.Core.Path.{refl, ap, ◌∙◌}
+use borrow.Author.Rules.{rules}
+use Rattle.step_expire.proofs.mark.Goals as goal
+
+pub deprecate-requires : goal.deprecate-requires
+deprecate-requires c = (length-address _ c.requires.1.2, search rules)
+
+pub new_addr4-requires : goal.new_addr4-requires
+new_addr4-requires c =
+    let q = marked_row c.args.a.now c.deprecate.new.1.0 _ c.requires.1.2 c.deprecate.ensures refl in
+    let z = marked-fits c.args.a.now c.deprecate.new.1.0 c.requires.1.2 q in
+    (c.requires.1.1, z.0)
+
+pub replace_address-requires : goal.replace_address-requires
+replace_address-requires c =
+    let q = marked_row c.args.a.now c.deprecate.new.1.0 _ c.requires.1.2 c.deprecate.ensures refl in
+    let z = marked-fits c.args.a.now c.deprecate.new.1.0 c.requires.1.2 q in
+    (c.requires.0, (c.requires.1.0, z.1))
+
+pub returns : goal.returns
+returns c =
+    let q = marked_row c.args.a.now c.deprecate.new.1.0 _ c.requires.1.2 c.deprecate.ensures refl in
+    let z = marked-fits c.args.a.now c.deprecate.new.1.0 c.requires.1.2 q in (
+      c.new_addr4.ensures ∙ ap (λ (r : List ℕ). put 0 (new_addr4 r) c.args.ev.now) q,
+      λ st h. subst (λ (r : Row). Represents c.replace_address.new.0 (with_addresses (set st.addresses c.args.i r) st)) q (c.replace_address.ensures st h),
+    )

@@ -1,0 +1,51 @@
+use Prim.Native.Nat.{◌-◌, ◌≤◌}
+use native.Mathlib.Omega.{arith}
+use mathlib.Core.List.{List}
+use borrow.Author.Tests.{not-true, not-false}
+use mathlib.Core.Bool.{◌&&◌, ◌||◌}
+use lib.Dec.{eqb}
+use Rattle.lists.specs.Lists.{Row}
+use Rattle.lists.specs.Laid.{Laid}
+use Rattle.lists.specs.Count.{tick-most}
+use Rattle.layout.specs.Route.{fit_route}
+use Rattle.step_insert.specs.Find.{Sofar, find_start, pass-more, pass-found, pass_all}
+use borrow.Author.Rules.{rules}
+use Rattle.step_insert.proofs.find_run.Goals as goal
+
+pub loop-end-init : goal.loop-end-init
+loop-end-init c = (search rules, search rules, λ l h. find_start c.args.new.now l)
+
+pub returns-then-not-goes_on : goal.returns-then-not-goes_on
+returns-then-not-goes_on c =
+    let a = c.args in
+    let goes_on = c.see-seen.result.in_run || (c.see-seen.result.in_front && eqb c.loop-end.start c.loop-end.end) in (
+      λ l h.
+          pass-found a.new.now a.rows.now a.n c.requires.0.0 l h c.loop-end.end c.loop-end.start (c.loop-end.invariant.2 l h)
+          c.loop-end-test.true (rw (c.see-seen.ensures.0, c.see-seen.ensures.1) at (not-true goes_on c.if-not-goes_on.true)),
+      search rules,
+    )
+
+pub overflow_add-start : goal.overflow_add-start
+overflow_add-start c =
+    omega (arith, c.one_if-start.ensures, tick-most c.see-seen.result.in_front)
+
+pub loop-end-preserved : goal.loop-end-preserved
+loop-end-preserved c =
+    let a = c.args in
+    let goes_on = c.see-seen.result.in_run || (c.see-seen.result.in_front && eqb c.loop-end.start c.loop-end.end) in (
+      search rules,
+      omega (arith, c.one_if-start.ensures, tick-most c.see-seen.result.in_front),
+      λ l h.
+          rw (c.one_if-start.ensures, c.see-seen.ensures.0)
+          (pass-more a.new.now a.rows.now a.n c.requires.0.0 l h c.loop-end.end c.loop-end.start (c.loop-end.invariant.2 l h)
+          c.loop-end-test.true (rw (c.see-seen.ensures.0, c.see-seen.ensures.1) at (not-false goes_on c.if-not-goes_on.false))),
+    )
+
+pub returns : goal.returns
+returns c =
+    let a = c.args in (
+      λ l h.
+          pass_all a.new.now a.rows.now a.n c.requires.0.0 l h c.loop-end.end c.loop-end.start (c.loop-end.invariant.2 l h)
+          c.loop-end.invariant.0 c.loop-end-test.false,
+      search rules,
+    )

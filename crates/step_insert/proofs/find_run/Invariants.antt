@@ -1,0 +1,19 @@
+use Prim.Native.Nat.{◌-◌, ◌≤◌}
+use native.Mathlib.Omega.{arith}
+use mathlib.Core.List.{List}
+use borrow.Author.Tests.{not-true, not-false}
+use mathlib.Core.Bool.{◌&&◌, ◌||◌}
+use lib.Dec.{eqb}
+use Rattle.lists.specs.Lists.{Row}
+use Rattle.lists.specs.Laid.{Laid}
+use Rattle.lists.specs.Count.{tick-most}
+use Rattle.layout.specs.Route.{fit_route}
+use Rattle.step_insert.specs.Find.{Sofar, find_start, pass-more, pass-found, pass_all}
+use borrow.Author.Rules.{rules}
+use Rattle.step_insert.proofs.find_run.Given as goal
+
+abbrev pub invariant-loop-end : goal.invariant-loop-end
+invariant-loop-end l = (l.end ≤ l.n) × (l.start ≤ l.end) × ((l : List Row) → Laid 32 fit_route l.rows l → Sofar l.new l l.end l.start)
+
+abbrev pub decreases-loop-end : goal.decreases-loop-end
+decreases-loop-end l = l.n - l.end

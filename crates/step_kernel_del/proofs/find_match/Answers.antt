@@ -1,0 +1,35 @@
+use Rattle.definition.specs.Reference.Insert.{matches}
+use Rattle.layout.specs.Route.{fit_route}
+use Rattle.lists.specs.Pass.{find_here, find_past, find_end}
+use Rattle.lists.specs.Place.{place_of}
+use Rattle.lists.specs.Laid.{Laid}
+use Rattle.lists.specs.Lists.{Row}
+use lib.ListN.{drop}
+use lib.Dec.{lit<}
+use native.Mathlib.Omega.{arith}
+use native.Mathlib.Nat.{zero-add}
+use mathlib.Core.Path.{◌≡◌, sym, ◌∙◌}
+use mathlib.Core.List.{List}
+use Prim.Native.Nat.{◌+◌, ◌-◌, ◌≤◌}
+use borrow.Author.Rules.{rules}
+use Rattle.step_kernel_del.proofs.find_match.Goals as goal
+
+pub loop-i-init : goal.loop-i-init
+loop-i-init c = (search rules, λ l h. sym (zero-add (place_of (matches c.args.p.now) l)))
+
+pub returns-then-matches : goal.returns-then-matches
+returns-then-matches c =
+    let a = c.args in
+    λ l h. find_here a.rows.now a.n (lit< tt) c.requires.0.0 (matches a.p.now) l h c.loop-i.i (c.loop-i.invariant.1 l h) c.loop-i-test.true (sym c.matches.ensures ∙ c.if-matches.true)
+
+pub loop-i-preserved : goal.loop-i-preserved
+loop-i-preserved c =
+    let a = c.args in (
+      omega arith,
+      λ l h. find_past a.rows.now a.n (lit< tt) c.requires.0.0 (matches a.p.now) l h c.loop-i.i (c.loop-i.invariant.1 l h) c.loop-i-test.true (sym c.matches.ensures ∙ c.if-matches.false),
+    )
+
+pub returns : goal.returns
+returns c =
+    let a = c.args in
+    λ l h. find_end a.rows.now a.n (lit< tt) c.requires.0.0 (matches a.p.now) l h c.loop-i.i (c.loop-i.invariant.1 l h) c.loop-i.invariant.0 c.loop-i-test.false

@@ -1,0 +1,22 @@
+use Rattle.definition.specs.Reference.Insert.{matches}
+use Rattle.layout.specs.Route.{fit_route}
+use Rattle.lists.specs.Pass.{find_here, find_past, find_end}
+use Rattle.lists.specs.Place.{place_of}
+use Rattle.lists.specs.Laid.{Laid}
+use Rattle.lists.specs.Lists.{Row}
+use lib.ListN.{drop}
+use lib.Dec.{lit<}
+use native.Mathlib.Omega.{arith}
+use native.Mathlib.Nat.{zero-add}
+use mathlib.Core.Path.{◌≡◌, sym, ◌∙◌}
+use mathlib.Core.List.{List}
+use Prim.Native.Nat.{◌+◌, ◌-◌, ◌≤◌}
+use borrow.Author.Rules.{rules}
+use Rattle.step_kernel_del.proofs.find_match.Given as goal
+
+abbrev pub invariant-loop-i : goal.invariant-loop-i
+invariant-loop-i l =
+    (l.i ≤ l.n) × ((l : List Row) → Laid 32 fit_route l.rows l → place_of (matches l.p) l ≡ l.i + place_of (matches l.p) (drop l.i l))
+
+abbrev pub decreases-loop-i : goal.decreases-loop-i
+decreases-loop-i l = l.n - l.i

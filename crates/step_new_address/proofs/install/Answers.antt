@@ -1,0 +1,61 @@
+use lib.Dec.{lit<}
+use Rattle.lists.specs.Pass.{part-fit}
+use Rattle.state.specs.Represents.{sound-long}
+use Rattle.step_new_address.specs.Adding.{rest-room, rows_are}
+use Rattle.step_events.specs.Comes.{not_first}
+use Prim.Native.Nat.{◌-◌, ◌≤◌}
+use mathlib.Core.Path.{◌≡◌, refl, sym, ◌∙◌}
+use native.Mathlib.Omega.{arith}
+use lib.ListN.{length}
+use Rattle.step_new_address.specs.Install.{LoopInvariant, sofar-start, sofar-sound, sofar-valid, sofar-length, sofar-next, sofar-other, sofar-end}
+use borrow.Author.Rules.{rules}
+use Rattle.step_new_address.proofs.install.Goals as goal
+
+pub loop-i-init : goal.loop-i-init
+loop-i-init c =
+    (omega arith, (omega arith, (refl, (refl, sofar-start c.args.block.now c.args.s.now c.args.ev.now))))
+
+pub overflow_mul-from : goal.overflow_mul-from
+overflow_mul-from c =
+    omega (arith, c.loop-i.invariant.0, c.loop-i.invariant.1.0, c.requires.1.1.1)
+
+pub slice_bounds-kernel_add4-start : goal.slice_bounds-kernel_add4-start
+slice_bounds-kernel_add4-start c =
+    omega (arith, c.loop-i-test.true, c.loop-i.invariant.0, c.loop-i.invariant.1.0, c.loop-i.invariant.1.1.1.0, c.requires.1.1.0)
+
+pub kernel_add4-came-requires : goal.kernel_add4-came-requires
+kernel_add4-came-requires c =
+    let y = c.requires.1.0 in
+    let inv = c.loop-i.invariant in (
+      sofar-valid inv.1.1.1.1 c.requires.0 y.1,
+      (
+        part-fit c.args.block.now c.args.k (lit< tt) y.0 y.1 c.loop-i.i c.loop-i-test.true,
+        rest-room c.loop-i.emitted 34 c.loop-i.ev (omega (arith, c.requires.1.1.0, inv.0, inv.1.0, inv.1.1.1.0, c.loop-i-test.true)),
+      ),
+    )
+
+pub returns-in_default : goal.returns-in_default
+returns-in_default c =
+    let y = c.requires.1.0 in
+    let inv = c.loop-i.invariant in
+    let taken = c.loop-i-test.true in
+    (omega (arith, taken, c.kernel_add4-came.ensures.1.0), λ rows h. sofar-other inv.1.1.1.1 c.args.k y.0 taken c.kernel_add4-came.ensures.1.1 (λ c e. not_first (rw e at c.in_default.in_default-own.keys2)) rows h)
+
+pub overflow_add-emitted : goal.overflow_add-emitted
+overflow_add-emitted c =
+    omega (arith, c.loop-i.invariant.0, c.loop-i.invariant.1.0, c.requires.1.1.1, rows_are 1 c.kernel_add4-came.result c.in-Rows.m c.in-Rows.is c.kernel_add4-came.ensures.1.0)
+
+pub loop-i-preserved : goal.loop-i-preserved
+loop-i-preserved c =
+    let y = c.requires.1.0 in
+    let inv = c.loop-i.invariant in
+    let m = c.in-Rows.m in
+    let one = rows_are 1 c.kernel_add4-came.result m c.in-Rows.is c.kernel_add4-came.ensures.1.0 in
+    let next = sofar-next inv.1.1.1.1 c.args.k y.0 c.loop-i-test.true c.kernel_add4-came.ensures.1.1 m c.in-Rows.is in
+    (omega arith, (omega (arith, one, inv.1.0), (sound-long (sofar-sound next c.requires.0 y.1) ∙ sym (sound-long c.requires.0), (sofar-length next c.requires.0 y.1, next))))
+
+pub returns : goal.returns
+returns c =
+    let y = c.requires.1.0 in
+    let inv = c.loop-i.invariant in
+    (omega (arith, inv.0, inv.1.0), λ rows h. sofar-end inv.1.1.1.1 c.args.k y.0 c.loop-i-test.false rows h)

@@ -1,0 +1,14 @@
+use Rattle.row_subnet.specs.Laws.{fit-short}
+use Prim.Native.Nat.{◌-◌}
+use native.Mathlib.Omega.{arith}
+use borrow.Author.Rules.{rules}
+use Rattle.step_remove_v4.proofs.goes_with.Goals as goal
+
+pub secondary-primary-requires : goal.secondary-primary-requires
+secondary-primary-requires c = (fit-short _ c.requires.0).0
+
+pub same_subnet-same-requires : goal.same_subnet-same-requires
+same_subnet-same-requires c = (fit-short _ c.requires.0, omega (arith, c.requires.1))
+
+pub returns : goal.returns
+returns c = rw (c.same_subnet-same.ensures, c.secondary-second.ensures, c.secondary-primary.ensures)

@@ -1,0 +1,24 @@
+use Rattle.step_remove_v4.specs.One.{Going1, gone-start, gone-facts, gone-next, gone-last}
+use Rattle.step_events.specs.Iterations.{going_ready}
+use Rattle.step_events.specs.EmitsWithin.{RoomFor}
+use Rattle.definition.specs.Words.{address_count, base_size}
+use Rattle.definition.specs.State.{State}
+use Rattle.step_drop_prefsrc.specs.Delete.{ready_valid}
+use Rattle.state.specs.Represents.{sizes-valid}
+use Rattle.definition.specs.Preservation.Shrinking.{potential}
+use lib.ListN.{length}
+use native.Mathlib.Omega.{arith}
+use mathlib.Core.Path.{◌≡◌, sym, ◌∙◌}
+use Prim.Native.Nat.{◌+◌, ◌*◌, ◌-◌, ◌≤◌}
+use borrow.Author.Rules.{rules}
+use Rattle.step_remove_v4.proofs.remove_secondaries.Given as goal
+
+abbrev pub invariant-loop-j : goal.invariant-loop-j
+invariant-loop-j l =
+    (l.j ≤ l.initial.ev)
+    × (l.initial.ev ≤ 64)
+    × (((34 * l.k ≤ length l.ev) × (length l.s ≡ base_size) × (length l.ev ≡ length l.n) × (l.k ≤ 384)) × ((address_count l.s ≤ l.initial.ev) × (l.initial.ev ≤ l.j + address_count l.s)))
+    × ((st : State) → RoomFor potential st l.a l.n → Going1 l.initial.s st l.initial.ev l.j l.k l.s l.n l.ev)
+
+abbrev pub decreases-loop-j : goal.decreases-loop-j
+decreases-loop-j l = l.initial.ev - l.j

@@ -1,0 +1,11 @@
+-- `text::byte` meets its contract: a byte is a run of one.
+-- Assumes nothing.
+use Prim.Native.Nat.{◌-◌}
+use mathlib.Core.Path.{refl}
+use native.Mathlib.Omega.{arith}
+use Rattle.lists.specs.Put.{put_one}
+use borrow.Author.Rules.{rules}
+use Rattle.text.proofs.byte.Goals as goal
+
+pub returns : goal.returns
+returns c = (refl, put_one c.args.at c.args.c c.args.out.now (omega arith))

@@ -1,0 +1,22 @@
+-- `text::places` meets its contract: what is counted and the digits of the rest are one more than the digits.
+-- Assumes nothing.
+use Prim.Native.Nat.{◌+◌, ◌-◌}
+use mathlib.Core.Path.{◌≡◌}
+use native.Mathlib.Omega.{arith}
+use lib.ListN.{length}
+use Rattle.text.specs.Print.{digits}
+use Rattle.text.specs.Digits.{count_word, count-one, count-more}
+use borrow.Author.Rules.{rules}
+use Rattle.text.proofs.places.Goals as goal
+
+pub loop-rest-init : goal.loop-rest-init
+loop-rest-init c = omega arith
+
+pub overflow_add-k : goal.overflow_add-k
+overflow_add-k c = omega (arith, count_word c.args.n (omega arith))
+
+pub loop-rest-preserved : goal.loop-rest-preserved
+loop-rest-preserved c = omega (arith, count-more c.loop-rest.rest (omega arith), c.loop-rest.invariant)
+
+pub returns : goal.returns
+returns c = omega (arith, count-one c.loop-rest.rest (omega arith), c.loop-rest.invariant)

@@ -1,0 +1,48 @@
+-- `text::spell` meets its contract: with i digits to go the others are put, and those to go are the rest's.
+-- Assumes nothing.
+use Prim.Native.Nat.{ℕ, ◌+◌, ◌-◌, ◌%◌, ◌≤◌}
+use mathlib.Core.Path.{◌≡◌, refl, sym, ap, ◌∙◌}
+use mathlib.Core.List.{List}
+use native.Mathlib.Omega.{arith}
+use lib.ListN.{length, take, drop, set, length-set, drop_of_length-le}
+use lib.Seq.{take_all}
+use Rattle.lists.specs.Lists.{put}
+use native.Mathlib.Nat.{add-zero}
+use Rattle.lists.specs.Put.{put-none, put-drop}
+use Rattle.text.specs.Digits.{lasts, length-lasts, last-digit}
+use borrow.Author.Rules.{rules}
+use Rattle.text.proofs.spell.Goals as goal
+
+pub loop-i-init : goal.loop-i-init
+loop-i-init c =
+    let a = c.args in
+    let long = length-lasts a.k a.n in (
+      omega arith,
+      refl,
+      rw (drop_of_length-le (lasts a.k a.n) {i = a.k} (omega arith)) (put-none (a.at + a.k) a.out.now),
+      take_all a.k (lasts a.k a.n) (omega arith),
+    )
+
+pub loop-i-preserved : goal.loop-i-preserved
+loop-i-preserved c =
+    let a = c.args in
+    let i = c.loop-i.i - 1 in
+    let back : i + 1 ≡ c.loop-i.i = omega arith in
+    let l = lasts a.k a.n in
+    let long = length-lasts a.k a.n in
+    let d = last-digit i c.loop-i.rest l (rw (← back) at c.loop-i.invariant.3) in (
+      omega arith,
+      length-set c.loop-i.out (a.at + i) (48 + c.loop-i.rest % 10) ∙ c.loop-i.invariant.1,
+      ap (λ (x : List ℕ). set x (a.at + i) (48 + c.loop-i.rest % 10)) (rw (← back) at c.loop-i.invariant.2)
+          ∙ ap (λ (v : ℕ). set (put (a.at + (i + 1)) (drop (i + 1) l) a.out.now) (a.at + i) v) (sym d.0)
+          ∙ put-drop a.at l a.out.now i (omega arith) (omega arith),
+      d.1,
+    )
+
+pub shape_of-out : goal.shape_of-out
+shape_of-out c = c.loop-i.invariant.1
+
+pub returns : goal.returns
+returns c =
+    let none : c.loop-i.i ≡ 0 = omega arith in
+    c.loop-i.invariant.2 ∙ rw (none, add-zero)

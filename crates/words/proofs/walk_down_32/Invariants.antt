@@ -1,0 +1,19 @@
+-- `words::walk_down_32` meets its contract, as `walk_down` does.
+-- Assumes nothing.
+use Prim.Native.Nat.{ℕ, ◌+◌, ◌-◌, ◌≤◌}
+use mathlib.Core.Path.{◌≡◌, refl, ap, ◌∙◌}
+use mathlib.Core.List.{List}
+use native.Mathlib.Omega.{arith}
+use lib.ListN.{length, take, set, get_or, length-set}
+use lib.Seq.{take_all}
+use Rattle.lists.specs.Lists.{put, span}
+use Rattle.lists.specs.Rows.{length-span}
+use Rattle.lists.specs.Put.{put-none, put-down}
+use borrow.Author.Rules.{rules}
+use Rattle.words.proofs.walk_down_32.Given as goal
+
+abbrev pub invariant-loop-i : goal.invariant-loop-i
+invariant-loop-i l = (l.i ≤ l.initial.s) × (length l.s ≡ length l.n) × (l.s ≡ put 0 (take l.i (span 32 l.initial.s l.n)) l.n)
+
+abbrev pub decreases-loop-i : goal.decreases-loop-i
+decreases-loop-i l = l.initial.s - l.i
