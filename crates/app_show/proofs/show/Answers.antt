@@ -16,21 +16,15 @@ use Rattle.app_show.proofs.show.Goals as goal
 
 pub returns-then-bytes-ne-STATE_BYTES : goal.returns-then-bytes-ne-STATE_BYTES
 returns-then-bytes-ne-STATE_BYTES c =
-    let b = c.args.bytes.now in
-    let o = c.args.out.now in
-    let r = c.refused_line.ensures in
-    let e = sym (shown-other b c.if-bytes-ne-STATE_BYTES.true) in
-    let m = r.1.0 ∙ zero-add _ ∙ ap (λ (x : List ℕ). length x) e in
-    let n = r.1.1 ∙ ap (λ (x : List ℕ). put 0 x o) e in
-    (counts-put (shown b) o _ c.refused_line.result m n (omega (arith, r.0)), (m, n))
+    let e = sym (shown-other c.args.bytes.now c.if-bytes-ne-STATE_BYTES.true) in
+    let m = c.refused_line.ensures.value ∙ zero-add _ ∙ ap (λ (x : List ℕ). length x) e in
+    let n = c.refused_line.ensures.out_after ∙ ap (λ (x : List ℕ). put 0 x c.args.out.now) e in
+    record { upper_bound = counts-put (shown c.args.bytes.now) c.args.out.now _ c.refused_line.result m n (omega (arith, c.refused_line.ensures.upper_bound)); value = m; out_after = n }
 
 pub returns : goal.returns
 returns c =
-    let b = c.args.bytes.now in
-    let o = c.args.out.now in
-    let r = c.show_words.ensures in
-    let s = words-whole state_size b _ _ (omega arith) refl c.words_of.ensures in
-    let e = ap shown_words s ∙ sym (shown-words b (omega arith)) in
-    let m = r.1.0 ∙ ap (λ (x : List ℕ). length x) e in
-    let n = r.1.1 ∙ ap (λ (x : List ℕ). put 0 x o) e in
-    (counts-put (shown b) o _ c.show_words.result m n (omega (arith, r.0)), (m, n))
+    let s = words-whole state_size c.args.bytes.now _ _ (omega arith) refl c.words_of.ensures in
+    let e = ap shown_words s ∙ sym (shown-words c.args.bytes.now (omega arith)) in
+    let m = c.show_words.ensures.value ∙ ap (λ (x : List ℕ). length x) e in
+    let n = c.show_words.ensures.out_after ∙ ap (λ (x : List ℕ). put 0 x c.args.out.now) e in
+    record { upper_bound = counts-put (shown c.args.bytes.now) c.args.out.now _ c.show_words.result m n (omega (arith, c.show_words.ensures.upper_bound)); value = m; out_after = n }

@@ -16,33 +16,24 @@ use Rattle.app_show.proofs.show_listing.Goals as goal
 
 pub overflow_mul-e : goal.overflow_mul-e
 overflow_mul-e c =
-    let w = c.args.s.now in
-    record { fits = omega (arith, c.list-n.ensures.0, listing-few w c.requires.0 c.requires.1) }
+    record { fits = omega (arith, c.list-n.ensures.value, listing-few c.args.s.now c.requires.0 c.requires.1) }
 
 pub slice_bounds-listing-end : goal.slice_bounds-listing-end
 slice_bounds-listing-end c =
-    let w = c.args.s.now in
-    omega (arith, c.list-n.ensures.0, listing-few w c.requires.0 c.requires.1)
+    omega (arith, c.list-n.ensures.value, listing-few c.args.s.now c.requires.0 c.requires.1)
 
 pub slice_bounds-render-end : goal.slice_bounds-render-end
 slice_bounds-render-end c =
-    let w = c.args.s.now in
-    sym (length-take-le (32 * c.list-n.result) c.list-n.new.1.0 (omega (arith, c.list-n.ensures.0, listing-few w c.requires.0 c.requires.1)))
+    sym (length-take-le (32 * c.list-n.result) c.list-n.new.listing.0 (omega (arith, c.list-n.ensures.value, listing-few c.args.s.now c.requires.0 c.requires.1)))
 
 pub render-requires : goal.render-requires
 render-requires c =
-    let w = c.args.s.now in
-    let few = listing-few w c.requires.0 c.requires.1 in
-    let n = c.list-n.ensures.0 in
-    (length-take-le (32 * c.list-n.result) c.list-n.new.1.0 (omega arith), omega arith, omega arith)
+    let few = listing-few c.args.s.now c.requires.0 c.requires.1 in
+    (length-take-le (32 * c.list-n.result) c.list-n.new.listing.0 (omega arith), omega arith, omega arith)
 
 pub returns : goal.returns
 returns c =
-    let w = c.args.s.now in
-    let few = listing-few w c.requires.0 c.requires.1 in
-    let t = c.list-n.ensures in
-    let n = t.0 in
-    let r = c.render.ensures in
-    let rows = listed-rows (dump4 (decode w)) c.list-n.new.1.0 _ c.list-n.result (listing-sized w c.requires.0 c.requires.1) n t.1 in
+    let few = listing-few c.args.s.now c.requires.0 c.requires.1 in
+    let rows = listed-rows (dump4 (decode c.args.s.now)) c.list-n.new.listing.0 _ c.list-n.result (listing-sized c.args.s.now c.requires.0 c.requires.1) c.list-n.ensures.value c.list-n.ensures.listing_after in
     let e = ap render rows in
-    (omega (arith, r.0), (r.1.0 ∙ ap (λ (x : List ℕ). length x) e, r.1.1 ∙ ap (λ (x : List ℕ). put 0 x c.args.out.now) e))
+    record { upper_bound = omega (arith, c.render.ensures.upper_bound); value = c.render.ensures.value ∙ ap (λ (x : List ℕ). length x) e; out_after = c.render.ensures.out_after ∙ ap (λ (x : List ℕ). put 0 x c.args.out.now) e }

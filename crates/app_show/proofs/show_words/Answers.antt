@@ -30,16 +30,9 @@ show_listing-requires c =
 
 pub returns-then-well_formed : goal.returns-then-well_formed
 returns-then-well_formed c =
-    let a = c.args in
-    let listing = c.show_listing.ensures in
-    let e = sym (shown-well a.s.now (sym c.well-formed-2.ensures ∙ c.if-well_formed.true)) in
-    (listing.0, (listing.1.0 ∙ ap (λ (x : List ℕ). length x) e, listing.1.1 ∙ ap (λ (x : List ℕ). put 0 x a.out.now) e))
+    let e = sym (shown-well c.args.s.now (sym c.well-formed-2.ensures ∙ c.if-well_formed.true)) in
+    record { upper_bound = c.show_listing.ensures.upper_bound; value = c.show_listing.ensures.value ∙ ap (λ (x : List ℕ). length x) e; out_after = c.show_listing.ensures.out_after ∙ ap (λ (x : List ℕ). put 0 x c.args.out.now) e }
 
 pub returns : goal.returns
 returns c =
-    let a = c.args in
-    let line = c.refused_line.ensures in
-    let e = sym (shown_ill a.s.now (sym c.well-formed-2.ensures ∙ c.if-well_formed.false)) in (
-      omega (arith, line.0),
-      (line.1.0 ∙ zero-add _ ∙ ap (λ (x : List ℕ). length x) e, line.1.1 ∙ ap (λ (x : List ℕ). put 0 x a.out.now) e),
-    )
+    let e = sym (shown_ill c.args.s.now (sym c.well-formed-2.ensures ∙ c.if-well_formed.false)) in record { upper_bound = omega (arith, c.refused_line.ensures.upper_bound); value = c.refused_line.ensures.value ∙ zero-add _ ∙ ap (λ (x : List ℕ). length x) e; out_after = c.refused_line.ensures.out_after ∙ ap (λ (x : List ℕ). put 0 x c.args.out.now) e }

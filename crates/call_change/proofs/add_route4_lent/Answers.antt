@@ -19,73 +19,53 @@ use Rattle.call_change.proofs.add_route4_lent.Goals as goal
 pub returns-then-n-ne0 : goal.returns-then-n-ne0
 unfolding add_route4_call
 returns-then-n-ne0 c =
-    let a = c.args in
-    let q = a.q.now in
-    let w = a.state.now in
-    let ev = a.events.now in
-    let call = semantics (Call.add_route4 q a.room) in
+    let call = semantics (Call.add_route4 c.args.q.now c.args.room) in
     let n-is =
-    request-checked add_route4_size q (events_fit a.room) (unless (fit_add_route4 q) 202) w
+    request-checked add_route4_size c.args.q.now (events_fit c.args.room) (unless (fit_add_route4 c.args.q.now) 202) c.args.state.now
     c.checked-n.ensures c.fit_add_route4-fit.ensures
     in
-    answers-refused call w ev n-is c.if-n-ne0.true
+    answers-refused call c.args.state.now c.args.events.now n-is c.if-n-ne0.true
 
 pub slice_bounds-add_route4-end : goal.slice_bounds-add_route4-end
 slice_bounds-add_route4-end c =
-    let a = c.args in
-    let q = a.q.now in
-    let w = a.state.now in
-    let ev = a.events.now in
-    let call = semantics (Call.add_route4 q a.room) in
+    let call = semantics (Call.add_route4 c.args.q.now c.args.room) in
     let n-is =
-    request-checked add_route4_size q (events_fit a.room) (unless (fit_add_route4 q) 202) w
+    request-checked add_route4_size c.args.q.now (events_fit c.args.room) (unless (fit_add_route4 c.args.q.now) 202) c.args.state.now
     c.checked-n.ensures c.fit_add_route4-fit.ensures
     in
-    let p = passed call.checks w n-is c.if-n-ne0.false in
+    let p = passed call.checks c.args.state.now n-is c.if-n-ne0.false in
     omega (arith, p.long)
 
 pub slice_bounds-add_route4-end-2 : goal.slice_bounds-add_route4-end-2
 slice_bounds-add_route4-end-2 c =
-    let a = c.args in
-    let q = a.q.now in
-    let w = a.state.now in
-    let ev = a.events.now in
-    let call = semantics (Call.add_route4 q a.room) in
+    let call = semantics (Call.add_route4 c.args.q.now c.args.room) in
     let n-is =
-    request-checked add_route4_size q (events_fit a.room) (unless (fit_add_route4 q) 202) w
+    request-checked add_route4_size c.args.q.now (events_fit c.args.room) (unless (fit_add_route4 c.args.q.now) 202) c.args.state.now
     c.checked-n.ensures c.fit_add_route4-fit.ensures
     in
-    let p = passed call.checks w n-is c.if-n-ne0.false in
+    let p = passed call.checks c.args.state.now n-is c.if-n-ne0.false in
     sym (lent p)
 
 pub add_route4-requires : goal.add_route4-requires
 add_route4-requires c =
-    let a = c.args in
-    let q = a.q.now in
-    let w = a.state.now in
-    let ev = a.events.now in
-    let call = semantics (Call.add_route4 q a.room) in
+    let call = semantics (Call.add_route4 c.args.q.now c.args.room) in
     let n-is =
-    request-checked add_route4_size q (events_fit a.room) (unless (fit_add_route4 q) 202) w
+    request-checked add_route4_size c.args.q.now (events_fit c.args.room) (unless (fit_add_route4 c.args.q.now) 202) c.args.state.now
     c.checked-n.ensures c.fit_add_route4-fit.ensures
     in
-    let p = passed call.checks w n-is c.if-n-ne0.false in
-    let size = sizes add_route4_size q a.room p.room in
-    (sound p, ((size.long, unless-passed (fit_add_route4 q) p.fit), omega (arith, c.requires size.room)))
+    let p = passed call.checks c.args.state.now n-is c.if-n-ne0.false in
+    let size = sizes add_route4_size c.args.q.now c.args.room p.room in
+    record { represents_fit = sound p; q_len = (size.long, unless-passed (fit_add_route4 c.args.q.now) p.fit); in_bounds = omega (arith, c.requires size.room) }
 
 pub returns : goal.returns
 unfolding add_route4_call
 returns c =
-    let a = c.args in
-    let q = a.q.now in
-    let w = a.state.now in
-    let ev = a.events.now in
-    let call = semantics (Call.add_route4 q a.room) in
+    let call = semantics (Call.add_route4 c.args.q.now c.args.room) in
     let n-is =
-    request-checked add_route4_size q (events_fit a.room) (unless (fit_add_route4 q) 202) w
+    request-checked add_route4_size c.args.q.now (events_fit c.args.room) (unless (fit_add_route4 c.args.q.now) 202) c.args.state.now
     c.checked-n.ensures c.fit_add_route4-fit.ensures
     in
-    let p = passed call.checks w n-is c.if-n-ne0.false in
-    answers-passed call w p
-    (whole-answers p (add_route4 q (state_of w)) (added-number insert4 insert_number q (state_of w) (unless-passed (fit_add_route4 q) p.fit))
-    (c.add_route4.ensures (state_of w) p.holds p.good.fits) c.of_done.ensures)
+    let p = passed call.checks c.args.state.now n-is c.if-n-ne0.false in
+    answers-passed call c.args.state.now p
+    (whole-answers p (add_route4 c.args.q.now (state_of c.args.state.now)) (added-number insert4 insert_number c.args.q.now (state_of c.args.state.now) (unless-passed (fit_add_route4 c.args.q.now) p.fit))
+    (c.add_route4.ensures (state_of c.args.state.now) p.holds p.good.fits) c.of_done.ensures)

@@ -19,58 +19,38 @@ use Rattle.call_change.proofs.add_v4.Goals as goal
 pub returns-then-n-ne0 : goal.returns-then-n-ne0
 unfolding add_v4_call
 returns-then-n-ne0 c =
-    let a = c.args in
-    let q = a.q.now in
-    let w = a.state.now in
-    let ev = a.events.now in
-    let call = semantics (Call.add_v4 q (length ev) a.clock) in
-    let n-is = request-checked add_v4_size q (events_fit (length ev)) (add_v4_refusal q) w c.checked-n.ensures c.fit_add_v4-fit.ensures in
-    answers-refused call w ev n-is c.if-n-ne0.true
+    let call = semantics (Call.add_v4 c.args.q.now (length c.args.events.now) c.args.clock) in
+    let n-is = request-checked add_v4_size c.args.q.now (events_fit (length c.args.events.now)) (add_v4_refusal c.args.q.now) c.args.state.now c.checked-n.ensures c.fit_add_v4-fit.ensures in
+    answers-refused call c.args.state.now c.args.events.now n-is c.if-n-ne0.true
 
 pub slice_bounds-add_v4-end : goal.slice_bounds-add_v4-end
 slice_bounds-add_v4-end c =
-    let a = c.args in
-    let q = a.q.now in
-    let w = a.state.now in
-    let ev = a.events.now in
-    let call = semantics (Call.add_v4 q (length ev) a.clock) in
-    let n-is = request-checked add_v4_size q (events_fit (length ev)) (add_v4_refusal q) w c.checked-n.ensures c.fit_add_v4-fit.ensures in
-    let p = passed call.checks w n-is c.if-n-ne0.false in
+    let call = semantics (Call.add_v4 c.args.q.now (length c.args.events.now) c.args.clock) in
+    let n-is = request-checked add_v4_size c.args.q.now (events_fit (length c.args.events.now)) (add_v4_refusal c.args.q.now) c.args.state.now c.checked-n.ensures c.fit_add_v4-fit.ensures in
+    let p = passed call.checks c.args.state.now n-is c.if-n-ne0.false in
     omega (arith, p.long)
 
 pub slice_bounds-add_v4-end-2 : goal.slice_bounds-add_v4-end-2
 slice_bounds-add_v4-end-2 c =
-    let a = c.args in
-    let q = a.q.now in
-    let w = a.state.now in
-    let ev = a.events.now in
-    let call = semantics (Call.add_v4 q (length ev) a.clock) in
-    let n-is = request-checked add_v4_size q (events_fit (length ev)) (add_v4_refusal q) w c.checked-n.ensures c.fit_add_v4-fit.ensures in
-    let p = passed call.checks w n-is c.if-n-ne0.false in
+    let call = semantics (Call.add_v4 c.args.q.now (length c.args.events.now) c.args.clock) in
+    let n-is = request-checked add_v4_size c.args.q.now (events_fit (length c.args.events.now)) (add_v4_refusal c.args.q.now) c.args.state.now c.checked-n.ensures c.fit_add_v4-fit.ensures in
+    let p = passed call.checks c.args.state.now n-is c.if-n-ne0.false in
     sym (lent p)
 
 pub add_v4-requires : goal.add_v4-requires
 add_v4-requires c =
-    let a = c.args in
-    let q = a.q.now in
-    let w = a.state.now in
-    let ev = a.events.now in
-    let call = semantics (Call.add_v4 q (length ev) a.clock) in
-    let n-is = request-checked add_v4_size q (events_fit (length ev)) (add_v4_refusal q) w c.checked-n.ensures c.fit_add_v4-fit.ensures in
-    let p = passed call.checks w n-is c.if-n-ne0.false in
-    let size = sizes add_v4_size q (length ev) p.room in
-    (sound p, ((size.long, add_v4-refusal-passed q p.fit), omega (arith, size.room)))
+    let call = semantics (Call.add_v4 c.args.q.now (length c.args.events.now) c.args.clock) in
+    let n-is = request-checked add_v4_size c.args.q.now (events_fit (length c.args.events.now)) (add_v4_refusal c.args.q.now) c.args.state.now c.checked-n.ensures c.fit_add_v4-fit.ensures in
+    let p = passed call.checks c.args.state.now n-is c.if-n-ne0.false in
+    let size = sizes add_v4_size c.args.q.now (length c.args.events.now) p.room in
+    record { represents_fit = sound p; q_len = (size.long, add_v4-refusal-passed c.args.q.now p.fit); in_bounds = omega (arith, size.room) }
 
 pub returns : goal.returns
 unfolding add_v4_call
 returns c =
-    let a = c.args in
-    let q = a.q.now in
-    let w = a.state.now in
-    let ev = a.events.now in
-    let call = semantics (Call.add_v4 q (length ev) a.clock) in
-    let n-is = request-checked add_v4_size q (events_fit (length ev)) (add_v4_refusal q) w c.checked-n.ensures c.fit_add_v4-fit.ensures in
-    let p = passed call.checks w n-is c.if-n-ne0.false in
-    answers-passed call w p
-    (whole-answers p (add_v4 q a.clock (state_of w)) (add_v4-number q a.clock (state_of w))
-    (c.add_v4.ensures.1 (state_of w) p.holds p.good.fits) c.of_done.ensures)
+    let call = semantics (Call.add_v4 c.args.q.now (length c.args.events.now) c.args.clock) in
+    let n-is = request-checked add_v4_size c.args.q.now (events_fit (length c.args.events.now)) (add_v4_refusal c.args.q.now) c.args.state.now c.checked-n.ensures c.fit_add_v4-fit.ensures in
+    let p = passed call.checks c.args.state.now n-is c.if-n-ne0.false in
+    answers-passed call c.args.state.now p
+    (whole-answers p (add_v4 c.args.q.now c.args.clock (state_of c.args.state.now)) (add_v4-number c.args.q.now c.args.clock (state_of c.args.state.now))
+    (c.add_v4.ensures.comes_whole (state_of c.args.state.now) p.holds p.good.fits) c.of_done.ensures)

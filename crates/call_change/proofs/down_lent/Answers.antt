@@ -15,46 +15,31 @@ use Rattle.call_change.proofs.down_lent.Goals as goal
 pub returns-then-n-ne0 : goal.returns-then-n-ne0
 unfolding down_call
 returns-then-n-ne0 c =
-    let a = c.args in
-    let w = a.state.now in
-    let ev = a.events.now in
-    let call = semantics (Call.down a.room) in
-    answers-refused call w ev c.checked-n.ensures c.if-n-ne0.true
+    let call = semantics (Call.down c.args.room) in
+    answers-refused call c.args.state.now c.args.events.now c.checked-n.ensures c.if-n-ne0.true
 
 pub slice_bounds-down-end : goal.slice_bounds-down-end
 slice_bounds-down-end c =
-    let a = c.args in
-    let w = a.state.now in
-    let ev = a.events.now in
-    let call = semantics (Call.down a.room) in
-    let p = passed call.checks w c.checked-n.ensures c.if-n-ne0.false in
+    let call = semantics (Call.down c.args.room) in
+    let p = passed call.checks c.args.state.now c.checked-n.ensures c.if-n-ne0.false in
     omega (arith, p.long)
 
 pub slice_bounds-down-end-2 : goal.slice_bounds-down-end-2
 slice_bounds-down-end-2 c =
-    let a = c.args in
-    let w = a.state.now in
-    let ev = a.events.now in
-    let call = semantics (Call.down a.room) in
-    let p = passed call.checks w c.checked-n.ensures c.if-n-ne0.false in
+    let call = semantics (Call.down c.args.room) in
+    let p = passed call.checks c.args.state.now c.checked-n.ensures c.if-n-ne0.false in
     sym (lent p)
 
 pub down-requires : goal.down-requires
 down-requires c =
-    let a = c.args in
-    let w = a.state.now in
-    let ev = a.events.now in
-    let call = semantics (Call.down a.room) in
-    let p = passed call.checks w c.checked-n.ensures c.if-n-ne0.false in
+    let call = semantics (Call.down c.args.room) in
+    let p = passed call.checks c.args.state.now c.checked-n.ensures c.if-n-ne0.false in
     valid p
 
 pub returns : goal.returns
 unfolding down_call
 returns c =
-    let a = c.args in
-    let w = a.state.now in
-    let ev = a.events.now in
-    let call = semantics (Call.down a.room) in
-    let p = passed call.checks w c.checked-n.ensures c.if-n-ne0.false in
-    answers-passed call w p
-    (down_answers w ev p (c.down.ensures (state_of w) p.holds))
+    let call = semantics (Call.down c.args.room) in
+    let p = passed call.checks c.args.state.now c.checked-n.ensures c.if-n-ne0.false in
+    answers-passed call c.args.state.now p
+    (down_answers c.args.state.now c.args.events.now p (c.down.ensures (state_of c.args.state.now) p.holds))

@@ -19,52 +19,37 @@ use Rattle.call_change.proofs.expire.Goals as goal
 pub returns-then-n-ne0 : goal.returns-then-n-ne0
 unfolding expire_call
 returns-then-n-ne0 c =
-    let a = c.args in
-    let w = a.state.now in
-    let ev = a.events.now in
-    let call = semantics (Call.expire (length ev) a.clock) in
-    let n-is = checked_as call.checks w c.checked-n.ensures refl c.fit_expire.ensures in
-    answers-refused call w ev n-is c.if-n-ne0.true
+    let call = semantics (Call.expire (length c.args.events.now) c.args.clock) in
+    let n-is = checked_as call.checks c.args.state.now c.checked-n.ensures refl c.fit_expire.ensures in
+    answers-refused call c.args.state.now c.args.events.now n-is c.if-n-ne0.true
 
 pub slice_bounds-expire-end : goal.slice_bounds-expire-end
 slice_bounds-expire-end c =
-    let a = c.args in
-    let w = a.state.now in
-    let ev = a.events.now in
-    let call = semantics (Call.expire (length ev) a.clock) in
-    let n-is = checked_as call.checks w c.checked-n.ensures refl c.fit_expire.ensures in
-    let p = passed call.checks w n-is c.if-n-ne0.false in
+    let call = semantics (Call.expire (length c.args.events.now) c.args.clock) in
+    let n-is = checked_as call.checks c.args.state.now c.checked-n.ensures refl c.fit_expire.ensures in
+    let p = passed call.checks c.args.state.now n-is c.if-n-ne0.false in
     omega (arith, p.long)
 
 pub slice_bounds-expire-end-2 : goal.slice_bounds-expire-end-2
 slice_bounds-expire-end-2 c =
-    let a = c.args in
-    let w = a.state.now in
-    let ev = a.events.now in
-    let call = semantics (Call.expire (length ev) a.clock) in
-    let n-is = checked_as call.checks w c.checked-n.ensures refl c.fit_expire.ensures in
-    let p = passed call.checks w n-is c.if-n-ne0.false in
+    let call = semantics (Call.expire (length c.args.events.now) c.args.clock) in
+    let n-is = checked_as call.checks c.args.state.now c.checked-n.ensures refl c.fit_expire.ensures in
+    let p = passed call.checks c.args.state.now n-is c.if-n-ne0.false in
     sym (lent p)
 
 pub expire-requires : goal.expire-requires
 expire-requires c =
-    let a = c.args in
-    let w = a.state.now in
-    let ev = a.events.now in
-    let call = semantics (Call.expire (length ev) a.clock) in
-    let n-is = checked_as call.checks w c.checked-n.ensures refl c.fit_expire.ensures in
-    let p = passed call.checks w n-is c.if-n-ne0.false in
-    record { state = state_of w; fits = fitting p (leb-true event_room (length ev) p.room) }
+    let call = semantics (Call.expire (length c.args.events.now) c.args.clock) in
+    let n-is = checked_as call.checks c.args.state.now c.checked-n.ensures refl c.fit_expire.ensures in
+    let p = passed call.checks c.args.state.now n-is c.if-n-ne0.false in
+    record { state = state_of c.args.state.now; fits = fitting p (leb-true event_room (length c.args.events.now) p.room) }
 
 pub returns : goal.returns
 unfolding expire_call
 returns c =
-    let a = c.args in
-    let w = a.state.now in
-    let ev = a.events.now in
-    let call = semantics (Call.expire (length ev) a.clock) in
-    let n-is = checked_as call.checks w c.checked-n.ensures refl c.fit_expire.ensures in
-    let p = passed call.checks w n-is c.if-n-ne0.false in
-    answers-passed call w p
-    (within-answers (state_of w) (expire allowance a.clock (state_of w)) w (expire-roomy allowance a.clock (state_of w) p.good)
-    (c.expire.ensures (state_of w) (fitting p (leb-true event_room (length ev) p.room))))
+    let call = semantics (Call.expire (length c.args.events.now) c.args.clock) in
+    let n-is = checked_as call.checks c.args.state.now c.checked-n.ensures refl c.fit_expire.ensures in
+    let p = passed call.checks c.args.state.now n-is c.if-n-ne0.false in
+    answers-passed call c.args.state.now p
+    (within-answers (state_of c.args.state.now) (expire allowance c.args.clock (state_of c.args.state.now)) c.args.state.now (expire-roomy allowance c.args.clock (state_of c.args.state.now) p.good)
+    (c.expire.ensures (state_of c.args.state.now) (fitting p (leb-true event_room (length c.args.events.now) p.room))))

@@ -17,46 +17,31 @@ use Rattle.call_change.proofs.up.Goals as goal
 pub returns-then-n-ne0 : goal.returns-then-n-ne0
 unfolding up_call
 returns-then-n-ne0 c =
-    let a = c.args in
-    let w = a.state.now in
-    let ev = a.events.now in
-    let call = semantics (Call.up (length ev) a.clock) in
-    answers-refused call w ev c.checked-n.ensures c.if-n-ne0.true
+    let call = semantics (Call.up (length c.args.events.now) c.args.clock) in
+    answers-refused call c.args.state.now c.args.events.now c.checked-n.ensures c.if-n-ne0.true
 
 pub slice_bounds-up-end : goal.slice_bounds-up-end
 slice_bounds-up-end c =
-    let a = c.args in
-    let w = a.state.now in
-    let ev = a.events.now in
-    let call = semantics (Call.up (length ev) a.clock) in
-    let p = passed call.checks w c.checked-n.ensures c.if-n-ne0.false in
+    let call = semantics (Call.up (length c.args.events.now) c.args.clock) in
+    let p = passed call.checks c.args.state.now c.checked-n.ensures c.if-n-ne0.false in
     omega (arith, p.long)
 
 pub slice_bounds-up-end-2 : goal.slice_bounds-up-end-2
 slice_bounds-up-end-2 c =
-    let a = c.args in
-    let w = a.state.now in
-    let ev = a.events.now in
-    let call = semantics (Call.up (length ev) a.clock) in
-    let p = passed call.checks w c.checked-n.ensures c.if-n-ne0.false in
+    let call = semantics (Call.up (length c.args.events.now) c.args.clock) in
+    let p = passed call.checks c.args.state.now c.checked-n.ensures c.if-n-ne0.false in
     sym (lent p)
 
 pub up-requires : goal.up-requires
 up-requires c =
-    let a = c.args in
-    let w = a.state.now in
-    let ev = a.events.now in
-    let call = semantics (Call.up (length ev) a.clock) in
-    let p = passed call.checks w c.checked-n.ensures c.if-n-ne0.false in
-    (sound p, leb-true event_room (length ev) p.room)
+    let call = semantics (Call.up (length c.args.events.now) c.args.clock) in
+    let p = passed call.checks c.args.state.now c.checked-n.ensures c.if-n-ne0.false in
+    record { represents_fit = sound p; event_room_in_bounds = leb-true event_room (length c.args.events.now) p.room }
 
 pub returns : goal.returns
 unfolding up_call
 returns c =
-    let a = c.args in
-    let w = a.state.now in
-    let ev = a.events.now in
-    let call = semantics (Call.up (length ev) a.clock) in
-    let p = passed call.checks w c.checked-n.ensures c.if-n-ne0.false in
-    answers-passed call w p
-    (whole-answers p (goes (up a.clock (state_of w))) tt (c.up.ensures.1 (state_of w) p.holds p.good.fits) c.of_done.ensures)
+    let call = semantics (Call.up (length c.args.events.now) c.args.clock) in
+    let p = passed call.checks c.args.state.now c.checked-n.ensures c.if-n-ne0.false in
+    answers-passed call c.args.state.now p
+    (whole-answers p (goes (up c.args.clock (state_of c.args.state.now))) tt (c.up.ensures.comes_whole (state_of c.args.state.now) p.holds p.good.fits) c.of_done.ensures)

@@ -11,14 +11,9 @@ use Rattle.call_dispatch.proofs.add_route4.Goals as goal
 pub done-requires : goal.done-requires
 unfolding add_route4_call
 done-requires c =
-    let a = c.args in
-    let ev = a.events.now in
-    done-small (Call.add_route4 a.q.now (length ev)) a.state.now c.add_route4.result c.add_route4.ensures refl
+    done-small (Call.add_route4 c.args.q.now (length c.args.events.now)) c.args.state.now c.add_route4.result c.add_route4.ensures refl
 
 pub returns : goal.returns
 unfolding add_route4_call
 returns c =
-    let a = c.args in
-    let ev = a.events.now in
-    let e = c.add_route4.ensures in
-    change-made (Call.add_route4 a.q.now (length ev)) a.state.now c.add_route4.result e refl refl c.done.ensures
+    change-made (Call.add_route4 c.args.q.now (length c.args.events.now)) c.args.state.now c.add_route4.result c.add_route4.ensures refl refl c.done.ensures

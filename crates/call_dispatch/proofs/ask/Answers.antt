@@ -13,36 +13,27 @@ use Rattle.call_dispatch.proofs.ask.Goals as goal
 pub returns-in-11 : goal.returns-in-11
 unfolding local4_call
 returns-in-11 c =
-    let a = c.args in
-    let row = a.lent.now in
-    let same = ap (λ (k : ℕ). ask_at k row a.a a.b a.c) (sym c.in-11.is) in
-    ask_made a.code row a.a a.b a.c a.state.now (Call.local4 a.a) same (local_by c.local4.result) c.local.result
+    let same = ap (λ (k : ℕ). ask_at k c.args.lent.now c.args.a c.args.b c.args.c) (sym c.in-11.is) in
+    ask_made c.args.code c.args.lent.now c.args.a c.args.b c.args.c c.args.state.now (Call.local4 c.args.a) same (local_by c.local4.result) c.local.result
     c.local.ensures c.local4.ensures.says
 
 pub returns-in-12 : goal.returns-in-12
 unfolding source4_call
 returns-in-12 c =
-    let a = c.args in
-    let row = a.lent.now in
-    let same = ap (λ (k : ℕ). ask_at k row a.a a.b a.c) (sym c.in-12.is) in
-    ask_made a.code row a.a a.b a.c a.state.now (Call.source4 row a.a) same (chosen_by c.source4.result) c.chosen.result
+    let same = ap (λ (k : ℕ). ask_at k c.args.lent.now c.args.a c.args.b c.args.c) (sym c.in-12.is) in
+    ask_made c.args.code c.args.lent.now c.args.a c.args.b c.args.c c.args.state.now (Call.source4 c.args.lent.now c.args.a) same (chosen_by c.source4.result) c.chosen.result
     c.chosen.ensures c.source4.ensures.says
 
 pub returns-in-13 : goal.returns-in-13
 unfolding source_call
 returns-in-13 c =
-    let a = c.args in
-    let row = a.lent.now in
-    let same = ap (λ (k : ℕ). ask_at k row a.a a.b a.c) (sym c.in-13.is) in
-    ask_made a.code row a.a a.b a.c a.state.now (Call.source a.a) same (sourced_by c.source.result) c.sourced.result
+    let same = ap (λ (k : ℕ). ask_at k c.args.lent.now c.args.a c.args.b c.args.c) (sym c.in-13.is) in
+    ask_made c.args.code c.args.lent.now c.args.a c.args.b c.args.c c.args.state.now (Call.source c.args.a) same (sourced_by c.source.result) c.sourced.result
     c.sourced.ensures c.source.ensures.says
 
 pub returns-in_default : goal.returns-in_default
 unfolding select4_call
 returns-in_default c =
-    let a = c.args in
-    let row = a.lent.now in
-    let rest = c.in_default.in_default-own.rest in
-    let same = ask_rest a.code row a.a a.b a.c rest.0.0.1 rest.0.1 rest.1 in
-    ask_made a.code row a.a a.b a.c a.state.now (Call.select4 a.a a.b a.c) same (chosen_by c.select4.result)
+    let same = ask_rest c.args.code c.args.lent.now c.args.a c.args.b c.args.c c.in_default.in_default-own.rest.0.0.1 c.in_default.in_default-own.rest.0.1 c.in_default.in_default-own.rest.1 in
+    ask_made c.args.code c.args.lent.now c.args.a c.args.b c.args.c c.args.state.now (Call.select4 c.args.a c.args.b c.args.c) same (chosen_by c.select4.result)
     c.chosen-in_default.result c.chosen-in_default.ensures c.select4.ensures.says

@@ -10,14 +10,14 @@ use Rattle.call_dispatch.specs.Laws.{called-change, called-list, called_find, ca
 use borrow.Author.Rules.{rules}
 use Rattle.call_dispatch.proofs.call.Goals as goal
 
-past7 : (c : tie.Else1) → leb (start c.before).args.code 7 ≡ false
-past7 c = lt-leb _ 7 c.if1.false
+past7 : (c : goal.Else-code-le7) → leb (start c).args.code 7 ≡ false
+past7 c = lt-leb _ 7 c.if-code-le7.false
 
-not8 : (c : tie.Else2) → eqb (start c.before.before).args.code 8 ≡ false
-not8 c = ne_eqb _ 8 c.if2.false
+not8 : (c : goal.Else-code-eq8) → eqb (start c).args.code 8 ≡ false
+not8 c = ne_eqb _ 8 c.if-code-eq8.false
 
-past10 : (c : tie.Else3) → leb (start c.before.before.before).args.code 10 ≡ false
-past10 c = lt-leb _ 10 c.if3.false
+past10 : (c : goal.Else-code-le10) → leb (start c).args.code 10 ≡ false
+past10 c = lt-leb _ 10 c.if-code-le10.false
 
 pub returns-then-code-le7 : goal.returns-then-code-le7
 returns-then-code-le7 c =
@@ -49,4 +49,4 @@ returns c =
     let a = (start c).args in
     called-left a.code a.lent.now a.a a.b a.c (length a.buffer.now) a.state.now a.buffer.now c.remaining.result
     (past7 c) (not8 c) (past10 c) (row-address·reply_of c.left.result)
-    c.clock_of-2.result (lt-leb a.code 14 c.if-code-le14.false) c.left.ensures.1 c.clock_of-2.ensures c.remaining.ensures
+    c.clock_of-2.result (lt-leb a.code 14 c.if-code-le14.false) c.left.ensures.result_value c.clock_of-2.ensures c.remaining.ensures

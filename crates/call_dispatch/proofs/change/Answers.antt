@@ -10,57 +10,42 @@ use Rattle.call_dispatch.proofs.change.Goals as goal
 
 pub returns-in-1 : goal.returns-in-1
 returns-in-1 c =
-    let a = c.args in
-    let q = a.lent.now in
-    let room = length a.events.now in
-    let same = ap (λ (k : ℕ). (change_at k).call q a.clock room) (sym c.in-1.is) in
+    let room = length c.args.events.now in
+    let same = ap (λ (k : ℕ). (change_at k).call c.args.lent.now c.args.clock room) (sym c.in-1.is) in
     same-made same c.up.ensures
 
 pub returns-in-2 : goal.returns-in-2
 returns-in-2 c =
-    let a = c.args in
-    let q = a.lent.now in
-    let room = length a.events.now in
-    let same = ap (λ (k : ℕ). (change_at k).call q a.clock room) (sym c.in-2.is) in
+    let room = length c.args.events.now in
+    let same = ap (λ (k : ℕ). (change_at k).call c.args.lent.now c.args.clock room) (sym c.in-2.is) in
     same-made same c.down.ensures
 
 pub returns-in-3 : goal.returns-in-3
 returns-in-3 c =
-    let a = c.args in
-    let q = a.lent.now in
-    let room = length a.events.now in
-    let same = ap (λ (k : ℕ). (change_at k).call q a.clock room) (sym c.in-3.is) in
+    let room = length c.args.events.now in
+    let same = ap (λ (k : ℕ). (change_at k).call c.args.lent.now c.args.clock room) (sym c.in-3.is) in
     same-made same c.add_v4.ensures
 
 pub returns-in-4 : goal.returns-in-4
 returns-in-4 c =
-    let a = c.args in
-    let q = a.lent.now in
-    let room = length a.events.now in
-    let same = ap (λ (k : ℕ). (change_at k).call q a.clock room) (sym c.in-4.is) in
+    let room = length c.args.events.now in
+    let same = ap (λ (k : ℕ). (change_at k).call c.args.lent.now c.args.clock room) (sym c.in-4.is) in
     same-made same c.del_v4.ensures
 
 pub returns-in-5 : goal.returns-in-5
 returns-in-5 c =
-    let a = c.args in
-    let q = a.lent.now in
-    let room = length a.events.now in
-    let same = ap (λ (k : ℕ). (change_at k).call q a.clock room) (sym c.in-5.is) in
+    let room = length c.args.events.now in
+    let same = ap (λ (k : ℕ). (change_at k).call c.args.lent.now c.args.clock room) (sym c.in-5.is) in
     same-made same c.expire.ensures
 
 pub returns-in-6 : goal.returns-in-6
 returns-in-6 c =
-    let a = c.args in
-    let q = a.lent.now in
-    let room = length a.events.now in
-    let same = ap (λ (k : ℕ). (change_at k).call q a.clock room) (sym c.in-6.is) in
+    let room = length c.args.events.now in
+    let same = ap (λ (k : ℕ). (change_at k).call c.args.lent.now c.args.clock room) (sym c.in-6.is) in
     same-made same c.add_route4.ensures
 
 pub returns-in_default : goal.returns-in_default
 returns-in_default c =
-    let a = c.args in
-    let q = a.lent.now in
-    let room = length a.events.now in
-    let rest = c.in_default.in_default-own.rest in
-    let same = change-rest a.code q a.clock room rest.0.0.0.0.0.1 rest.0.0.0.0.1 rest.0.0.0.1 rest.0.0.1 rest.0.1 rest.1 in
+    let room = length c.args.events.now in
+    let same = change-rest c.args.code c.args.lent.now c.args.clock room c.in_default.in_default-own.rest.0.0.0.0.0.1 c.in_default.in_default-own.rest.0.0.0.0.1 c.in_default.in_default-own.rest.0.0.0.1 c.in_default.in_default-own.rest.0.0.1 c.in_default.in_default-own.rest.0.1 c.in_default.in_default-own.rest.1 in
     same-made same c.del_route4.ensures

@@ -7,9 +7,8 @@ use Rattle.call_dispatch.proofs.change_one.Goals as goal
 
 pub done-requires : goal.done-requires
 done-requires c =
-    let a = c.args in
-    let made = (one_at a.code).call a.q.now 0 a.room in
-    done-small made a.state.now c.one.result c.one.ensures (one-changes a.code a.q.now a.room)
+    let made = (one_at c.args.code).call c.args.q.now 0 c.args.room in
+    done-small made c.args.state.now c.one.result c.one.ensures (one-changes c.args.code c.args.q.now c.args.room)
 
 pub returns : goal.returns
 returns c =

@@ -11,14 +11,9 @@ use Rattle.call_dispatch.proofs.down.Goals as goal
 pub done-requires : goal.done-requires
 unfolding down_call
 done-requires c =
-    let a = c.args in
-    let ev = a.events.now in
-    done-small (Call.down (length ev)) a.state.now c.down.result c.down.ensures refl
+    done-small (Call.down (length c.args.events.now)) c.args.state.now c.down.result c.down.ensures refl
 
 pub returns : goal.returns
 unfolding down_call
 returns c =
-    let a = c.args in
-    let ev = a.events.now in
-    let e = c.down.ensures in
-    change-made (Call.down (length ev)) a.state.now c.down.result e refl refl c.done.ensures
+    change-made (Call.down (length c.args.events.now)) c.args.state.now c.down.result c.down.ensures refl refl c.done.ensures

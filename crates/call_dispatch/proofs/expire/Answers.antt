@@ -11,14 +11,9 @@ use Rattle.call_dispatch.proofs.expire.Goals as goal
 pub done-requires : goal.done-requires
 unfolding expire_call
 done-requires c =
-    let a = c.args in
-    let ev = a.events.now in
-    done-small (Call.expire (length ev) a.clock) a.state.now c.expire.result c.expire.ensures refl
+    done-small (Call.expire (length c.args.events.now) c.args.clock) c.args.state.now c.expire.result c.expire.ensures refl
 
 pub returns : goal.returns
 unfolding expire_call
 returns c =
-    let a = c.args in
-    let ev = a.events.now in
-    let e = c.expire.ensures in
-    change-made (Call.expire (length ev) a.clock) a.state.now c.expire.result e refl refl c.done.ensures
+    change-made (Call.expire (length c.args.events.now) c.args.clock) c.args.state.now c.expire.result c.expire.ensures refl refl c.done.ensures

@@ -12,15 +12,11 @@ use Rattle.call_dispatch.proofs.list.Goals as goal
 
 pub listed-requires : goal.listed-requires
 listed-requires c =
-    let a = c.args in
-    let room = length a.listing.now in
-    listed_small c.dump4.result (dump4_call room a.state.now).reply c.dump4.ensures.says (dump4-lists a.state.now room)
+    let room = length c.args.listing.now in
+    listed_small c.dump4.result (dump4_call room c.args.state.now).reply c.dump4.ensures.says (dump4-lists c.args.state.now room)
 
 pub returns : goal.returns
 unfolding dump4_call
 returns c =
-    let a = c.args in
-    let l = a.listing.now in
-    let e = c.dump4.ensures in
-    read_made (Call.dump4 (length l)) a.state.now (listed_by c.dump4.result) c.listed.result c.listed.ensures e.says l _
-    (list-is (length l)) refl e.rows
+    read_made (Call.dump4 (length c.args.listing.now)) c.args.state.now (listed_by c.dump4.result) c.listed.result c.listed.ensures c.dump4.ensures.says c.args.listing.now _
+    (list-is (length c.args.listing.now)) refl c.dump4.ensures.rows

@@ -11,22 +11,13 @@ use Rattle.call_dispatch.proofs.one.Goals as goal
 pub returns-in-2 : goal.returns-in-2
 unfolding down_call
 returns-in-2 c =
-    let a = c.args in
-    let q = a.q.now in
-    let w = a.state.now in
-    same-answers (ap (λ (k : ℕ). step ((one_at k).call q 0 a.room) w) (sym c.in-2.is)) c.down_lent.ensures
+    same-answers (ap (λ (k : ℕ). step ((one_at k).call c.args.q.now 0 c.args.room) c.args.state.now) (sym c.in-2.is)) c.down_lent.ensures
 
 pub returns-in-6 : goal.returns-in-6
 unfolding add_route4_call
 returns-in-6 c =
-    let a = c.args in
-    let q = a.q.now in
-    let w = a.state.now in
-    same-answers (ap (λ (k : ℕ). step ((one_at k).call q 0 a.room) w) (sym c.in-6.is)) c.add_route4_lent.ensures
+    same-answers (ap (λ (k : ℕ). step ((one_at k).call c.args.q.now 0 c.args.room) c.args.state.now) (sym c.in-6.is)) c.add_route4_lent.ensures
 
 pub returns-in_default : goal.returns-in_default
 returns-in_default c =
-    let a = c.args in
-    let q = a.q.now in
-    let w = a.state.now in
-    same-answers (one-rest a.code q a.room w c.in_default.in_default-own.rest.0.1 c.in_default.in_default-own.rest.1) c.del_route4_lent.ensures
+    same-answers (one-rest c.args.code c.args.q.now c.args.room c.args.state.now c.in_default.in_default-own.rest.0.1 c.in_default.in_default-own.rest.1) c.del_route4_lent.ensures

@@ -11,14 +11,9 @@ use Rattle.call_dispatch.proofs.up.Goals as goal
 pub done-requires : goal.done-requires
 unfolding up_call
 done-requires c =
-    let a = c.args in
-    let ev = a.events.now in
-    done-small (Call.up (length ev) a.clock) a.state.now c.up.result c.up.ensures refl
+    done-small (Call.up (length c.args.events.now) c.args.clock) c.args.state.now c.up.result c.up.ensures refl
 
 pub returns : goal.returns
 unfolding up_call
 returns c =
-    let a = c.args in
-    let ev = a.events.now in
-    let e = c.up.ensures in
-    change-made (Call.up (length ev) a.clock) a.state.now c.up.result e refl refl c.done.ensures
+    change-made (Call.up (length c.args.events.now) c.args.clock) c.args.state.now c.up.result c.up.ensures refl refl c.done.ensures

@@ -19,11 +19,7 @@ use Rattle.call_mask.proofs.add_v4.Goals as goal
 pub returns-then-q-ne-ADD_V4_WORDS : goal.returns-then-q-ne-ADD_V4_WORDS
 unfolding add_v4_mask_call
 returns-then-q-ne-ADD_V4_WORDS c =
-    let a = c.args in
-    let q = a.q.now in
-    let w = a.state.now in
-    let ev = a.events.now in
-    answers-refused (add_v4_masked q (length ev) a.clock) w ev (unsized add_v4_size add_v4_mask q (length ev) (add_v4_refusal (prefixed add_v4_mask q)) w c.if-q-ne-ADD_V4_WORDS.true) (λ z. omega arith)
+    answers-refused (add_v4_masked c.args.q.now (length c.args.events.now) c.args.clock) c.args.state.now c.args.events.now (unsized add_v4_size add_v4_mask c.args.q.now (length c.args.events.now) (add_v4_refusal (prefixed add_v4_mask c.args.q.now)) c.args.state.now c.if-q-ne-ADD_V4_WORDS.true) (λ z. omega arith)
 
 pub returns-then-n-ne0 : goal.returns-then-n-ne0
 unfolding add_v4_mask_call
@@ -45,5 +41,5 @@ returns c =
     let ev = a.events.now in
     let is-good : good (mask_at add_v4_mask q) ≡ true = mask-good (good (mask_at add_v4_mask q)) (number c) c.if-n-ne0.false in
     let Copy-is = (copied c).copy.ensures in
-    let own_is = c.to_prefix-n.ensures.1 (ap (λ (x : Row). good (mask_at add_v4_mask x)) Copy-is ∙ is-good) ∙ ap (prefixed add_v4_mask) Copy-is in
+    let own_is = c.to_prefix-n.ensures.q_after (ap (λ (x : Row). good (mask_at add_v4_mask x)) Copy-is ∙ is-good) ∙ ap (prefixed add_v4_mask) Copy-is in
     answers_as (add_v4-good q (length ev) w a.clock is-good ∙ ap (λ (x : Row). add_v4_call x (length ev) a.clock w) (sym own_is)) c.add_v4.ensures

@@ -15,8 +15,8 @@ use Rattle.call_mask.specs.Laws.{unsized, bad_mask_lem, bad_some, mask-good, add
 use borrow.Author.Rules.{rules}
 use Rattle.call_mask.proofs.add_v4.Given as goal
 
-pub number : (c : tie.After-to-prefix) → c.to_prefix.result ≡ unless (good (mask_at add_v4_mask (start (copied c).before).args.q.now)) bad_mask
-number c = subst (λ (q : Row). c.to_prefix.result ≡ unless (good (mask_at add_v4_mask q)) bad_mask) (copied c).copy.ensures c.to_prefix.ensures.0
+pub number : (c : goal.After-to_prefix-n) → c.to_prefix-n.result ≡ unless (good (mask_at add_v4_mask (start (copied c).before).args.q.now)) bad_mask
+number c = subst (λ (q : Row). c.to_prefix-n.result ≡ unless (good (mask_at add_v4_mask q)) bad_mask) (copied c).copy.ensures c.to_prefix-n.ensures.value
 
 -- the number that the mask is refused with, of the request as it was lent
 abbrev start : tie.After-own → tie.Start

@@ -12,14 +12,12 @@ use Rattle.call_mask.proofs.to_prefix.Goals as goal
 
 pub returns-in-Refused : goal.returns-in-Refused
 returns-in-Refused c =
-    let a = c.args in
-    let m = mask_at a.at a.q.now in
+    let m = mask_at c.args.at c.args.q.now in
     let said = to-prefix_bad m _ (sym c.prefix_of.ensures ∙ c.in-Refused.is) in
-    (said.0, λ g. absurd (true-false (good m) g said.1))
+    record { value = said.0; q_after = λ g. absurd (true-false (good m) g said.1) }
 
 pub returns-in-Length : goal.returns-in-Length
 returns-in-Length c =
-    let a = c.args in
-    let m = mask_at a.at a.q.now in
+    let m = mask_at c.args.at c.args.q.now in
     let said = to-prefix-good m _ (sym c.prefix_of.ensures ∙ c.in-Length.is) in
-    (said.0, λ g. ap (λ (p : ℕ). set a.q.now a.at p) said.1)
+    record { value = said.0; q_after = λ g. ap (λ (p : ℕ). set c.args.q.now c.args.at p) said.1 }

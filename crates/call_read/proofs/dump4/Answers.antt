@@ -14,29 +14,25 @@ use Rattle.call_read.proofs.dump4.Goals as goal
 pub returns-then-n-ne0 : goal.returns-then-n-ne0
 unfolding dump4_call
 returns-then-n-ne0 c =
-    let a = c.args in
-    let call = semantics (Call.dump4 (length a.listing.now)) in
-    writes_refused call a.state.now a.listing.now c.checked-n.ensures c.if-n-ne0.true
+    let call = semantics (Call.dump4 (length c.args.listing.now)) in
+    writes_refused call c.args.state.now c.args.listing.now c.checked-n.ensures c.if-n-ne0.true
     (listed-refused c.checked-n.result c.if-n-ne0.true)
 
 pub slice_bounds-list-end : goal.slice_bounds-list-end
 slice_bounds-list-end c =
-    let a = c.args in
-    let call = semantics (Call.dump4 (length a.listing.now)) in
-    let p = passed call.checks a.state.now c.checked-n.ensures c.if-n-ne0.false in
+    let call = semantics (Call.dump4 (length c.args.listing.now)) in
+    let p = passed call.checks c.args.state.now c.checked-n.ensures c.if-n-ne0.false in
     sym (lent p)
 
 pub list-rows-requires : goal.list-rows-requires
 list-rows-requires c =
-    let a = c.args in
-    let call = semantics (Call.dump4 (length a.listing.now)) in
-    let p = passed call.checks a.state.now c.checked-n.ensures c.if-n-ne0.false in
-    (lent p, p.well, leb-true listing_room (length a.listing.now) p.room)
+    let call = semantics (Call.dump4 (length c.args.listing.now)) in
+    let p = passed call.checks c.args.state.now c.checked-n.ensures c.if-n-ne0.false in
+    (lent p, p.well, leb-true listing_room (length c.args.listing.now) p.room)
 
 pub returns : goal.returns
 unfolding dump4_call
 returns c =
-    let a = c.args in
-    let call = semantics (Call.dump4 (length a.listing.now)) in
-    let p = passed call.checks a.state.now c.checked-n.ensures c.if-n-ne0.false in
-    writes_passed call a.state.now p (listed_answer (dump4 (state_of a.state.now)) c.list-rows.ensures.0 c.list-rows.ensures.1)
+    let call = semantics (Call.dump4 (length c.args.listing.now)) in
+    let p = passed call.checks c.args.state.now c.checked-n.ensures c.if-n-ne0.false in
+    writes_passed call c.args.state.now p (listed_answer (dump4 (state_of c.args.state.now)) c.list-rows.ensures.value c.list-rows.ensures.listing_after)

@@ -15,17 +15,10 @@ copy_route-requires c =
 
 pub returns-in-At : goal.returns-in-At
 returns-in-At c =
-    let a = c.args in
-    let b = subst (placed (route_count a.s.now)) c.in-At.is c.lookup4_in-looked.ensures.0 in (
-      λ st h. (look-row a.s.now st h (flow_of a.f) c.in-At.i a.row.now (put 0 (get_or st.routes c.in-At.i []) a.row.now) (get_or st.routes c.in-At.i []) b
-          (ap (found_by st.routes) (sym c.in-At.is) ∙ c.lookup4_in-looked.ensures.1 st h) refl refl).0,
-      λ st h. (look-row a.s.now st h (flow_of a.f) c.in-At.i a.row.now _ (get_or st.routes c.in-At.i []) b
-          (ap (found_by st.routes) (sym c.in-At.is) ∙ c.lookup4_in-looked.ensures.1 st h) refl (c.copy_route.ensures st h)).1,
-    )
+    let b = subst (placed (route_count c.args.s.now)) c.in-At.is c.lookup4_in-looked.ensures.0 in record { value = λ st h. (look-row c.args.s.now st h (flow_of c.args.f) c.in-At.i c.args.row.now (put 0 (get_or st.routes c.in-At.i []) c.args.row.now) (get_or st.routes c.in-At.i []) b
+          (ap (found_by st.routes) (sym c.in-At.is) ∙ c.lookup4_in-looked.ensures.1 st h) refl refl).0; row_after = λ st h. (look-row c.args.s.now st h (flow_of c.args.f) c.in-At.i c.args.row.now _ (get_or st.routes c.in-At.i []) b
+          (ap (found_by st.routes) (sym c.in-At.is) ∙ c.lookup4_in-looked.ensures.1 st h) refl (c.copy_route.ensures st h)).1 }
 
 pub returns-in-Refused : goal.returns-in-Refused
 returns-in-Refused c =
-    let a = c.args in (
-      λ st h. (look-refused a.s.now st h (flow_of a.f) c.in-Refused.n a.row.now (ap (found_by st.routes) (sym c.in-Refused.is) ∙ c.lookup4_in-looked.ensures.1 st h)).0,
-      λ st h. (look-refused a.s.now st h (flow_of a.f) c.in-Refused.n a.row.now (ap (found_by st.routes) (sym c.in-Refused.is) ∙ c.lookup4_in-looked.ensures.1 st h)).1,
-    )
+    record { value = λ st h. (look-refused c.args.s.now st h (flow_of c.args.f) c.in-Refused.n c.args.row.now (ap (found_by st.routes) (sym c.in-Refused.is) ∙ c.lookup4_in-looked.ensures.1 st h)).0; row_after = λ st h. (look-refused c.args.s.now st h (flow_of c.args.f) c.in-Refused.n c.args.row.now (ap (found_by st.routes) (sym c.in-Refused.is) ∙ c.lookup4_in-looked.ensures.1 st h)).1 }

@@ -14,37 +14,32 @@ use Rattle.call_read.proofs.lookup4_flow.Goals as goal
 pub returns-then-n-ne0 : goal.returns-then-n-ne0
 unfolding lookup4_flow_call lookup4_flow
 returns-then-n-ne0 c =
-    let a = c.args in
-    let flow : Flow = record { ip = a.ip; tos = a.tos; scope = 0; oif = a.oif } in
-    let call = looking a.row.now (unless (ltb a.tos 256) 202) flow in
-    let n-is = checked_as call.checks a.state.now c.checked-n.ensures refl c.fit_flow.ensures in
-    look-no a.state.now a.row.now (unless (ltb a.tos 256) 202) flow n-is c.if-n-ne0.true
+    let flow : Flow = record { ip = c.args.ip; tos = c.args.tos; scope = 0; oif = c.args.oif } in
+    let call = looking c.args.row.now (unless (ltb c.args.tos 256) 202) flow in
+    let n-is = checked_as call.checks c.args.state.now c.checked-n.ensures refl c.fit_flow.ensures in
+    look-no c.args.state.now c.args.row.now (unless (ltb c.args.tos 256) 202) flow n-is c.if-n-ne0.true
 
 pub slice_bounds-look-end : goal.slice_bounds-look-end
 slice_bounds-look-end c =
-    let a = c.args in
-    let flow : Flow = record { ip = a.ip; tos = a.tos; scope = 0; oif = a.oif } in
-    let call = looking a.row.now (unless (ltb a.tos 256) 202) flow in
-    let n-is = checked_as call.checks a.state.now c.checked-n.ensures refl c.fit_flow.ensures in
-    let p = passed call.checks a.state.now n-is c.if-n-ne0.false in
+    let flow : Flow = record { ip = c.args.ip; tos = c.args.tos; scope = 0; oif = c.args.oif } in
+    let call = looking c.args.row.now (unless (ltb c.args.tos 256) 202) flow in
+    let n-is = checked_as call.checks c.args.state.now c.checked-n.ensures refl c.fit_flow.ensures in
+    let p = passed call.checks c.args.state.now n-is c.if-n-ne0.false in
     sym (lent p)
 
 pub look-requires : goal.look-requires
 look-requires c =
-    let a = c.args in
-    let flow : Flow = record { ip = a.ip; tos = a.tos; scope = 0; oif = a.oif } in
-    let call = looking a.row.now (unless (ltb a.tos 256) 202) flow in
-    let n-is = checked_as call.checks a.state.now c.checked-n.ensures refl c.fit_flow.ensures in
-    let p = passed call.checks a.state.now n-is c.if-n-ne0.false in
-    (valid p, leb-true 32 (length a.row.now) p.room)
+    let flow : Flow = record { ip = c.args.ip; tos = c.args.tos; scope = 0; oif = c.args.oif } in
+    let call = looking c.args.row.now (unless (ltb c.args.tos 256) 202) flow in
+    let n-is = checked_as call.checks c.args.state.now c.checked-n.ensures refl c.fit_flow.ensures in
+    let p = passed call.checks c.args.state.now n-is c.if-n-ne0.false in
+    (valid p, leb-true 32 (length c.args.row.now) p.room)
 
 pub returns : goal.returns
 unfolding lookup4_flow_call lookup4_flow
 returns c =
-    let a = c.args in
-    let flow : Flow = record { ip = a.ip; tos = a.tos; scope = 0; oif = a.oif } in
-    let call = looking a.row.now (unless (ltb a.tos 256) 202) flow in
-    let n-is = checked_as call.checks a.state.now c.checked-n.ensures refl c.fit_flow.ensures in
-    let p = passed call.checks a.state.now n-is c.if-n-ne0.false in
-    let looked = c.look.ensures in
-    look-yes a.state.now a.row.now (unless (ltb a.tos 256) 202) flow p (looked.0 (state_of a.state.now) p.holds) (looked.1 (state_of a.state.now) p.holds)
+    let flow : Flow = record { ip = c.args.ip; tos = c.args.tos; scope = 0; oif = c.args.oif } in
+    let call = looking c.args.row.now (unless (ltb c.args.tos 256) 202) flow in
+    let n-is = checked_as call.checks c.args.state.now c.checked-n.ensures refl c.fit_flow.ensures in
+    let p = passed call.checks c.args.state.now n-is c.if-n-ne0.false in
+    look-yes c.args.state.now c.args.row.now (unless (ltb c.args.tos 256) 202) flow p (c.look.ensures.value (state_of c.args.state.now) p.holds) (c.look.ensures.row_after (state_of c.args.state.now) p.holds)

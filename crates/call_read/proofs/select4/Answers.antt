@@ -11,33 +11,29 @@ use Rattle.call_read.proofs.select4.Goals as goal
 pub returns-then-n-ne0 : goal.returns-then-n-ne0
 unfolding select4_call
 returns-then-n-ne0 c =
-    let a = c.args in
-    let call = semantics (Call.select4 a.dst_present a.dst a.scope) in
-    let n-is = checked_as call.checks a.state.now c.checked-n.ensures refl c.fit_select.ensures in
-    says-refused call a.state.now n-is c.if-n-ne0.true (chosen-refused c.checked-n.result c.if-n-ne0.true)
+    let call = semantics (Call.select4 c.args.dst_present c.args.dst c.args.scope) in
+    let n-is = checked_as call.checks c.args.state.now c.checked-n.ensures refl c.fit_select.ensures in
+    says-refused call c.args.state.now n-is c.if-n-ne0.true (chosen-refused c.checked-n.result c.if-n-ne0.true)
 
 pub slice_bounds-select4-end : goal.slice_bounds-select4-end
 slice_bounds-select4-end c =
-    let a = c.args in
-    let call = semantics (Call.select4 a.dst_present a.dst a.scope) in
-    let n-is = checked_as call.checks a.state.now c.checked-n.ensures refl c.fit_select.ensures in
-    let p = passed call.checks a.state.now n-is c.if-n-ne0.false in
+    let call = semantics (Call.select4 c.args.dst_present c.args.dst c.args.scope) in
+    let n-is = checked_as call.checks c.args.state.now c.checked-n.ensures refl c.fit_select.ensures in
+    let p = passed call.checks c.args.state.now n-is c.if-n-ne0.false in
     sym (lent p)
 
 pub select4-requires : goal.select4-requires
 select4-requires c =
-    let a = c.args in
-    let call = semantics (Call.select4 a.dst_present a.dst a.scope) in
-    let n-is = checked_as call.checks a.state.now c.checked-n.ensures refl c.fit_select.ensures in
-    let p = passed call.checks a.state.now n-is c.if-n-ne0.false in
+    let call = semantics (Call.select4 c.args.dst_present c.args.dst c.args.scope) in
+    let n-is = checked_as call.checks c.args.state.now c.checked-n.ensures refl c.fit_select.ensures in
+    let p = passed call.checks c.args.state.now n-is c.if-n-ne0.false in
     valid p
 
 pub returns : goal.returns
 unfolding select4_call
 returns c =
-    let a = c.args in
-    let call = semantics (Call.select4 a.dst_present a.dst a.scope) in
-    let n-is = checked_as call.checks a.state.now c.checked-n.ensures refl c.fit_select.ensures in
-    let p = passed call.checks a.state.now n-is c.if-n-ne0.false in
-    says-passed call a.state.now p
-    (chosen-answer c.select4.result _ c.chosen_for.ensures (c.select4.ensures (state_of a.state.now) p.holds))
+    let call = semantics (Call.select4 c.args.dst_present c.args.dst c.args.scope) in
+    let n-is = checked_as call.checks c.args.state.now c.checked-n.ensures refl c.fit_select.ensures in
+    let p = passed call.checks c.args.state.now n-is c.if-n-ne0.false in
+    says-passed call c.args.state.now p
+    (chosen-answer c.select4.result _ c.chosen_for.ensures (c.select4.ensures (state_of c.args.state.now) p.holds))

@@ -11,29 +11,25 @@ use Rattle.call_read.proofs.source.Goals as goal
 pub returns-then-n-ne0 : goal.returns-then-n-ne0
 unfolding source_call
 returns-then-n-ne0 c =
-    let a = c.args in
-    let call = semantics (Call.source a.ip) in
-    says-refused call a.state.now c.checked-n.ensures c.if-n-ne0.true (sourced_refused c.checked-n.result c.if-n-ne0.true)
+    let call = semantics (Call.source c.args.ip) in
+    says-refused call c.args.state.now c.checked-n.ensures c.if-n-ne0.true (sourced_refused c.checked-n.result c.if-n-ne0.true)
 
 pub slice_bounds-source-end : goal.slice_bounds-source-end
 slice_bounds-source-end c =
-    let a = c.args in
-    let call = semantics (Call.source a.ip) in
-    let p = passed call.checks a.state.now c.checked-n.ensures c.if-n-ne0.false in
+    let call = semantics (Call.source c.args.ip) in
+    let p = passed call.checks c.args.state.now c.checked-n.ensures c.if-n-ne0.false in
     sym (lent p)
 
 pub source-requires : goal.source-requires
 source-requires c =
-    let a = c.args in
-    let call = semantics (Call.source a.ip) in
-    let p = passed call.checks a.state.now c.checked-n.ensures c.if-n-ne0.false in
+    let call = semantics (Call.source c.args.ip) in
+    let p = passed call.checks c.args.state.now c.checked-n.ensures c.if-n-ne0.false in
     valid p
 
 pub returns : goal.returns
 unfolding source_call
 returns c =
-    let a = c.args in
-    let call = semantics (Call.source a.ip) in
-    let p = passed call.checks a.state.now c.checked-n.ensures c.if-n-ne0.false in
-    says-passed call a.state.now p
-    (sourced_answer c.source.result _ (c.source.ensures (state_of a.state.now) p.holds))
+    let call = semantics (Call.source c.args.ip) in
+    let p = passed call.checks c.args.state.now c.checked-n.ensures c.if-n-ne0.false in
+    says-passed call c.args.state.now p
+    (sourced_answer c.source.result _ (c.source.ensures (state_of c.args.state.now) p.holds))

@@ -12,33 +12,29 @@ use Rattle.call_read.proofs.source4.Goals as goal
 pub returns-then-n-ne0 : goal.returns-then-n-ne0
 unfolding source4_call
 returns-then-n-ne0 c =
-    let a = c.args in
-    let call = semantics (Call.source4 a.row.now a.ip) in
-    let n-is = checked_as call.checks a.state.now c.checked-n.ensures c.fit_route.ensures refl in
-    says-refused call a.state.now n-is c.if-n-ne0.true (chosen-refused c.checked-n.result c.if-n-ne0.true)
+    let call = semantics (Call.source4 c.args.row.now c.args.ip) in
+    let n-is = checked_as call.checks c.args.state.now c.checked-n.ensures c.fit_route.ensures refl in
+    says-refused call c.args.state.now n-is c.if-n-ne0.true (chosen-refused c.checked-n.result c.if-n-ne0.true)
 
 pub slice_bounds-source4-end : goal.slice_bounds-source4-end
 slice_bounds-source4-end c =
-    let a = c.args in
-    let call = semantics (Call.source4 a.row.now a.ip) in
-    let n-is = checked_as call.checks a.state.now c.checked-n.ensures c.fit_route.ensures refl in
-    let p = passed call.checks a.state.now n-is c.if-n-ne0.false in
+    let call = semantics (Call.source4 c.args.row.now c.args.ip) in
+    let n-is = checked_as call.checks c.args.state.now c.checked-n.ensures c.fit_route.ensures refl in
+    let p = passed call.checks c.args.state.now n-is c.if-n-ne0.false in
     sym (lent p)
 
 pub source4-requires : goal.source4-requires
 source4-requires c =
-    let a = c.args in
-    let call = semantics (Call.source4 a.row.now a.ip) in
-    let n-is = checked_as call.checks a.state.now c.checked-n.ensures c.fit_route.ensures refl in
-    let p = passed call.checks a.state.now n-is c.if-n-ne0.false in
-    (valid p, length-route a.row.now p.handed)
+    let call = semantics (Call.source4 c.args.row.now c.args.ip) in
+    let n-is = checked_as call.checks c.args.state.now c.checked-n.ensures c.fit_route.ensures refl in
+    let p = passed call.checks c.args.state.now n-is c.if-n-ne0.false in
+    (valid p, length-route c.args.row.now p.handed)
 
 pub returns : goal.returns
 unfolding source4_call
 returns c =
-    let a = c.args in
-    let call = semantics (Call.source4 a.row.now a.ip) in
-    let n-is = checked_as call.checks a.state.now c.checked-n.ensures c.fit_route.ensures refl in
-    let p = passed call.checks a.state.now n-is c.if-n-ne0.false in
-    says-passed call a.state.now p
-    (chosen-answer c.source4.result _ c.chosen_for.ensures (c.source4.ensures (state_of a.state.now) p.holds))
+    let call = semantics (Call.source4 c.args.row.now c.args.ip) in
+    let n-is = checked_as call.checks c.args.state.now c.checked-n.ensures c.fit_route.ensures refl in
+    let p = passed call.checks c.args.state.now n-is c.if-n-ne0.false in
+    says-passed call c.args.state.now p
+    (chosen-answer c.source4.result _ c.chosen_for.ensures (c.source4.ensures (state_of c.args.state.now) p.holds))

@@ -16,9 +16,8 @@ address_count-requires c = (sizes-valid c.requires).long
 
 pub read-requires : goal.read-requires
 read-requires c =
-    let v = c.requires in
-    let k = ready_addresses c.addresses.result.now c.address_count.result v c.addresses.ensures c.address_count.ensures in
-    (few c.address_count.result v c.address_count.ensures, k.0, k.1)
+    let k = ready_addresses c.addresses.result.now c.address_count.result c.requires c.addresses.ensures c.address_count.ensures in
+    (few c.address_count.result c.requires c.address_count.ensures, k.0, k.1)
 
 pub returns : goal.returns
 returns c =

@@ -13,16 +13,15 @@ use borrow.Author.Rules.{rules}
 use Rattle.call_records.proofs.primary_of_in.Goals as goal
 
 pub address_count-requires : goal.address_count-requires
-address_count-requires c = (sizes-valid c.requires.0).long
+address_count-requires c = (sizes-valid c.requires.represents_some).long
 
 pub lend_primary_of-requires : goal.lend_primary_of-requires
-lend_primary_of-requires c = few c.address_count.result c.requires.0 c.address_count.ensures
+lend_primary_of-requires c = few c.address_count.result c.requires.represents_some c.address_count.ensures
 
 pub returns : goal.returns
 returns c =
-    let a = c.args in
     λ st h.
     c.lend_primary_of.ensures
     ∙ ap (λ (n : ℕ). primary_of (map row_of (take n c.decoded.result)) (row_of c.record_of.result)) c.address_count.ensures
     ∙ ap (λ (l : List Row). primary_of l (row_of c.record_of.result)) (c.decoded.ensures st h)
-    ∙ ap (primary_of st.addresses) c.record_of.ensures.1
+    ∙ ap (primary_of st.addresses) c.record_of.ensures.result_value

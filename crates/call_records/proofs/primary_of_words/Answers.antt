@@ -10,31 +10,27 @@ use Rattle.call_records.proofs.primary_of_words.Goals as goal
 pub returns-then-n-ne0 : goal.returns-then-n-ne0
 unfolding primary_of_call
 returns-then-n-ne0 c =
-    let a = c.args in
-    let call = of_primary a.row.now in
-    let n-is = checked_as call.checks a.state.now c.checked-n.ensures c.fit_address.ensures refl in
-    says-refused call a.state.now n-is c.if-n-ne0.true (sourced_refused c.checked-n.result c.if-n-ne0.true)
+    let call = of_primary c.args.row.now in
+    let n-is = checked_as call.checks c.args.state.now c.checked-n.ensures c.fit_address.ensures refl in
+    says-refused call c.args.state.now n-is c.if-n-ne0.true (sourced_refused c.checked-n.result c.if-n-ne0.true)
 
 pub slice_bounds-primary_of_in-end : goal.slice_bounds-primary_of_in-end
 slice_bounds-primary_of_in-end c =
-    let a = c.args in
-    let call = of_primary a.row.now in
-    let n-is = checked_as call.checks a.state.now c.checked-n.ensures c.fit_address.ensures refl in
-    sym (lent (passed call.checks a.state.now n-is c.if-n-ne0.false))
+    let call = of_primary c.args.row.now in
+    let n-is = checked_as call.checks c.args.state.now c.checked-n.ensures c.fit_address.ensures refl in
+    sym (lent (passed call.checks c.args.state.now n-is c.if-n-ne0.false))
 
 pub primary_of_in-requires : goal.primary_of_in-requires
 primary_of_in-requires c =
-    let a = c.args in
-    let call = of_primary a.row.now in
-    let n-is = checked_as call.checks a.state.now c.checked-n.ensures c.fit_address.ensures refl in
-    let p = passed call.checks a.state.now n-is c.if-n-ne0.false in
-    (valid p, p.handed)
+    let call = of_primary c.args.row.now in
+    let n-is = checked_as call.checks c.args.state.now c.checked-n.ensures c.fit_address.ensures refl in
+    let p = passed call.checks c.args.state.now n-is c.if-n-ne0.false in
+    record { represents_some = valid p; row_value = p.handed }
 
 pub returns : goal.returns
 unfolding primary_of_call
 returns c =
-    let a = c.args in
-    let call = of_primary a.row.now in
-    let n-is = checked_as call.checks a.state.now c.checked-n.ensures c.fit_address.ensures refl in
-    let p = passed call.checks a.state.now n-is c.if-n-ne0.false in
-    says-passed call a.state.now p (sourced_answer c.primary_of_in.result _ (c.primary_of_in.ensures (state_of a.state.now) p.holds))
+    let call = of_primary c.args.row.now in
+    let n-is = checked_as call.checks c.args.state.now c.checked-n.ensures c.fit_address.ensures refl in
+    let p = passed call.checks c.args.state.now n-is c.if-n-ne0.false in
+    says-passed call c.args.state.now p (sourced_answer c.primary_of_in.result _ (c.primary_of_in.ensures (state_of c.args.state.now) p.holds))

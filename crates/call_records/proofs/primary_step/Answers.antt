@@ -7,10 +7,8 @@ use Rattle.call_records.proofs.primary_step.Goals as goal
 
 pub returns-then-secondary-same : goal.returns-then-secondary-same
 returns-then-secondary-same c =
-    let a = c.args in
-    c.better.ensures ∙ step_primary a.best a.a a.b c.secondary.result c.covers.result c.secondary.ensures c.covers.ensures c.if-secondary-same.true
+    c.better.ensures ∙ step_primary c.args.best c.args.a c.args.b c.secondary.result c.covers.result c.secondary.ensures c.covers.ensures c.if-secondary-same.true
 
 pub returns : goal.returns
 returns c =
-    let a = c.args in
-    step_other a.best a.a a.b c.secondary.result c.covers.result c.secondary.ensures c.covers.ensures c.if-secondary-same.false
+    step_other c.args.best c.args.a c.args.b c.secondary.result c.covers.result c.secondary.ensures c.covers.ensures c.if-secondary-same.false

@@ -21,36 +21,23 @@ loop-i-init c = (zero-le, refl, λ l h. refl)
 
 pub record_of-v-requires : goal.record_of-v-requires
 record_of-v-requires c =
-    let w = c.args.words.now in
-    let n = c.args.n in
-    let i = c.loop-i.i in
-    part-fit w n (lit< tt) c.requires.1 c.requires.2 i c.loop-i-test.true
+    part-fit c.args.words.now c.args.n (lit< tt) c.requires.1 c.requires.2 c.loop-i.i c.loop-i-test.true
 
 pub loop-i-preserved : goal.loop-i-preserved
 loop-i-preserved c =
-    let inv = c.loop-i.invariant in
-    let w = c.args.words.now in
-    let n = c.args.n in
-    let i = c.loop-i.i in
-    let rows = c.loop-i.rows in
-    let long : length rows ≡ 64 = inv.1 in
-    let less : i < n = c.loop-i-test.true in
-    let most : n ≤ 64 = c.requires.0 in (
+    let long : length c.loop-i.rows ≡ 64 = c.loop-i.invariant.1 in
+    let less : c.loop-i.i < c.args.n = c.loop-i-test.true in
+    let most : c.args.n ≤ 64 = c.requires.0 in (
       omega arith,
       simp length-set long,
       λ l h.
-          let there : i < length l = omega (arith, laid-rows w n (lit< tt) c.requires.1 l h) in
-          read_more rows i l c.record_of-v.result (omega arith) there (c.record_of-v.ensures.1 ∙ laid-part h i there) (inv.2 l h),
+          let there : c.loop-i.i < length l = omega (arith, laid-rows c.args.words.now c.args.n (lit< tt) c.requires.1 l h) in
+          read_more c.loop-i.rows c.loop-i.i l c.record_of-v.result (omega arith) there (c.record_of-v.ensures.result_value ∙ laid-part h c.loop-i.i there) (c.loop-i.invariant.2 l h),
     )
 
 pub returns : goal.returns
 returns c =
-    let inv = c.loop-i.invariant in
-    let w = c.args.words.now in
-    let n = c.args.n in
-    let i = c.loop-i.i in
-    let rows = c.loop-i.rows in
-    let over : n ≡ i = omega (arith, inv.0, c.loop-i-test.false) in
+    let over : c.args.n ≡ c.loop-i.i = omega (arith, c.loop-i.invariant.0, c.loop-i-test.false) in
     λ l h.
-    let whole : length l ≤ i = omega (arith, laid-rows w n (lit< tt) c.requires.1 l h) in
-    ap (λ (k : ℕ). map row_of (take k rows)) over ∙ inv.2 l h ∙ take_all i l whole
+    let whole : length l ≤ c.loop-i.i = omega (arith, laid-rows c.args.words.now c.args.n (lit< tt) c.requires.1 l h) in
+    ap (λ (k : ℕ). map row_of (take k c.loop-i.rows)) over ∙ c.loop-i.invariant.2 l h ∙ take_all c.loop-i.i l whole

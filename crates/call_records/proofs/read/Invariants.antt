@@ -17,7 +17,7 @@ use Rattle.call_records.specs.Laws.{read_more}
 use Rattle.call_records.proofs.read.Given as goal
 
 abbrev pub invariant-loop-i : goal.invariant-loop-i
-invariant-loop-i l = (l.i ≤ l.n) × (length l.rows ≡ 64) × ((l : List Row) → Laid 20 fit_address l.words l → map row_of (take l.i l.rows) ≡ take l.i l)
+invariant-loop-i turn = (turn.i ≤ turn.n) × (length turn.rows ≡ 64) × ((l : List Row) → Laid 20 fit_address turn.words l → map row_of (take turn.i turn.rows) ≡ take turn.i l)
 
 abbrev pub decreases-loop-i : goal.decreases-loop-i
 decreases-loop-i l = l.n - l.i

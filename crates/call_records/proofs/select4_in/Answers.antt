@@ -21,8 +21,7 @@ lend_select4-requires c = few c.address_count.result c.requires c.address_count.
 
 pub returns : goal.returns
 returns c =
-    let a = c.args in
     λ st h.
     c.lend_select4.ensures
-    ∙ ap (λ (n : ℕ). select4 (map row_of (take n c.decoded.result)) (wanted a.dst_present a.dst) a.scope) c.address_count.ensures
-    ∙ ap (λ (l : List Row). select4 l (wanted a.dst_present a.dst) a.scope) (c.decoded.ensures st h)
+    ∙ ap (λ (n : ℕ). select4 (map row_of (take n c.decoded.result)) (wanted c.args.dst_present c.args.dst) c.args.scope) c.address_count.ensures
+    ∙ ap (λ (l : List Row). select4 l (wanted c.args.dst_present c.args.dst) c.args.scope) (c.decoded.ensures st h)

@@ -11,31 +11,27 @@ use Rattle.call_records.proofs.select4_words.Goals as goal
 pub returns-then-n-ne0 : goal.returns-then-n-ne0
 unfolding select4_call
 returns-then-n-ne0 c =
-    let a = c.args in
-    let call = semantics (Call.select4 a.dst_present a.dst a.scope) in
-    let n-is = checked_as call.checks a.state.now c.checked-n.ensures refl c.fit_select.ensures in
-    says-refused call a.state.now n-is c.if-n-ne0.true (chosen-refused c.checked-n.result c.if-n-ne0.true)
+    let call = semantics (Call.select4 c.args.dst_present c.args.dst c.args.scope) in
+    let n-is = checked_as call.checks c.args.state.now c.checked-n.ensures refl c.fit_select.ensures in
+    says-refused call c.args.state.now n-is c.if-n-ne0.true (chosen-refused c.checked-n.result c.if-n-ne0.true)
 
 pub slice_bounds-select4_in-end : goal.slice_bounds-select4_in-end
 slice_bounds-select4_in-end c =
-    let a = c.args in
-    let call = semantics (Call.select4 a.dst_present a.dst a.scope) in
-    let n-is = checked_as call.checks a.state.now c.checked-n.ensures refl c.fit_select.ensures in
-    sym (lent (passed call.checks a.state.now n-is c.if-n-ne0.false))
+    let call = semantics (Call.select4 c.args.dst_present c.args.dst c.args.scope) in
+    let n-is = checked_as call.checks c.args.state.now c.checked-n.ensures refl c.fit_select.ensures in
+    sym (lent (passed call.checks c.args.state.now n-is c.if-n-ne0.false))
 
 pub select4_in-requires : goal.select4_in-requires
 select4_in-requires c =
-    let a = c.args in
-    let call = semantics (Call.select4 a.dst_present a.dst a.scope) in
-    let n-is = checked_as call.checks a.state.now c.checked-n.ensures refl c.fit_select.ensures in
-    valid (passed call.checks a.state.now n-is c.if-n-ne0.false)
+    let call = semantics (Call.select4 c.args.dst_present c.args.dst c.args.scope) in
+    let n-is = checked_as call.checks c.args.state.now c.checked-n.ensures refl c.fit_select.ensures in
+    valid (passed call.checks c.args.state.now n-is c.if-n-ne0.false)
 
 pub returns : goal.returns
 unfolding select4_call
 returns c =
-    let a = c.args in
-    let call = semantics (Call.select4 a.dst_present a.dst a.scope) in
-    let n-is = checked_as call.checks a.state.now c.checked-n.ensures refl c.fit_select.ensures in
-    let p = passed call.checks a.state.now n-is c.if-n-ne0.false in
-    says-passed call a.state.now p
-    (chosen-answer c.select4_in.result _ c.chosen_for.ensures (c.select4_in.ensures (state_of a.state.now) p.holds))
+    let call = semantics (Call.select4 c.args.dst_present c.args.dst c.args.scope) in
+    let n-is = checked_as call.checks c.args.state.now c.checked-n.ensures refl c.fit_select.ensures in
+    let p = passed call.checks c.args.state.now n-is c.if-n-ne0.false in
+    says-passed call c.args.state.now p
+    (chosen-answer c.select4_in.result _ c.chosen_for.ensures (c.select4_in.ensures (state_of c.args.state.now) p.holds))

@@ -7,20 +7,17 @@ use Rattle.call_records.proofs.select_step.Goals as goal
 
 pub returns-then-fit-near : goal.returns-then-fit-near
 returns-then-fit-near c =
-    let a = c.args in
     c.better.ensures
-    ∙ step-near a.best a.a a.dst_present a.dst a.scope c.secondary.result c.covers.result c.host_at_most.result
+    ∙ step-near c.args.best c.args.a c.args.dst_present c.args.dst c.args.scope c.secondary.result c.covers.result c.host_at_most.result
     c.secondary.ensures c.host_at_most.ensures c.covers.ensures c.if-fit-near.true
 
 pub returns-then-fit : goal.returns-then-fit
 returns-then-fit c =
-    let a = c.args in
     c.better-then-fit.ensures
-    ∙ step-fit a.best a.a a.dst_present a.dst a.scope c.secondary.result c.covers.result c.host_at_most.result
+    ∙ step-fit c.args.best c.args.a c.args.dst_present c.args.dst c.args.scope c.secondary.result c.covers.result c.host_at_most.result
     c.secondary.ensures c.host_at_most.ensures c.covers.ensures c.if-fit-near.false c.if-fit.true
 
 pub returns : goal.returns
 returns c =
-    let a = c.args in
-    step-unfit a.best a.a a.dst_present a.dst a.scope c.secondary.result c.covers.result c.host_at_most.result
+    step-unfit c.args.best c.args.a c.args.dst_present c.args.dst c.args.scope c.secondary.result c.covers.result c.host_at_most.result
     c.secondary.ensures c.host_at_most.ensures c.covers.ensures c.if-fit.false

@@ -14,7 +14,7 @@ use borrow.Author.Rules.{rules}
 use Rattle.endian.proofs.words_of.Given as goal
 
 abbrev pub invariant-loop-i : goal.invariant-loop-i
-invariant-loop-i l = (l.initial.out ≡ length l.bytes / 4) × (l.i ≤ l.initial.out) × (length l.out ≡ length l.n) × (l.out ≡ put 0 (take l.i (words_of l.bytes)) l.n)
+invariant-loop-i l = (l.n ≡ length l.bytes / 4) × (l.i ≤ l.n) × (length l.out ≡ length l.initial.out) × (l.out ≡ put 0 (take l.i (words_of l.bytes)) l.initial.out)
 
 abbrev pub decreases-loop-i : goal.decreases-loop-i
-decreases-loop-i l = l.initial.out - l.i
+decreases-loop-i l = l.n - l.i

@@ -8,6 +8,4 @@ use Rattle.message_cases.proofs.replay_record.Goals as goal
 
 pub slice_bounds-replay_bytes-end : goal.slice_bounds-replay_bytes-end
 slice_bounds-replay_bytes-end c =
-    let bytes = c.buffer-bytes in
-    let n = c.wide-n.result in
-    sym (length-take-le n bytes.result (omega (arith, bytes.ensures, c.if-n-gt-MOST.false)))
+    sym (length-take-le c.wide-n.result c.buffer-bytes.result (omega (arith, c.buffer-bytes.ensures, c.if-n-gt-MOST.false)))

@@ -12,22 +12,16 @@ loop-i-init c = (omega arith, omega arith)
 
 pub returns-then-p-i-eq0 : goal.returns-then-p-i-eq0
 returns-then-p-i-eq0 c =
-    let at_loop = c.loop-i in
-    let p = c.args.p.now in
-    let e = until-here p at_loop.i c.loop-i-test.true c.if-p-i-eq0.true in
+    let e = until-here c.args.p.now c.loop-i.i c.loop-i-test.true c.if-p-i-eq0.true in
     let n = ap length e in
-    (omega (arith, n, at_loop.invariant.1), at_loop.invariant.0)
+    (omega (arith, n, c.loop-i.invariant.1), c.loop-i.invariant.0)
 
 pub loop-i-preserved : goal.loop-i-preserved
 loop-i-preserved c =
-    let at_loop = c.loop-i in
-    let p = c.args.p.now in
-    let n = until-on p at_loop.i c.loop-i-test.true c.if-p-i-eq0.false in
-    (omega arith, omega (arith, n, at_loop.invariant.1))
+    let n = until-on c.args.p.now c.loop-i.i c.loop-i-test.true c.if-p-i-eq0.false in
+    (omega arith, omega (arith, n, c.loop-i.invariant.1))
 
 pub returns : goal.returns
 returns c =
-    let at_loop = c.loop-i in
-    let p = c.args.p.now in
-    let n : length (label (drop at_loop.i p)) ≡ 0 = ap (λ x. length (label x)) (drop_of_length-le p {i = at_loop.i} c.loop-i-test.false) in
-    (omega (arith, n, at_loop.invariant.1), at_loop.invariant.0)
+    let n : length (label (drop c.loop-i.i c.args.p.now)) ≡ 0 = ap (λ x. length (label x)) (drop_of_length-le c.args.p.now {i = c.loop-i.i} c.loop-i-test.false) in
+    (omega (arith, n, c.loop-i.invariant.1), c.loop-i.invariant.0)

@@ -11,33 +11,18 @@ use Rattle.netlink_attributes.specs.StepLaws.{At, found, over}
 use Rattle.netlink_refusal.specs.Laws.{all_more, all_end}
 use Rattle.netlink_refusal.proofs.metrics_sized.Goals as goal
 
--- an attribute begins at the cursor
-abbrev at_loop : (c : tie.After-known-told invariant_loop decreases_loop) → tie.At-loop invariant_loop decreases_loop
-at_loop c = c.before.before.before.before.before
-
-abbrev at-start : (c : tie.After-known-told invariant_loop decreases_loop) → tie.Start invariant_loop decreases_loop
-at-start c = (at_loop c).before.before.before
-
-abbrev at-answer : (c : tie.After-known-told invariant_loop decreases_loop) → tie.After-code invariant_loop decreases_loop
-at-answer c = c.before
-
-stands : (c : tie.After-known-told invariant_loop decreases_loop)
-    → At (at-start c).args.l.now (at_loop c).loop.cursor.at
-    (at-answer c).code.given.0.0 (at-answer c).code.given.0.1.0 (at-answer c).code.given.0.1.1.0
+stands : (c : goal.In-Attribute)
+    → At c.args.l.now c.loop-code.cursor.at
+    c.in-Attribute.code c.in-Attribute.size c.in-Attribute.next
 stands c =
-    let call = c.before.before.before.attribute in
-    let l = (at-start c).args.l.now in
-    found l (at_loop c).loop.cursor.at _ _ _ call.result (at_loop c).loop.invariant.0 call.ensures (at-answer c).code.given.1
+    found c.args.l.now c.loop-code.cursor.at _ _ _ c.attribute.result c.loop-code.invariant.0 c.attribute.ensures c.in-Attribute.is
 
 pub loop-code-init : goal.loop-code-init
 loop-code-init c = rw c.start-cursor.ensures (omega arith, refl)
 
 pub returns-in_default : goal.returns-in_default
 returns-in_default c =
-    let call = c.attribute in
-    let l = c.args.l.now in
-    let at = c.loop-code.cursor.at in
-    sym (c.loop-code.invariant.1 ∙ all_end metric_sized l at (over l at call.result call.ensures c.in_default.is))
+    sym (c.loop-code.invariant.1 ∙ all_end metric_sized c.args.l.now c.loop-code.cursor.at (over c.args.l.now c.loop-code.cursor.at c.attribute.result c.attribute.ensures c.in_default.is))
 
 pub overflow_add-from : goal.overflow_add-from
 overflow_add-from c = omega (arith, (stands c).payload-inside)
@@ -53,8 +38,7 @@ slice_bounds-metric_sized-end c = omega (arith, (stands c).payload-inside)
 
 pub returns-then-not-metric_sized : goal.returns-then-not-metric_sized
 returns-then-not-metric_sized c =
-    let call = c.metric_sized in
-    sym ((at_loop c).loop.invariant.1 ∙ all_more metric_sized _ _ _ _ _ _ (stands c) call.ensures ∙ rw (not-true call.result c.if-not-metric_sized.true))
+    sym (c.loop-code.invariant.1 ∙ all_more metric_sized _ _ _ _ _ _ (stands c) c.metric_sized.ensures ∙ rw c.if-not-metric_sized.true)
 
 pub past-cursor-requires : goal.past-cursor-requires
 past-cursor-requires c = omega (arith, (stands c).inside)
@@ -65,10 +49,9 @@ loop-code-smaller c =
 
 pub loop-code-preserved : goal.loop-code-preserved
 loop-code-preserved c =
-    let call = c.metric_sized in
     rw c.past-cursor.ensures (
       (stands c).inside,
-      (at_loop c).loop.invariant.1
-          ∙ all_more metric_sized _ _ _ _ _ _ (stands c) call.ensures
-          ∙ rw (not-false call.result c.if-not-metric_sized.false),
+      c.loop-code.invariant.1
+          ∙ all_more metric_sized _ _ _ _ _ _ (stands c) c.metric_sized.ensures
+          ∙ rw c.if-not-metric_sized.false,
     )

@@ -8,14 +8,12 @@ use Rattle.netlink_refusal.proofs.refusal.Invariants.{shape}
 use Rattle.netlink_refusal.proofs.refusal.Goals as goal
 
 -- the code's places are the definition's
-starts : (c : tie.After-attributes-at) → c.attributes_at.result ≡ attributes_at (message_type (at-start (at-shaped c)).args.m.now)
-starts c = c.attributes_at.ensures ∙ ap attributes_at c.before.message_type.ensures
+starts : (c : goal.After-attributes_at-at) → c.attributes_at-at.result ≡ attributes_at (message_type (at-start (at-shaped c)).args.m.now)
+starts c = c.attributes_at-at.ensures ∙ ap attributes_at c.message_type-t.ensures
 
 pub returns-then-shape-ne0 : goal.returns-then-shape-ne0
 returns-then-shape-ne0 c =
-    let call = c.shape_refusal-shape in
-    let m = c.args.m.now in
-    call.ensures ∙ misshapen m (λ e. c.if-shape-ne0.true (call.ensures ∙ e))
+    c.shape_refusal-shape.ensures ∙ misshapen c.args.m.now (λ e. c.if-shape-ne0.true (c.shape_refusal-shape.ensures ∙ e))
 
 pub message_length-n-requires : goal.message_length-n-requires
 message_length-n-requires c = (shape c).long

@@ -6,8 +6,8 @@ use Rattle.netlink.specs.Exactly.{Shaped, shaped}
 use Rattle.netlink_refusal.specs.RefusalLaws.{misshapen, by_size}
 use Rattle.netlink_refusal.proofs.refusal.Given as goal
 
-pub shape : (c : tie.Else1) → Shaped (at-start c).args.m.now
-shape c = shaped (at-start c).args.m.now (sym c.before.shape_refusal.ensures ∙ c.if1.false)
+pub shape : (c : goal.Else-shape-ne0) → Shaped (at-start c).args.m.now
+shape c = shaped (at-start c).args.m.now (sym c.shape_refusal-shape.ensures ∙ c.if-shape-ne0.false)
 
 -- past the first test the message has its shape
 abbrev at-start : tie.Else1 → tie.Start

@@ -22,26 +22,23 @@ returns-then-long-n c =
 pub returns-then-either : goal.returns-then-either
 returns-then-either c =
     let m = (at-start c).args.m.now in
-    let kind = c.message_type-t.ensures in
     let size = (at-header c).before.before.message-length.ensures in
     c.address_refusal.ensures
     ∙ ap (address_refusal m) size
-    ∙ of_address m (header c) (ap is_address (sym kind) ∙ sym c.either.ensures ∙ c.if-either.true)
+    ∙ of_address m (header c) (ap is_address (sym c.message_type-t.ensures) ∙ sym c.either.ensures ∙ c.if-either.true)
 
 pub returns-then-either-2 : goal.returns-then-either-2
 returns-then-either-2 c =
     let m = (at-start c).args.m.now in
-    let kind = c.message_type-t.ensures in
     let size = (at-header c).before.before.message-length.ensures in
     c.route_refusal.ensures
     ∙ ap (route_refusal m) size
     ∙ of_route m (header c)
-    (ap is_address (sym kind) ∙ sym c.either.ensures ∙ c.if-either.false)
-    (ap is_route (sym kind) ∙ sym c.either-2.ensures ∙ c.if-either-2.true)
+    (ap is_address (sym c.message_type-t.ensures) ∙ sym c.either.ensures ∙ c.if-either.false)
+    (ap is_route (sym c.message_type-t.ensures) ∙ sym c.either-2.ensures ∙ c.if-either-2.true)
 
 pub returns : goal.returns
 returns c =
-    let kind = c.message_type-t.ensures in
     of_other (at-start c).args.m.now (header c)
-    (ap is_address (sym kind) ∙ sym c.either.ensures ∙ c.if-either.false)
-    (ap is_route (sym kind) ∙ sym c.either-2.ensures ∙ c.if-either-2.false)
+    (ap is_address (sym c.message_type-t.ensures) ∙ sym c.either.ensures ∙ c.if-either.false)
+    (ap is_route (sym c.message_type-t.ensures) ∙ sym c.either-2.ensures ∙ c.if-either-2.false)

@@ -7,7 +7,7 @@ use Rattle.netlink_refusal.specs.Shape.{address_refusal, route_refusal}
 use Rattle.netlink_refusal.specs.RefusalLaws.{unheaded, of_address, of_route, of_other}
 use Rattle.netlink_refusal.proofs.shape_refusal.Given as goal
 
-pub header : (c : tie.After-either) → Headed (at-start c).args.m.now
+pub header : (c : goal.After-either) → Headed (at-start c).args.m.now
 header c = record {
   long = omega (arith, (at-header c).before.before.before.if1.false);
   covers = omega (arith, (at-header c).before.before.message-length.ensures, (at-header c).before.if2.false);

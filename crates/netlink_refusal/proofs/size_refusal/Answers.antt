@@ -8,13 +8,12 @@ use Rattle.netlink.specs.Reader.{sized_in}
 use Rattle.netlink_refusal.specs.RefusalLaws.{wrongly_sized, sized_but_local}
 use Rattle.netlink_refusal.proofs.size_refusal.Goals as goal
 
-all-sized : (c : tie.Else1) → all (sized_in (at-start c).args.t) (attributes (at-start c).args.l.now) ≡ true
-all-sized c = let call = c.before.sizes in sym call.ensures ∙ not-false call.result c.if1.false
+all-sized : (c : goal.Else-not-sizes) → all (sized_in (at-start c).args.t) (attributes (at-start c).args.l.now) ≡ true
+all-sized c = sym c.sizes.ensures ∙ not-false c.sizes.result c.if-not-sizes.false
 
 pub returns-then-not-sizes : goal.returns-then-not-sizes
 returns-then-not-sizes c =
-    let call = c.sizes in
-    wrongly_sized c.args.t (attributes c.args.l.now) (sym call.ensures ∙ not-true call.result c.if-not-sizes.true)
+    wrongly_sized c.args.t (attributes c.args.l.now) (sym c.sizes.ensures ∙ c.if-not-sizes.true)
 
 pub returns-then-t-ne-RTM_NEWADDR : goal.returns-then-t-ne-RTM_NEWADDR
 returns-then-t-ne-RTM_NEWADDR c =

@@ -9,8 +9,7 @@ use Rattle.netlink_request.proofs.del_addr.Goals as goal
 
 pub returns : goal.returns
 returns c =
-    let a = c.args in
-    let l = attributes a.l.now in
+    let l = attributes c.args.l.now in
     c.lay.ensures
-    ∙ ap (λ (x : List ℕ). put 0 x a.request.now)
-    (del_addr-laid a.m.now l c.del_addr_front-front.ensures c.get.ensures.0 c.given_at-named.ensures c.label_at-label.ensures)
+    ∙ ap (λ (x : List ℕ). put 0 x c.args.request.now)
+    (del_addr-laid c.args.m.now l c.del_addr_front-front.ensures c.get.ensures.0 c.given_at-named.ensures c.label_at-label.ensures)

@@ -7,16 +7,14 @@ use Rattle.netlink_request.specs.Laws.{missing, present, part-below, label-withi
 use borrow.Author.Rules.{rules}
 use Rattle.netlink_request.proofs.label_at.Goals as goal
 
-within : (c : tie.After-label-length)
-    → c.label_length.result ≤ get_or c.before.before.before.before.before.before.before.args.sizes.now c.before.before.before.before.before.before.before.args.k 0
+within : (c : goal.After-label_length)
+    → c.label_length.result ≤ get_or c.args.sizes.now c.args.k 0
 within c =
-    let a = c.before.before.before.before.before.before.before.args in
-    label-within a.l.now (get_or a.starts.now a.k 0) (get_or a.sizes.now a.k 0) c.label_length.result c.label_length.ensures.1
+    label-within c.args.l.now (get_or c.args.starts.now c.args.k 0) (get_or c.args.sizes.now c.args.k 0) c.label_length.result c.label_length.ensures.1
 
 pub returns-then-start-eq0 : goal.returns-then-start-eq0
 returns-then-start-eq0 c =
-    let a = c.args in
-    rw (missing a.l.now a.starts.now a.sizes.now c.requires.0 a.k c.requires.1 c.if-start-eq0.true) c.label_words.ensures
+    rw (missing c.args.l.now c.args.starts.now c.args.sizes.now c.requires.0 c.args.k c.requires.1 c.if-start-eq0.true) c.label_words.ensures
 
 pub overflow_add-end : goal.overflow_add-end
 overflow_add-end c =
@@ -41,6 +39,5 @@ label_words-requires-2 c =
 
 pub returns : goal.returns
 returns c =
-    let a = c.args in
-    let front = label-front a.l.now (get_or a.starts.now a.k 0) (get_or a.sizes.now a.k 0) c.label_length.result c.label_length.ensures.0 (within c) in
-    rw (present a.l.now a.starts.now a.sizes.now c.requires.0 a.k c.requires.1 c.if-start-eq0.false) (c.label_words-2.ensures ∙ ap label_words front)
+    let front = label-front c.args.l.now (get_or c.args.starts.now c.args.k 0) (get_or c.args.sizes.now c.args.k 0) c.label_length.result c.label_length.ensures.0 (within c) in
+    rw (present c.args.l.now c.args.starts.now c.args.sizes.now c.requires.0 c.args.k c.requires.1 c.if-start-eq0.false) (c.label_words-2.ensures ∙ ap label_words front)

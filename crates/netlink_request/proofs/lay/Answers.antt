@@ -8,9 +8,8 @@ use Rattle.netlink_request.proofs.lay.Goals as goal
 
 pub returns : goal.returns
 returns c =
-    let a = c.args in
-    let second = length a.a.now in
-    let third = second + length a.b.now in
+    let second = length c.args.a.now in
+    let third = second + length c.args.b.now in
     c.store-3.ensures
-    ∙ ap (put third a.c.now) (c.store-2.ensures ∙ ap (put second a.b.now) c.store.ensures)
-    ∙ laid a.a.now a.b.now a.c.now a.request.now c.requires
+    ∙ ap (put third c.args.c.now) (c.store-2.ensures ∙ ap (put second c.args.b.now) c.store.ensures)
+    ∙ laid c.args.a.now c.args.b.now c.args.c.now c.args.request.now c.requires

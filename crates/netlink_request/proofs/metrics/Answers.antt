@@ -10,28 +10,23 @@ use Rattle.netlink_request.proofs.metrics.Goals as goal
 
 pub returns-then-starts-ne0 : goal.returns-then-starts-ne0
 returns-then-starts-ne0 c =
-    let l = c.args.l.now in
-    let t = c.table-t in
-    words-refused (attributes l) (unknown l t.result.starts t.result.sizes t.ensures c.if-starts-ne0.true)
+    words-refused (attributes c.args.l.now) (unknown c.args.l.now c.table-t.result.starts c.table-t.result.sizes c.table-t.ensures c.if-starts-ne0.true)
 
 pub loop-k-init : goal.loop-k-init
 loop-k-init c =
-    let l = c.args.l.now in
-    (omega arith, omega arith, refl, words-begun (attributes l))
+    (omega arith, omega arith, refl, words-begun (attributes c.args.l.now))
 
 pub loop-k-preserved : goal.loop-k-preserved
 loop-k-preserved c =
     let l = attributes c.args.l.now in
-    let inv = c.loop-k.invariant in (
+    (
       omega arith,
       omega arith,
-      length-set c.loop-k.words c.loop-k.k c.number_at.result ∙ inv.2,
-      words_more l _ c.loop-k.words c.loop-k.k c.number_at.result refl inv.0 (omega (arith, c.loop-k-test.true)) inv.3 c.number_at.ensures,
+      length-set c.loop-k.words c.loop-k.k c.number_at.result ∙ c.loop-k.invariant.2,
+      words_more l _ c.loop-k.words c.loop-k.k c.number_at.result refl c.loop-k.invariant.0 (omega (arith, c.loop-k-test.true)) c.loop-k.invariant.3 c.number_at.ensures,
     )
 
 pub returns : goal.returns
 returns c =
-    let l = c.args.l.now in
-    let t = c.table-t in
-    words-ended (attributes l) _ _ c.loop-k.k refl c.loop-k-test.false c.loop-k.invariant.3
-    (known l t.result.starts t.result.sizes t.ensures c.if-starts-ne0.false)
+    words-ended (attributes c.args.l.now) _ _ c.loop-k.k refl c.loop-k-test.false c.loop-k.invariant.3
+    (known c.args.l.now c.table-t.result.starts c.table-t.result.sizes c.table-t.ensures c.if-starts-ne0.false)

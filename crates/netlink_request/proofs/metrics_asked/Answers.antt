@@ -6,8 +6,7 @@ use Rattle.netlink_request.proofs.metrics_asked.Goals as goal
 
 pub returns-then-start-eq0 : goal.returns-then-start-eq0
 returns-then-start-eq0 c =
-    let a = c.args in
-    rw (missing a.l.now a.starts.now a.sizes.now c.requires 8 (omega arith) c.if-start-eq0.true) words-none
+    rw (missing c.args.l.now c.args.starts.now c.args.sizes.now c.requires 8 (omega arith) c.if-start-eq0.true) words-none
 
 pub overflow_add-end : goal.overflow_add-end
 overflow_add-end c =
@@ -19,5 +18,4 @@ slice_bounds-metrics-end c =
 
 pub returns : goal.returns
 returns c =
-    let a = c.args in
-    rw (present a.l.now a.starts.now a.sizes.now c.requires 8 (omega arith) c.if-start-eq0.false) c.metrics.ensures
+    rw (present c.args.l.now c.args.starts.now c.args.sizes.now c.requires 8 (omega arith) c.if-start-eq0.false) c.metrics.ensures

@@ -9,8 +9,7 @@ use Rattle.netlink_request.proofs.new_addr.Goals as goal
 
 pub returns : goal.returns
 returns c =
-    let a = c.args in
-    let l = attributes a.l.now in
+    let l = attributes c.args.l.now in
     c.lay.ensures
-    ∙ ap (λ (x : List ℕ). put 0 x a.request.now)
-    (new_addr-laid a.up a.m.now l c.new_addr_front-front.ensures c.label_at-label.ensures c.new_addr_back-back.ensures)
+    ∙ ap (λ (x : List ℕ). put 0 x c.args.request.now)
+    (new_addr-laid c.args.up c.args.m.now l c.new_addr_front-front.ensures c.label_at-label.ensures c.new_addr_back-back.ensures)

@@ -10,11 +10,10 @@ use Rattle.netlink_request.proofs.new_addr_back.Goals as goal
 pub returns : goal.returns
 unfolding new_addr
 returns c =
-    let a = c.args in
     λ i.
     c.number_at.ensures i
     ∷ c.number_at-2.ensures i
     ∷ c.number_at-3.ensures i
     ∷ (c.replaces.ensures ∙ ap (λ f. flag (has_bit replace_bit f && not (has_bit excl_bit f))) c.half.ensures.0) i
-    ∷ a.up
+    ∷ c.args.up
     ∷ []

@@ -9,7 +9,6 @@ use Rattle.netlink_request.proofs.new_route.Goals as goal
 
 pub returns : goal.returns
 returns c =
-    let a = c.args in
     c.lay.ensures
-    ∙ ap (λ (x : List ℕ). put 0 x a.request.now)
-    (new_route-laid a.up a.m.now (attributes a.l.now) c.route_front-front.ensures c.route_back-way.ensures c.new_route_back-back.ensures)
+    ∙ ap (λ (x : List ℕ). put 0 x c.args.request.now)
+    (new_route-laid c.args.up c.args.m.now (attributes c.args.l.now) c.route_front-front.ensures c.route_back-way.ensures c.new_route_back-back.ensures)

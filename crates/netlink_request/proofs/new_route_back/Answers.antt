@@ -6,5 +6,4 @@ use Rattle.netlink_request.proofs.new_route_back.Goals as goal
 
 pub returns : goal.returns
 returns c =
-    let a = c.args in
-    new_route-back-laid a.up a.m.now (attributes a.l.now) c.lay.ensures c.word.ensures c.half.ensures.0 c.metrics_asked-asked.ensures
+    new_route-back-laid c.args.up c.args.m.now (attributes c.args.l.now) c.lay.ensures c.word.ensures c.half.ensures.0 c.metrics_asked-asked.ensures

@@ -6,8 +6,7 @@ use Rattle.netlink_request.proofs.number_at.Goals as goal
 
 pub returns-then-start-eq0 : goal.returns-then-start-eq0
 returns-then-start-eq0 c =
-    let a = c.args in
-    rw (missing a.l.now a.starts.now a.sizes.now c.requires.0 a.k c.requires.1 c.if-start-eq0.true)
+    rw (missing c.args.l.now c.args.starts.now c.args.sizes.now c.requires.0 c.args.k c.requires.1 c.if-start-eq0.true)
 
 pub overflow_add-end : goal.overflow_add-end
 overflow_add-end c =
@@ -19,5 +18,4 @@ slice_bounds-word-end c =
 
 pub returns : goal.returns
 returns c =
-    let a = c.args in
-    rw (present a.l.now a.starts.now a.sizes.now c.requires.0 a.k c.requires.1 c.if-start-eq0.false) c.word.ensures
+    rw (present c.args.l.now c.args.starts.now c.args.sizes.now c.requires.0 c.args.k c.requires.1 c.if-start-eq0.false) c.word.ensures

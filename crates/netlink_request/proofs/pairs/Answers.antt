@@ -10,33 +10,27 @@ use Rattle.netlink_request.proofs.pairs.Goals as goal
 
 pub returns-then-starts-ne0 : goal.returns-then-starts-ne0
 returns-then-starts-ne0 c =
-    let l = c.args.l.now in
-    let t = c.table-t in
-    pairs-refused (attributes l) (unknown l t.result.starts t.result.sizes t.ensures c.if-starts-ne0.true)
+    pairs-refused (attributes c.args.l.now) (unknown c.args.l.now c.table-t.result.starts c.table-t.result.sizes c.table-t.ensures c.if-starts-ne0.true)
 
 pub loop-k-init : goal.loop-k-init
 unfolding pairs_before
 loop-k-init c =
-    let l = c.args.l.now in
-    (omega arith, omega arith, refl, refl, pairs-begun (attributes l))
+    (omega arith, omega arith, refl, refl, pairs-begun (attributes c.args.l.now))
 
 pub append-at-requires : goal.append-at-requires
 append-at-requires c =
     let l = attributes c.args.l.now in
-    let inv = c.loop-k.invariant in
-    (c.table-t.ensures, inv.0, omega arith, omega (arith, inv.2, inv.3, pairs-room l c.loop-k.k inv.0))
+    (c.table-t.ensures, c.loop-k.invariant.0, omega arith, omega (arith, c.loop-k.invariant.2, c.loop-k.invariant.3, pairs-room l c.loop-k.k c.loop-k.invariant.0))
 
 pub loop-k-preserved : goal.loop-k-preserved
 loop-k-preserved c =
     let l = attributes c.args.l.now in
-    let inv = c.loop-k.invariant in
     let below : c.loop-k.k < 18 = omega (arith, c.loop-k-test.true) in
-    let next = c.append-at.ensures in
-    let more = next.1 ∙ pairs-put l _ c.loop-k.words c.loop-k.at c.loop-k.k refl inv.0 below inv.3 inv.4 in (
+    let more = c.append-at.ensures.words_after ∙ pairs-put l _ c.loop-k.words c.loop-k.at c.loop-k.k refl c.loop-k.invariant.0 below c.loop-k.invariant.3 c.loop-k.invariant.4 in (
       omega arith,
       omega arith,
       ap length more ∙ pairs-long l _ (c.loop-k.k + 1) refl (omega arith) (omega arith),
-      next.0 ∙ pairs_next l c.loop-k.at c.loop-k.k inv.0 below inv.3,
+      c.append-at.ensures.value ∙ pairs_next l c.loop-k.at c.loop-k.k c.loop-k.invariant.0 below c.loop-k.invariant.3,
       more,
     )
 
@@ -47,8 +41,5 @@ overflow_cast-words c =
 
 pub returns : goal.returns
 returns c =
-    let l = c.args.l.now in
-    let t = c.table-t in
-    let inv = c.loop-k.invariant in
-    pairs-ended (attributes l) c.loop-k.words c.loop-k.at c.loop-k.k c.loop-k-test.false inv.3 inv.4
-    (known l t.result.starts t.result.sizes t.ensures c.if-starts-ne0.false)
+    pairs-ended (attributes c.args.l.now) c.loop-k.words c.loop-k.at c.loop-k.k c.loop-k-test.false c.loop-k.invariant.3 c.loop-k.invariant.4
+    (known c.args.l.now c.table-t.result.starts c.table-t.result.sizes c.table-t.ensures c.if-starts-ne0.false)

@@ -8,17 +8,14 @@ use Rattle.netlink_request.proofs.replaces.Goals as goal
 pub returns-then-flags-eq0 : goal.returns-then-flags-eq0
 unfolding has_bit
 returns-then-flags-eq0 c =
-    let f = c.args.flags in
-    rw (ne_eqb (f / 2 ^ 8 % 2) 1 (λ e. omega arith))
+    rw (ne_eqb (c.args.flags / 2 ^ 8 % 2) 1 (λ e. omega arith))
 
 pub returns-then-flags-eq1 : goal.returns-then-flags-eq1
 unfolding has_bit
 returns-then-flags-eq1 c =
-    let f = c.args.flags in
-    rw (eq-eqb (f / 2 ^ 8 % 2) 1 (omega arith), eq-eqb (f / 2 ^ 9 % 2) 1 c.if-flags-eq1.true)
+    rw (eq-eqb (c.args.flags / 2 ^ 8 % 2) 1 (omega arith), eq-eqb (c.args.flags / 2 ^ 9 % 2) 1 c.if-flags-eq1.true)
 
 pub returns : goal.returns
 unfolding has_bit
 returns c =
-    let f = c.args.flags in
-    rw (eq-eqb (f / 2 ^ 8 % 2) 1 (omega arith), ne_eqb (f / 2 ^ 9 % 2) 1 c.if-flags-eq1.false)
+    rw (eq-eqb (c.args.flags / 2 ^ 8 % 2) 1 (omega arith), ne_eqb (c.args.flags / 2 ^ 9 % 2) 1 c.if-flags-eq1.false)

@@ -17,5 +17,6 @@ slice_bounds-call-end-4 c =
 
 pub returns : goal.returns
 returns c =
-    answered c.args.r.now c.args.held.now c.args.buffer.now c.wide-n.result c.wide-m.result c.lent.result.now c.wide-n.ensures c.wide-m.ensures
-    (omega (arith, c.wide-m.ensures, c.requires.0.buffer, c.requires.2)) c.lent.ensures c.call.ensures
+     let both = answered c.args.r.now c.args.held.now c.args.buffer.now c.wide-n.result c.wide-m.result c.lent.result.now c.wide-n.ensures c.wide-m.ensures
+    (omega (arith, c.wide-m.ensures, c.requires.0.buffer, c.requires.2)) c.lent.ensures c.call.ensures in
+    record { value = both.0; held_after = both.1.0; buffer_after = both.1.1 }

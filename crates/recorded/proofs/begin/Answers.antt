@@ -6,5 +6,4 @@ use Rattle.recorded.proofs.begin.Goals as goal
 
 pub returns : goal.returns
 returns c =
-    let a = c.args in
-    begun a.r.now a.held.now c.sets.ensures c.restart.ensures c.set_pairs.ensures
+    begun c.args.r.now c.args.held.now c.sets.ensures c.restart.ensures c.set_pairs.ensures

@@ -17,12 +17,10 @@ overflow_add-sum c = omega (arith, c.long.ensures, c.shared_slice_known-in-loop-
 
 pub loop-i-preserved : goal.loop-i-preserved
 loop-i-preserved c =
-    let l = c.args.words.now in
-    let i = c.loop-i.i in
-    let s = c.loop-i.sum in (
+    (
       omega arith,
       omega arith,
-      ap (λ (x : ℕ). check_from ((s * 16777619 + x) % 4294967296) (drop (i + 1) l)) c.long.ensures ∙ sym (check-next l i s (omega arith)) ∙ c.loop-i.invariant.2,
+      ap (λ (x : ℕ). check_from ((c.loop-i.sum * 16777619 + x) % 4294967296) (drop (c.loop-i.i + 1) c.args.words.now)) c.long.ensures ∙ sym (check-next c.args.words.now c.loop-i.i c.loop-i.sum (omega arith)) ∙ c.loop-i.invariant.2,
     )
 
 pub returns : goal.returns

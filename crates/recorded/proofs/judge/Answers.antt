@@ -11,15 +11,15 @@ agrees-requires c =
 
 pub returns-then-agrees : goal.returns-then-agrees
 returns-then-agrees c =
-    let a = c.args in
-    same a.r.now a.held.now a.buffer.now c.whole.result c.whole.ensures c.agrees.result _ _ c.agrees.ensures.0 c.agrees.ensures.1.0 c.agrees.ensures.1.1 c.if-whole.true c.if-agrees.true
+     let both = same c.args.r.now c.args.held.now c.args.buffer.now c.whole.result c.whole.ensures c.agrees.result _ _ c.agrees.ensures.value c.agrees.ensures.held_after c.agrees.ensures.buffer_after c.if-whole.true c.if-agrees.true in
+    record { value = both.0; held_after = both.1.0; buffer_after = both.1.1 }
 
 pub returns-then-whole : goal.returns-then-whole
 returns-then-whole c =
-    let a = c.args in
-    other a.r.now a.held.now a.buffer.now c.whole.result c.whole.ensures c.agrees.result _ _ c.agrees.ensures.0 c.agrees.ensures.1.0 c.agrees.ensures.1.1 c.if-whole.true c.if-agrees.false
+     let both = other c.args.r.now c.args.held.now c.args.buffer.now c.whole.result c.whole.ensures c.agrees.result _ _ c.agrees.ensures.value c.agrees.ensures.held_after c.agrees.ensures.buffer_after c.if-whole.true c.if-agrees.false in
+    record { value = both.0; held_after = both.1.0; buffer_after = both.1.1 }
 
 pub returns : goal.returns
 returns c =
-    let a = c.args in
-    damaged a.r.now a.held.now a.buffer.now c.whole.result c.whole.ensures c.if-whole.false
+     let both = damaged c.args.r.now c.args.held.now c.args.buffer.now c.whole.result c.whole.ensures c.if-whole.false in
+    record { value = both.0; held_after = both.1.0; buffer_after = both.1.1 }

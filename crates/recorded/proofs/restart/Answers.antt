@@ -12,14 +12,10 @@ use Rattle.recorded.proofs.restart.Goals as goal
 
 pub returns-then-r-ne1 : goal.returns-then-r-ne1
 returns-then-r-ne1 c =
-    let a = c.args in
-    let f = get_or a.r.now 3 0 in
-    let h = a.held.now in
-    sym (cond-false (eqb f 1) (put 0 (zeros (length h)) h) h (ne_eqb f 1 c.if-r-ne1.true))
+    let f = get_or c.args.r.now 3 0 in
+    sym (cond-false (eqb f 1) (put 0 (zeros (length c.args.held.now)) c.args.held.now) c.args.held.now (ne_eqb f 1 c.if-r-ne1.true))
 
 pub returns : goal.returns
 returns c =
-    let a = c.args in
-    let f = get_or a.r.now 3 0 in
-    let h = a.held.now in
-    c.clear.ensures ∙ sym (cond-true (eqb f 1) (put 0 (zeros (length h)) h) h (eq-eqb f 1 (omega (arith, c.if-r-ne1.false))))
+    let f = get_or c.args.r.now 3 0 in
+    c.clear.ensures ∙ sym (cond-true (eqb f 1) (put 0 (zeros (length c.args.held.now)) c.args.held.now) c.args.held.now (eq-eqb f 1 (omega (arith, c.if-r-ne1.false))))

@@ -15,13 +15,11 @@ loop-k-init c = (refl, omega arith, refl, refl)
 
 pub loop-k-preserved : goal.loop-k-preserved
 loop-k-preserved c =
-    let l = c.args.pairs.now in
-    let k = c.loop-k.k in
-    let e = c.set_word.ensures in (
+    (
       refl,
       omega arith,
-      ap length e ∙ simp length-set c.loop-k.invariant.2,
-      ap (set_all (drop (2 * (k + 1)) l)) e ∙ sym (set_next l c.loop-k.s k (omega arith)) ∙ c.loop-k.invariant.3,
+      ap length c.set_word.ensures ∙ simp length-set c.loop-k.invariant.2,
+      ap (set_all (drop (2 * (c.loop-k.k + 1)) c.args.pairs.now)) c.set_word.ensures ∙ sym (set_next c.args.pairs.now c.loop-k.s c.loop-k.k (omega arith)) ∙ c.loop-k.invariant.3,
     )
 
 pub shape_of-s : goal.shape_of-s
@@ -29,5 +27,4 @@ shape_of-s c = c.loop-k.invariant.2
 
 pub returns : goal.returns
 returns c =
-    let l = c.args.pairs.now in
-    sym (set_rest (drop (2 * c.loop-k.k) l) c.loop-k.s (omega (arith, length-drop (2 * c.loop-k.k) l))) ∙ c.loop-k.invariant.3
+    sym (set_rest (drop (2 * c.loop-k.k) c.args.pairs.now) c.loop-k.s (omega (arith, length-drop (2 * c.loop-k.k) c.args.pairs.now))) ∙ c.loop-k.invariant.3

@@ -11,7 +11,7 @@ use borrow.Author.Rules.{rules}
 use Rattle.recorded.proofs.set_pairs.Given as goal
 
 abbrev pub invariant-loop-k : goal.invariant-loop-k
-invariant-loop-k l = (l.initial.s ≡ length l.n / 2) × (l.k ≤ l.initial.s) × (length l.s ≡ length l.pairs) × (set_all (drop (2 * l.k) l.n) l.s ≡ set_all l.n l.pairs)
+invariant-loop-k l = (l.n ≡ length l.pairs / 2) × (l.k ≤ l.n) × (length l.s ≡ length l.initial.s) × (set_all (drop (2 * l.k) l.pairs) l.s ≡ set_all l.pairs l.initial.s)
 
 abbrev pub decreases-loop-k : goal.decreases-loop-k
-decreases-loop-k l = l.initial.s - l.k
+decreases-loop-k l = l.n - l.k

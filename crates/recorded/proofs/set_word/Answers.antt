@@ -10,10 +10,8 @@ use Rattle.recorded.proofs.set_word.Goals as goal
 
 pub returns-then-s-i : goal.returns-then-s-i
 returns-then-s-i c =
-    let a = c.args in
-    sym (set_out a.s.now a.at a.v (omega (arith, c.wide-i.ensures)))
+    sym (set_out c.args.s.now c.args.at c.args.v (omega (arith, c.wide-i.ensures)))
 
 pub returns : goal.returns
 returns c =
-    let a = c.args in
-    ap (λ (i : ℕ). set a.s.now i a.v) c.wide-i.ensures
+    ap (λ (i : ℕ). set c.args.s.now i c.args.v) c.wide-i.ensures

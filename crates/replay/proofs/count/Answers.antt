@@ -8,6 +8,4 @@ returns-then-k-ge16 c = λ h. absurd (omega (arith, c.wide-k.ensures))
 
 pub returns : goal.returns
 returns c =
-    let a = c.args in
-    let l = a.counts.now in
-    λ h. ap (set l c.wide-k.result) c.wrapping_add_u64.ensures ∙ ap (λ (i : ℕ). set l i ((get_or l i 0 + 1) % 18446744073709551616)) c.wide-k.ensures
+    λ h. ap (set c.args.counts.now c.wide-k.result) c.wrapping_add_u64.ensures ∙ ap (λ (i : ℕ). set c.args.counts.now i ((get_or c.args.counts.now i 0 + 1) % 18446744073709551616)) c.wide-k.ensures

@@ -9,8 +9,7 @@ loop-i-init c = (omega arith, refl, λ k h. absurd (omega arith))
 
 pub loop-i-preserved : goal.loop-i-preserved
 loop-i-preserved c =
-    let w = c.loop-i in
-    (omega arith, length-set w.buffer w.i _ ∙ w.invariant.1, filled w.buffer w.i c.loop-i-test.true w.invariant.2)
+    (omega arith, length-set c.loop-i.buffer c.loop-i.i _ ∙ c.loop-i.invariant.1, filled c.loop-i.buffer c.loop-i.i c.loop-i-test.true c.loop-i.invariant.2)
 
 pub shape_of-buffer : goal.shape_of-buffer
 shape_of-buffer c = c.loop-i.invariant.1

@@ -12,5 +12,4 @@ read_words-requires c = omega (arith, length-take-le 2 c.args.r.now (omega (arit
 pub returns : goal.returns
 returns c =
     let l = same-length-5 c in
-    let n = c.wide-n.result in
-    (omega (arith, l, c.requires), sym (length-take-le n _ (omega (arith, l, c.requires))))
+    (omega (arith, l, c.requires), sym (length-take-le c.wide-n.result _ (omega (arith, l, c.requires))))

@@ -9,5 +9,4 @@ slice_bounds-read_bytes-end c =
 
 pub read_bytes-requires : goal.read_bytes-requires
 read_bytes-requires c =
-    let b = c.large_buffer-bytes in
-    omega (arith, length-take-le (4 * length c.args.out.now) b.result (omega (arith, c.requires, b.ensures)))
+    omega (arith, length-take-le (4 * length c.args.out.now) c.large_buffer-bytes.result (omega (arith, c.requires, c.large_buffer-bytes.ensures)))

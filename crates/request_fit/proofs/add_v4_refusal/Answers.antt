@@ -8,10 +8,8 @@ use Rattle.request_fit.proofs.add_v4_refusal.Goals as goal
 
 pub returns-then-fit : goal.returns-then-fit
 returns-then-fit c =
-    let a = c.args in
-    c.unless.ensures ∙ sym (cond-true a.fit (unless a.lasts invalid) 202 c.if-fit.true)
+    c.unless.ensures ∙ sym (cond-true c.args.fit (unless c.args.lasts invalid) 202 c.if-fit.true)
 
 pub returns : goal.returns
 returns c =
-    let a = c.args in
-    sym (cond-false a.fit (unless a.lasts invalid) 202 c.if-fit.false)
+    sym (cond-false c.args.fit (unless c.args.lasts invalid) 202 c.if-fit.false)

@@ -6,7 +6,4 @@ use borrow.Author.Rules.{rules}
 use Rattle.request_gateway.proofs.onlink_check.Goals as goal
 
 pub returns : goal.returns
-returns c = let a = c.args in
-    let k = c.addr_type-kind in
-    let n = c.onlink_number in
-    λ l h. c.settle.ensures ∙ onlink-says a.q.now a.local_listed l k.result n.result (k.ensures l h) n.ensures
+returns c = λ l h. c.settle.ensures ∙ onlink-says c.args.q.now c.args.local_listed l c.addr_type-kind.result c.onlink_number.result (c.addr_type-kind.ensures l h) c.onlink_number.ensures

@@ -7,34 +7,16 @@ use borrow.Author.Rules.{rules}
 use Rattle.request_gateway.proofs.reach_check.Goals as goal
 
 pub returns-then-error_of-ne0 : goal.returns-then-error_of-ne0
-returns-then-error_of-ne0 c = let a = c.args in
-    let e = c.error_of in
-    λ l h. c.settle.ensures ∙ reach-rejects a.q.now a.local_listed a.default_listed l e.result e.ensures c.if-error_of-ne0.true c.refuse.result c.refuse.ensures
+returns-then-error_of-ne0 c = λ l h. c.settle.ensures ∙ reach-rejects c.args.q.now c.args.local_listed c.args.default_listed l c.error_of.result c.error_of.ensures c.if-error_of-ne0.true c.refuse.result c.refuse.ensures
 
 pub returns-then-q-gt-SCOPE_HOST : goal.returns-then-q-gt-SCOPE_HOST
-returns-then-q-gt-SCOPE_HOST c = let a = c.args in
-    let e = c.error_of in
-    λ l h. reach-over a.q.now a.local_listed a.default_listed l e.result e.ensures c.if-error_of-ne0.false c.if-q-gt-SCOPE_HOST.true
+returns-then-q-gt-SCOPE_HOST c = λ l h. reach-over c.args.q.now c.args.local_listed c.args.default_listed l c.error_of.result c.error_of.ensures c.if-error_of-ne0.false c.if-q-gt-SCOPE_HOST.true
 
 pub returns-then-q-eq-SCOPE_HOST : goal.returns-then-q-eq-SCOPE_HOST
-returns-then-q-eq-SCOPE_HOST c = let a = c.args in
-    let e = c.error_of in
-    let m = c.refuse-missing in
-    λ l h. c.settle-then-q-eq-SCOPE_HOST.ensures ∙ reach_host a.q.now a.local_listed a.default_listed l e.result e.ensures c.if-error_of-ne0.false c.if-q-gt-SCOPE_HOST.false m.result m.ensures c.if-q-eq-SCOPE_HOST.true c.refuse-then-q-eq-SCOPE_HOST.result c.first_of.result c.refuse-then-q-eq-SCOPE_HOST.ensures c.first_of.ensures
+returns-then-q-eq-SCOPE_HOST c = λ l h. c.settle-then-q-eq-SCOPE_HOST.ensures ∙ reach_host c.args.q.now c.args.local_listed c.args.default_listed l c.error_of.result c.error_of.ensures c.if-error_of-ne0.false c.if-q-gt-SCOPE_HOST.false c.refuse-missing.result c.refuse-missing.ensures c.if-q-eq-SCOPE_HOST.true c.refuse-then-q-eq-SCOPE_HOST.result c.first_of.result c.refuse-then-q-eq-SCOPE_HOST.ensures c.first_of.ensures
 
 pub returns-then-gatewayed : goal.returns-then-gatewayed
-returns-then-gatewayed c = let a = c.args in
-    let e = c.error_of in
-    let m = c.refuse-missing in
-    λ l h. reach-gateway a.q.now a.local_listed a.default_listed l e.result e.ensures c.if-error_of-ne0.false c.if-q-gt-SCOPE_HOST.false m.result m.ensures c.if-q-eq-SCOPE_HOST.false c.if-gatewayed.true (reached_of c.gateway4.result) (c.gateway4.ensures l h)
+returns-then-gatewayed c = λ l h. reach-gateway c.args.q.now c.args.local_listed c.args.default_listed l c.error_of.result c.error_of.ensures c.if-error_of-ne0.false c.if-q-gt-SCOPE_HOST.false c.refuse-missing.result c.refuse-missing.ensures c.if-q-eq-SCOPE_HOST.false c.if-gatewayed.true (reached_of c.gateway4.result) (c.gateway4.ensures l h)
 
 pub returns : goal.returns
-returns c = let a = c.args in
-    let e = c.error_of in
-    let m = c.refuse-missing in
-    let f = c.onlink_flag-onlink in
-    let o = c.refuse-2 in
-    let u = c.refuse-3 in
-    let k = c.first_of-2 in
-    let n = c.first_of-3 in
-    λ l h. c.settle-2.ensures ∙ reach-device a.q.now a.local_listed a.default_listed l e.result e.ensures c.if-error_of-ne0.false c.if-q-gt-SCOPE_HOST.false m.result m.ensures c.if-q-eq-SCOPE_HOST.false c.if-gatewayed.false f.result o.result u.result k.result n.result f.ensures o.ensures u.ensures k.ensures n.ensures
+returns c = λ l h. c.settle-2.ensures ∙ reach-device c.args.q.now c.args.local_listed c.args.default_listed l c.error_of.result c.error_of.ensures c.if-error_of-ne0.false c.if-q-gt-SCOPE_HOST.false c.refuse-missing.result c.refuse-missing.ensures c.if-q-eq-SCOPE_HOST.false c.if-gatewayed.false c.onlink_flag-onlink.result c.refuse-2.result c.refuse-3.result c.first_of-2.result c.first_of-3.result c.onlink_flag-onlink.ensures c.refuse-2.ensures c.refuse-3.ensures c.first_of-2.ensures c.first_of-3.ensures

@@ -6,5 +6,4 @@ use borrow.Author.Rules.{rules}
 use Rattle.request_gateway.proofs.reached_at.Goals as goal
 
 pub returns : goal.returns
-returns c = let a = c.args in
-    λ l h. c.row_reached.ensures ∙ reached-row a.rows.now a.n c.requires.0 l h a.i c.requires.2 a.q.now
+returns c = λ l h. c.row_reached.ensures ∙ reached-row c.args.rows.now c.args.n c.requires.0 l h c.args.i c.requires.2 c.args.q.now

@@ -6,9 +6,7 @@ use borrow.Author.Rules.{rules}
 use Rattle.request_gateway.proofs.usable_at.Goals as goal
 
 pub returns-then-n-place : goal.returns-then-n-place
-returns-then-n-place c = let a = c.args in
-    ((λ e. absurd (false≢true e)), λ l h. unusable a.rows.now a.n c.requires l h a.place c.if-n-place.true)
+returns-then-n-place c = record { place_lt_n = (λ e. absurd (false≢true e)); value = λ l h. unusable c.args.rows.now c.args.n c.requires l h c.args.place c.if-n-place.true }
 
 pub returns : goal.returns
-returns c = let a = c.args in
-    ((λ e. c.if-n-place.false), λ l h. usable-row a.rows.now a.n c.requires l h a.place c.if-n-place.false c.error_of.result c.error_of.ensures)
+returns c = record { place_lt_n = (λ e. c.if-n-place.false); value = λ l h. usable-row c.args.rows.now c.args.n c.requires l h c.args.place c.if-n-place.false c.error_of.result c.error_of.ensures }

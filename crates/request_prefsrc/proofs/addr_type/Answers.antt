@@ -6,5 +6,4 @@ use borrow.Author.Rules.{rules}
 use Rattle.request_prefsrc.proofs.addr_type.Goals as goal
 
 pub returns : goal.returns
-returns c = let a = c.args in
-    λ l h. c.addr_type4.ensures l h ∙ type-by a.listed c.type_set-set.result a.t l a.ip c.type_set-set.ensures
+returns c = λ l h. c.addr_type4.ensures l h ∙ type-by c.args.listed c.type_set-set.result c.args.t l c.args.ip c.type_set-set.ensures

@@ -20,22 +20,22 @@ loop-i-init c = (search rules, λ l h. omega arith)
 
 pub selects-requires : goal.selects-requires
 selects-requires c = let a = c.args in
-    (c.requires.1.0, c.requires.1.1, part-width a.rows.now a.n (lit< tt) c.requires.0.0 c.requires.0.1 c.loop-i.i c.loop-i-test.true, c.table_named-t.ensures)
+    (c.requires.q_len.0, c.requires.q_len.1, part-width a.rows.now a.n (lit< tt) c.requires.rows_len.0 c.requires.rows_len.1 c.loop-i.i c.loop-i-test.true, c.table_named-t.ensures)
 
 pub returns-then-selects : goal.returns-then-selects
 returns-then-selects c = let a = c.args in (
       omega arith,
-      λ l h. find_here a.rows.now a.n (lit< tt) c.requires.0.0 (selects a.q.now) l h c.loop-i.i (c.loop-i.invariant.1 l h) c.loop-i-test.true (sym c.selects.ensures ∙ c.if-selects.true),
+      λ l h. find_here a.rows.now a.n (lit< tt) c.requires.rows_len.0 (selects a.q.now) l h c.loop-i.i (c.loop-i.invariant.1 l h) c.loop-i-test.true (sym c.selects.ensures ∙ c.if-selects.true),
     )
 
 pub loop-i-preserved : goal.loop-i-preserved
 loop-i-preserved c = let a = c.args in (
       omega arith,
-      λ l h. find_past a.rows.now a.n (lit< tt) c.requires.0.0 (selects a.q.now) l h c.loop-i.i (c.loop-i.invariant.1 l h) c.loop-i-test.true (sym c.selects.ensures ∙ c.if-selects.false),
+      λ l h. find_past a.rows.now a.n (lit< tt) c.requires.rows_len.0 (selects a.q.now) l h c.loop-i.i (c.loop-i.invariant.1 l h) c.loop-i-test.true (sym c.selects.ensures ∙ c.if-selects.false),
     )
 
 pub returns : goal.returns
 returns c = let a = c.args in (
       omega arith,
-      λ l h. find_end a.rows.now a.n (lit< tt) c.requires.0.0 (selects a.q.now) l h c.loop-i.i (c.loop-i.invariant.1 l h) c.loop-i.invariant.0 c.loop-i-test.false,
+      λ l h. find_end a.rows.now a.n (lit< tt) c.requires.rows_len.0 (selects a.q.now) l h c.loop-i.i (c.loop-i.invariant.1 l h) c.loop-i.invariant.0 c.loop-i-test.false,
     )

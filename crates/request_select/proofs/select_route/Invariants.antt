@@ -16,9 +16,9 @@ use borrow.Author.Rules.{rules}
 use Rattle.request_select.proofs.select_route.Given as goal
 
 abbrev pub invariant-loop-i : goal.invariant-loop-i
-invariant-loop-i l =
-    (l.i ≤ l.n)
-    × ((l : List Row) → Laid 32 fit_route l.rows l → place_of (selects l.q) l ≡ l.i + place_of (selects l.q) (drop l.i l))
+invariant-loop-i turn =
+    (turn.i ≤ turn.n)
+    × ((l : List Row) → Laid 32 fit_route turn.rows l → place_of (selects turn.q) l ≡ turn.i + place_of (selects turn.q) (drop turn.i l))
 
 abbrev pub decreases-loop-i : goal.decreases-loop-i
 decreases-loop-i l = l.n - l.i

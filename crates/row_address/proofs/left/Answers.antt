@@ -11,9 +11,11 @@ v4_of-requires c = length-address c.args.row.now (sym c.fit_address.ensures ∙ 
 
 pub returns-then-fit_address : goal.returns-then-fit_address
 returns-then-fit_address c =
-    left-answered c.args.row.now c.args.clock c.v4_of.result c.left-left.result
-    (sym c.fit_address.ensures ∙ c.if-fit_address.true) c.v4_of.ensures c.left-left.ensures
+     let both = left-answered c.args.row.now c.args.clock c.v4_of.result c.left-left.result
+    (sym c.fit_address.ensures ∙ c.if-fit_address.true) c.v4_of.ensures c.left-left.ensures in
+    record { value = both.0; result_value = both.1 }
 
 pub returns : goal.returns
 returns c =
-    left-refused c.args.row.now c.args.clock (sym c.fit_address.ensures ∙ c.if-fit_address.false)
+     let both = left-refused c.args.row.now c.args.clock (sym c.fit_address.ensures ∙ c.if-fit_address.false) in
+    record { value = both.0; result_value = both.1 }

@@ -10,7 +10,4 @@ v4_of-requires c = length-address c.args.row.now c.requires
 
 pub returns : goal.returns
 returns c =
-    (
-      c.v4_of.ensures,
-      ap row_of c.v4_of.ensures ∙ row-again c.args.row.now c.requires (c.shared_slice_known-1.given 16).fits (c.shared_slice_known-1.given 18).fits,
-    )
+    record { value = c.v4_of.ensures; result_value = ap row_of c.v4_of.ensures ∙ row-again c.args.row.now c.requires (c.shared_slice_known-1.given 16).fits (c.shared_slice_known-1.given 18).fits }

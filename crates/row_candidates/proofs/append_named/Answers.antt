@@ -9,12 +9,8 @@ use Rattle.row_candidates.proofs.append_named.Goals as goal
 
 pub returns-then-not-names_broadcast : goal.returns-then-not-names_broadcast
 returns-then-not-names_broadcast c =
-    let a = c.args in
-    let x = a.a.now in
-    ((omega arith, omega arith), append_none (names_broadcast x) (kernel_route (get_or x 4 0) 32 0 3 a.source) a.k a.out.now (sym c.names_broadcast.ensures ∙ not-true c.names_broadcast.result c.if-not-names_broadcast.true))
+    record { lower_bound = (omega arith, omega arith); appended = append_none (names_broadcast c.args.a.now) (kernel_route (get_or c.args.a.now 4 0) 32 0 3 c.args.source) c.args.k c.args.out.now (sym c.names_broadcast.ensures ∙ c.if-not-names_broadcast.true) }
 
 pub returns : goal.returns
 returns c =
-    let a = c.args in
-    let x = a.a.now in
-    ((omega arith, omega arith), append_one (names_broadcast x) (kernel_route (get_or x 4 0) 32 0 3 a.source) a.k a.out.now (sym c.names_broadcast.ensures ∙ not-false c.names_broadcast.result c.if-not-names_broadcast.false) c.kernel_route.ensures)
+    record { lower_bound = (omega arith, omega arith); appended = append_one (names_broadcast c.args.a.now) (kernel_route (get_or c.args.a.now 4 0) 32 0 3 c.args.source) c.args.k c.args.out.now (sym c.names_broadcast.ensures ∙ c.if-not-names_broadcast.false) c.kernel_route.ensures }

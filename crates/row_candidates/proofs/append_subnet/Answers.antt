@@ -13,12 +13,8 @@ use Rattle.row_candidates.proofs.append_subnet.Goals as goal
 
 pub returns-then-not-has_broadcast_routes : goal.returns-then-not-has_broadcast_routes
 returns-then-not-has_broadcast_routes c =
-    let a = c.args in
-    let x = a.a.now in
-    ((omega arith, omega arith), append_none (has_broadcast_routes x) (kernel_route (broadcast (get_or x 1 0) (get_or x 2 0)) 32 0 3 a.source) a.k a.out.now (sym c.has_broadcast_routes.ensures ∙ not-true c.has_broadcast_routes.result c.if-not-has_broadcast_routes.true))
+    record { lower_bound = (omega arith, omega arith); appended = append_none (has_broadcast_routes c.args.a.now) (kernel_route (broadcast (get_or c.args.a.now 1 0) (get_or c.args.a.now 2 0)) 32 0 3 c.args.source) c.args.k c.args.out.now (sym c.has_broadcast_routes.ensures ∙ c.if-not-has_broadcast_routes.true) }
 
 pub returns : goal.returns
 returns c =
-    let a = c.args in
-    let x = a.a.now in
-    ((omega arith, omega arith), append_one (has_broadcast_routes x) (kernel_route (broadcast (get_or x 1 0) (get_or x 2 0)) 32 0 3 a.source) a.k a.out.now (sym c.has_broadcast_routes.ensures ∙ not-false c.has_broadcast_routes.result c.if-not-has_broadcast_routes.false) (c.kernel_route.ensures ∙ ap (λ (d : ℕ). put (32 * a.k) (kernel_route d 32 0 3 a.source) a.out.now) c.broadcast4-last.ensures))
+    record { lower_bound = (omega arith, omega arith); appended = append_one (has_broadcast_routes c.args.a.now) (kernel_route (broadcast (get_or c.args.a.now 1 0) (get_or c.args.a.now 2 0)) 32 0 3 c.args.source) c.args.k c.args.out.now (sym c.has_broadcast_routes.ensures ∙ c.if-not-has_broadcast_routes.false) (c.kernel_route.ensures ∙ ap (λ (d : ℕ). put (32 * c.args.k) (kernel_route d 32 0 3 c.args.source) c.args.out.now) c.broadcast4-last.ensures) }

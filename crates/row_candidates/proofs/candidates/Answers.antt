@@ -6,15 +6,8 @@ use Rattle.row_candidates.proofs.candidates.Goals as goal
 
 pub returns-then-not-up : goal.returns-then-not-up
 returns-then-not-up c =
-    let a = c.args in (
-      search rules,
-      λ l h. candidates-down l a.a.now c.primary_of-source.result (c.primary_of-source.ensures l h) a.out.now c.kernel_route.ensures a.up (not-true a.up c.if-not-up.true),
-    )
+    record { lower_bound = search rules; value = λ l h. candidates-down l c.args.a.now c.primary_of-source.result (c.primary_of-source.ensures l h) c.args.out.now c.kernel_route.ensures c.args.up c.if-not-up.true }
 
 pub returns : goal.returns
 returns c =
-    let a = c.args in
-    let b = c.up_routes.ensures.0 in (
-      (omega (arith, b), omega (arith, b)),
-      λ l h. candidates-up l a.a.now c.primary_of-source.result (c.primary_of-source.ensures l h) a.out.now c.kernel_route.ensures a.up (not-false a.up c.if-not-up.false) c.requires.1.1 (omega (arith, b)) c.up_routes.ensures.1,
-    )
+    record { lower_bound = (omega (arith, c.up_routes.ensures.lower_bound), omega (arith, c.up_routes.ensures.lower_bound)); value = λ l h. candidates-up l c.args.a.now c.primary_of-source.result (c.primary_of-source.ensures l h) c.args.out.now c.kernel_route.ensures c.args.up c.if-not-up.false c.requires.in_bounds (omega (arith, c.up_routes.ensures.lower_bound)) c.up_routes.ensures.appended }

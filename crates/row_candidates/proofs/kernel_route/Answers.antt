@@ -8,6 +8,5 @@ use Rattle.row_candidates.proofs.kernel_route.Goals as goal
 
 pub returns : goal.returns
 returns c =
-    let a = c.args in
     c.store.ensures
-    ∙ ap (λ (v : List ℕ). put a.at v a.out.now) (route-words a.dst a.len a.priority a.kind a.source c.scope_of-scope.result c.scope_of-scope.ensures)
+    ∙ ap (λ (v : List ℕ). put c.args.at v c.args.out.now) (route-words c.args.dst c.args.len c.args.priority c.args.kind c.args.source c.scope_of-scope.result c.scope_of-scope.ensures)

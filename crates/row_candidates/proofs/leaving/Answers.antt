@@ -5,12 +5,6 @@ use Rattle.row_candidates.proofs.leaving.Goals as goal
 
 pub returns : goal.returns
 returns c =
-    let a = c.args in
-    let f = c.append_prefix-routed.ensures.0 in
-    let g = c.append_named-named.ensures.0 in
-    let h = c.append_subnet-last.ensures.0 in (
-      (omega arith, omega (arith, f, g, h)),
-      λ l h'.
-          leaving-written l a.a.now c.primary_of-source.result (c.primary_of-source.ensures l h') c.requires.1.1 f.1 g.1 h.1
-          c.append_prefix-routed.ensures.1 c.append_named-named.ensures.1 c.append_subnet-last.ensures.1 c.kernel_route.ensures,
-    )
+    record { lower_bound = (omega arith, omega (arith, c.append_prefix-routed.ensures.lower_bound, c.append_named-named.ensures.lower_bound, c.append_subnet-last.ensures.lower_bound)); value = λ l h'.
+          leaving-written l c.args.a.now c.primary_of-source.result (c.primary_of-source.ensures l h') c.requires.in_bounds c.append_prefix-routed.ensures.lower_bound.1 c.append_named-named.ensures.lower_bound.1 c.append_subnet-last.ensures.lower_bound.1
+          c.append_prefix-routed.ensures.appended c.append_named-named.ensures.appended c.append_subnet-last.ensures.appended c.kernel_route.ensures }

@@ -8,6 +8,5 @@ use Rattle.row_candidates.proofs.prefix_route4.Goals as goal
 
 pub returns : goal.returns
 returns c =
-    let a = c.args in
     c.kernel_route.ensures
-    ∙ ap (λ (d : ℕ). put a.at (kernel_route d (get_or a.a.now 2 0) a.priority 2 a.source) a.out.now) c.network4-network.ensures
+    ∙ ap (λ (d : ℕ). put c.args.at (kernel_route d (get_or c.args.a.now 2 0) c.args.priority 2 c.args.source) c.args.out.now) c.network4-network.ensures

@@ -5,9 +5,4 @@ use Rattle.row_candidates.proofs.up_routes.Goals as goal
 
 pub returns : goal.returns
 returns c =
-    let f = c.append_named-named.ensures.0 in
-    let g = c.append_prefix-routed.ensures.0 in
-    let h = c.append_subnet.ensures.0 in (
-      (omega (arith, f, g, h), omega (arith, f, g, h)),
-      up-written c.args.source c.args.a.now c.requires.0 f.1 g.1 h.1 c.append_named-named.ensures.1 c.append_prefix-routed.ensures.1 c.append_subnet.ensures.1,
-    )
+    record { lower_bound = (omega (arith, c.append_named-named.ensures.lower_bound, c.append_prefix-routed.ensures.lower_bound, c.append_subnet.ensures.lower_bound), omega (arith, c.append_named-named.ensures.lower_bound, c.append_prefix-routed.ensures.lower_bound, c.append_subnet.ensures.lower_bound)); appended = up-written c.args.source c.args.a.now c.requires.k_in_bounds c.append_named-named.ensures.lower_bound.1 c.append_prefix-routed.ensures.lower_bound.1 c.append_subnet.ensures.lower_bound.1 c.append_named-named.ensures.appended c.append_prefix-routed.ensures.appended c.append_subnet.ensures.appended }

@@ -6,10 +6,8 @@ use Rattle.row_route.proofs.before.Goals as goal
 
 pub returns-then-a-b : goal.returns-then-a-b
 returns-then-a-b c =
-    let at-if1 = c.if-a-b in
-    before-other c.args.a.now c.args.b.now at-if1.true
+    before-other c.args.a.now c.args.b.now c.if-a-b.true
 
 pub returns : goal.returns
 returns c =
-    let at-if1 = c.if-a-b in
-    before_same c.args.a.now c.args.b.now at-if1.false
+    before_same c.args.a.now c.args.b.now c.if-a-b.false

@@ -16,10 +16,4 @@ returns-then-r-gt32 c = simp (eq-eqb _ _ c.if-r-ne-ROUTE_WORDS.false, lt-leb _ _
 
 pub returns : goal.returns
 returns c =
-    let at-if1 = c.if-r-ne-ROUTE_WORDS in
-    let at-if2 = c.if-r-gt32 in
-    let at-no-host-bits = c.no_host_bits in
-    let at-is-kind = c.is_kind in
-    let at-fit-optional = c.fit_optional in
-    let at-fit-optional2 = c.fit_optional-2 in
-    fit-tests c.args.r.now at-if1.false at-if2.false at-no-host-bits.ensures at-is-kind.ensures at-fit-optional.ensures at-fit-optional2.ensures
+    fit-tests c.args.r.now c.if-r-ne-ROUTE_WORDS.false c.if-r-gt32.false c.no_host_bits.ensures c.is_kind.ensures c.fit_optional.ensures c.fit_optional-2.ensures

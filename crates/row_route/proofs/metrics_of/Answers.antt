@@ -9,6 +9,5 @@ use Rattle.row_route.proofs.metrics_of.Goals as goal
 
 pub returns : goal.returns
 returns c =
-    let w = c.args.row.now in
-    let l : length w ≡ 32 = c.requires in
-    c.copy.ensures ∙ take_all 17 (drop 15 w) (rw length-drop (omega arith))
+    let l : length c.args.row.now ≡ 32 = c.requires in
+    c.copy.ensures ∙ take_all 17 (drop 15 c.args.row.now) (rw length-drop (omega arith))

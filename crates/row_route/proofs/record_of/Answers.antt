@@ -10,4 +10,4 @@ route4_of-requires c = length-route c.args.row.now c.requires
 
 pub returns : goal.returns
 returns c =
-    (c.route4_of.ensures, ap row_of c.route4_of.ensures ∙ row-again c.args.row.now c.requires)
+    record { value = c.route4_of.ensures; result_value = ap row_of c.route4_of.ensures ∙ row-again c.args.row.now c.requires }

@@ -20,21 +20,19 @@ loop-i-init c = (search rules, λ l h. sym (zero-add (place_of (primary_for c.ar
 
 pub primary_for-requires : goal.primary_for-requires
 primary_for-requires c =
-    (part-short c.args.addresses.now c.args.n c.requires.0.0 c.requires.0.1 c.loop-i.i c.loop-i-test.true, c.requires.1)
+    record { b_len = part-short c.args.addresses.now c.args.n c.requires.addresses_len.0 c.requires.addresses_len.1 c.loop-i.i c.loop-i-test.true; a_len = c.requires.a_len }
 
 pub returns-then-primary_for : goal.returns-then-primary_for
 returns-then-primary_for c =
-    let a = c.args in
-    λ l h. find_here a.addresses.now a.n (lit< tt) c.requires.0.0 (primary_for a.a.now) l h c.loop-i.i (c.loop-i.invariant.1 l h) c.loop-i-test.true (sym c.primary_for.ensures ∙ c.if-primary_for.true)
+    λ l h. find_here c.args.addresses.now c.args.n (lit< tt) c.requires.addresses_len.0 (primary_for c.args.a.now) l h c.loop-i.i (c.loop-i.invariant.1 l h) c.loop-i-test.true (sym c.primary_for.ensures ∙ c.if-primary_for.true)
 
 pub loop-i-preserved : goal.loop-i-preserved
 loop-i-preserved c =
-    let a = c.args in (
+    (
       omega arith,
-      λ l h. find_past a.addresses.now a.n (lit< tt) c.requires.0.0 (primary_for a.a.now) l h c.loop-i.i (c.loop-i.invariant.1 l h) c.loop-i-test.true (sym c.primary_for.ensures ∙ c.if-primary_for.false),
+      λ l h. find_past c.args.addresses.now c.args.n (lit< tt) c.requires.addresses_len.0 (primary_for c.args.a.now) l h c.loop-i.i (c.loop-i.invariant.1 l h) c.loop-i-test.true (sym c.primary_for.ensures ∙ c.if-primary_for.false),
     )
 
 pub returns : goal.returns
 returns c =
-    let a = c.args in
-    λ l h. find_end a.addresses.now a.n (lit< tt) c.requires.0.0 (primary_for a.a.now) l h c.loop-i.i (c.loop-i.invariant.1 l h) c.loop-i.invariant.0 c.loop-i-test.false
+    λ l h. find_end c.args.addresses.now c.args.n (lit< tt) c.requires.addresses_len.0 (primary_for c.args.a.now) l h c.loop-i.i (c.loop-i.invariant.1 l h) c.loop-i.invariant.0 c.loop-i-test.false

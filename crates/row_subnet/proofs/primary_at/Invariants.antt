@@ -16,8 +16,8 @@ use borrow.Author.Rules.{rules}
 use Rattle.row_subnet.proofs.primary_at.Given as goal
 
 abbrev pub invariant-loop-i : goal.invariant-loop-i
-invariant-loop-i l =
-    (l.i ≤ l.n) × ((l : List Row) → Laid 20 fit_address l.addresses l → place_of (primary_for l.a) l ≡ l.i + place_of (primary_for l.a) (drop l.i l))
+invariant-loop-i turn =
+    (turn.i ≤ turn.n) × ((l : List Row) → Laid 20 fit_address turn.addresses l → place_of (primary_for turn.a) l ≡ turn.i + place_of (primary_for turn.a) (drop turn.i l))
 
 abbrev pub decreases-loop-i : goal.decreases-loop-i
 decreases-loop-i l = l.n - l.i

@@ -8,5 +8,4 @@ use Rattle.row_update.proofs.as_secondary.Goals as goal
 
 pub returns : goal.returns
 returns c =
-    let a = c.args in
-    c.flagged.ensures ∙ ap (λ (v : List ℕ). put 0 v a.out.now) (secondary-row a.a.now c.second.result c.second.ensures)
+    c.flagged.ensures ∙ ap (λ (v : List ℕ). put 0 v c.args.out.now) (secondary-row c.args.a.now c.second.result c.second.ensures)

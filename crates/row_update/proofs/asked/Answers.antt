@@ -9,12 +9,11 @@ use Rattle.row_update.proofs.asked.Goals as goal
 
 pub rewritten-requires : goal.rewritten-requires
 rewritten-requires c =
-    (c.requires.1, omega (arith, c.requires.0))
+    record { in_bounds = c.requires.in_bounds; in_bounds_2 = omega (arith, c.requires.q_len) }
 
 pub returns : goal.returns
 returns c =
-    let a = c.args in
     c.rewritten.ensures
-    ∙ ap (λ (v : List ℕ). put 0 v a.out.now)
-    (asked-row a.q.now a.clock.0 c.as_primary.result c.life_flags-flags.result c.set-new.result c.requires.0 c.as_primary.ensures c.life_flags-flags.ensures
-    (set_life_lem c.set-new.result _ _ a.clock.0 _ _ c.set-new.ensures c.lifetimes.ensures c.begun.ensures))
+    ∙ ap (λ (v : List ℕ). put 0 v c.args.out.now)
+    (asked-row c.args.q.now c.args.clock.0 c.as_primary.result c.life_flags-flags.result c.set-new.result c.requires.q_len c.as_primary.ensures c.life_flags-flags.ensures
+    (set_life_lem c.set-new.result _ _ c.args.clock.0 _ _ c.set-new.ensures c.lifetimes.ensures c.begun.ensures))

@@ -9,12 +9,11 @@ use Rattle.row_update.proofs.changed_to.Goals as goal
 
 pub rewritten-requires : goal.rewritten-requires
 rewritten-requires c =
-    (c.requires.1.1, omega (arith, c.requires.1.0))
+    record { in_bounds = c.requires.in_bounds; in_bounds_2 = omega (arith, c.requires.len) }
 
 pub returns : goal.returns
 returns c =
-    let a = c.args in
     c.rewritten.ensures
-    ∙ ap (λ (v : List ℕ). put 0 v a.out.now)
-    (changed_row a.old.now c.requires.1.0 (omega (arith, c.shared_slice_known-2-1.given 16)) a.q.now a.clock.0 c.life_flags-flags.result c.set-new.result c.life_flags-flags.ensures
-    (set_life_lem c.set-new.result _ _ a.clock.0 _ _ c.set-new.ensures c.lifetimes.ensures c.life_of.ensures))
+    ∙ ap (λ (v : List ℕ). put 0 v c.args.out.now)
+    (changed_row c.args.old.now c.requires.len (omega (arith, c.shared_slice_known-2-1.given 16)) c.args.q.now c.args.clock.0 c.life_flags-flags.result c.set-new.result c.life_flags-flags.ensures
+    (set_life_lem c.set-new.result _ _ c.args.clock.0 _ _ c.set-new.ensures c.lifetimes.ensures c.life_of.ensures))

@@ -8,5 +8,4 @@ use Rattle.row_update.proofs.deprecate.Goals as goal
 
 pub returns : goal.returns
 returns c =
-    let a = c.args in
-    c.flagged.ensures ∙ ap (λ (v : List ℕ). put 0 v a.out.now) (deprecate-row a.a.now c.deprecated.result c.deprecated.ensures)
+    c.flagged.ensures ∙ ap (λ (v : List ℕ). put 0 v c.args.out.now) (deprecate-row c.args.a.now c.deprecated.result c.deprecated.ensures)

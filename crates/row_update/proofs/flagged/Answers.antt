@@ -9,7 +9,6 @@ use Rattle.row_update.proofs.flagged.Goals as goal
 
 pub returns : goal.returns
 returns c =
-    let a = c.args in
     c.rewritten.ensures
-    ∙ ap (λ (v : List ℕ). put 0 v a.out.now)
-    (flagged_row a.a.now c.requires.0 (omega (arith, c.shared_slice_known-1.given 16)) a.flags c.life_of.result (omega (arith, c.shared_slice_known-1.given 18)) c.life_of.ensures)
+    ∙ ap (λ (v : List ℕ). put 0 v c.args.out.now)
+    (flagged_row c.args.a.now c.requires.a_len (omega (arith, c.shared_slice_known-1.given 16)) c.args.flags c.life_of.result (omega (arith, c.shared_slice_known-1.given 18)) c.life_of.ensures)

@@ -9,9 +9,8 @@ use Rattle.row_update.proofs.rewritten.Goals as goal
 
 pub returns : goal.returns
 returns c =
-    let a = c.args in
     c.store.ensures
-    ∙ ap (λ (v : List ℕ). put 0 v a.out.now)
-    (rewritten-words a.a.now a.flags a.proto a.priority a.life
-    c.low-made_low.result c.high-made_high.result c.low-set_low.result c.high-set_high.result (omega (arith, c.requires.1))
+    ∙ ap (λ (v : List ℕ). put 0 v c.args.out.now)
+    (rewritten-words c.args.a.now c.args.flags c.args.proto c.args.priority c.args.life
+    c.low-made_low.result c.high-made_high.result c.low-set_low.result c.high-set_high.result (omega (arith, c.requires.in_bounds_2))
     c.low-made_low.ensures c.high-made_high.ensures c.low-set_low.ensures c.high-set_high.ensures)

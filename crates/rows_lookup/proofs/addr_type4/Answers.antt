@@ -5,27 +5,24 @@ use borrow.Author.Rules.{rules}
 use Rattle.rows_lookup.proofs.addr_type4.Goals as goal
 
 pub returns-then-not-listed : goal.returns-then-not-listed
-returns-then-not-listed c = λ l h. rw (not-true c.args.listed c.if-not-listed.true)
+returns-then-not-listed c = λ l h. rw c.if-not-listed.true
 
 pub returns-then-n-place : goal.returns-then-n-place
 returns-then-n-place c =
-    let a = c.args in
     λ l h.
-    rw (not-false a.listed c.if-not-listed.false)
-    (type-none a.rows.now a.n c.requires.0 l h (set_of a.set) a.ip c.table_lookup4-place.result (c.table_lookup4-place.ensures l h) c.if-n-place.true)
+    rw c.if-not-listed.false
+    (type-none c.args.rows.now c.args.n c.requires.0 l h (set_of c.args.set) c.args.ip c.table_lookup4-place.result (c.table_lookup4-place.ensures l h) c.if-n-place.true)
 
 pub returns-then-error_of-ne0 : goal.returns-then-error_of-ne0
 returns-then-error_of-ne0 c =
-    let a = c.args in
     λ l h.
-    rw (not-false a.listed c.if-not-listed.false)
-    (type-rejects a.rows.now a.n c.requires.0 l h (set_of a.set) a.ip c.table_lookup4-place.result (c.table_lookup4-place.ensures l h)
+    rw c.if-not-listed.false
+    (type-rejects c.args.rows.now c.args.n c.requires.0 l h (set_of c.args.set) c.args.ip c.table_lookup4-place.result (c.table_lookup4-place.ensures l h)
     c.if-n-place.false c.error_of.result c.error_of.ensures c.if-error_of-ne0.true)
 
 pub returns : goal.returns
 returns c =
-    let a = c.args in
     λ l h.
-    rw (not-false a.listed c.if-not-listed.false)
-    (type-kind a.rows.now a.n c.requires.0 l h (set_of a.set) a.ip c.table_lookup4-place.result (c.table_lookup4-place.ensures l h)
+    rw c.if-not-listed.false
+    (type-kind c.args.rows.now c.args.n c.requires.0 l h (set_of c.args.set) c.args.ip c.table_lookup4-place.result (c.table_lookup4-place.ensures l h)
     c.if-n-place.false c.error_of.result c.error_of.ensures c.if-error_of-ne0.false)

@@ -5,12 +5,10 @@ use Rattle.rows_lookup.proofs.fits.Goals as goal
 
 pub returns-then-r-network4 : goal.returns-then-r-network4
 returns-then-r-network4 c =
-    let a = c.args in
-    fits_far (flow_of a.f) a.r.now c.network4.result c.network4.ensures c.if-r-network4.true
+    fits_far (flow_of c.args.f) c.args.r.now c.network4.result c.network4.ensures c.if-r-network4.true
 
 pub returns : goal.returns
 returns c =
-    let a = c.args in
-    fits-near (flow_of a.f) a.r.now c.network4.result c.network4.ensures
+    fits-near (flow_of c.args.f) c.args.r.now c.network4.result c.network4.ensures
     c.flow_tos-tos.result c.error_of-error.result
     c.if-r-network4.false c.flow_tos-tos.ensures c.error_of-error.ensures

@@ -19,8 +19,7 @@ use Rattle.rows_lookup.proofs.table_lookup4.Goals as goal
 
 pub loop-i-init : goal.loop-i-init
 loop-i-init c =
-    let a = c.args in
-    (search rules, λ l h. pass-start a.rows.now a.n c.requires.0 (passing a.set a.f) l h)
+    (search rules, λ l h. pass-start c.args.rows.now c.args.n c.requires.0 (passing c.args.set c.args.f) l h)
 
 pub better-requires : goal.better-requires
 better-requires c =
@@ -33,17 +32,15 @@ overflow_add-least c =
 
 pub loop-i-preserved : goal.loop-i-preserved
 loop-i-preserved c =
-    let a = c.args in
-    let better = c.better.ensures in
-    let taken = c.loop-i-test.true in (
+    (
       omega arith,
       λ l h.
           let sofar = c.loop-i.invariant.1 l h in
           ⊎_elim
           (λ w.
-          rw (w.2, w.3) (pass_taken a.rows.now a.n c.requires.0 (passing a.set a.f) l h c.loop-i.i c.loop-i.best c.loop-i.least taken sofar (sym better ∙ w.0.taken)))
+          rw (w.2, w.3) (pass_taken c.args.rows.now c.args.n c.requires.0 (passing c.args.set c.args.f) l h c.loop-i.i c.loop-i.best c.loop-i.least c.loop-i-test.true sofar (sym c.better.ensures ∙ w.0.taken)))
           (λ w.
-          rw (w.1, w.2) (pass-stays a.rows.now a.n c.requires.0 (passing a.set a.f) l h c.loop-i.i c.loop-i.best c.loop-i.least taken sofar (sym better ∙ w.0.left)))
+          rw (w.1, w.2) (pass-stays c.args.rows.now c.args.n c.requires.0 (passing c.args.set c.args.f) l h c.loop-i.i c.loop-i.best c.loop-i.least c.loop-i-test.true sofar (sym c.better.ensures ∙ w.0.left)))
           c.if-better.branch,
     )
 

@@ -20,9 +20,9 @@ abbrev pub passing : Tables → Flow → Row → Bool
 passing set f r = set_of set (table r) && fits (flow_of f) r
 
 abbrev pub invariant-loop-i : goal.invariant-loop-i
-invariant-loop-i l =
-    (l.i ≤ l.n)
-    × ((l : List Row) → Laid 32 fit_route l.rows l → Best (passing l.set l.f) l l.i l.best l.least)
+invariant-loop-i turn =
+    (turn.i ≤ turn.n)
+    × ((l : List Row) → Laid 32 fit_route turn.rows l → Best (passing turn.set turn.f) l turn.i turn.best turn.least)
 
 abbrev pub decreases-loop-i : goal.decreases-loop-i
 decreases-loop-i l = l.n - l.i

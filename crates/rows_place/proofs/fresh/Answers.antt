@@ -6,16 +6,8 @@ use Rattle.rows_place.proofs.fresh.Goals as goal
 
 pub returns-then-not-second : goal.returns-then-not-second
 returns-then-not-second c =
-    let a = c.args in
-    let f = c.requires.1.0 in (
-      fit-row-asked a.q.now a.clock.0 f.0 f.1 a.out.now c.requires.1.1 c.asked.ensures,
-      λ l h. row_fresh a.q.now a.clock.0 f.0 f.1 a.out.now c.requires.1.1 c.asked.ensures l c.in_subnet-second.result (c.in_subnet-second.ensures l h) (not-true c.in_subnet-second.result c.if-not-second.true),
-    )
+    record { out_after = fit-row-asked c.args.q.now c.args.clock.0 c.requires.q_len.0 c.requires.q_len.1 c.args.out.now c.requires.out_len c.asked.ensures; out_after_2 = λ l h. row_fresh c.args.q.now c.args.clock.0 c.requires.q_len.0 c.requires.q_len.1 c.args.out.now c.requires.out_len c.asked.ensures l c.in_subnet-second.result (c.in_subnet-second.ensures l h) c.if-not-second.true }
 
 pub returns : goal.returns
 returns c =
-    let a = c.args in
-    let f = c.requires.1.0 in (
-      fit-row-second a.q.now a.clock.0 f.0 f.1 _ refl c.asked-2.ensures a.out.now c.requires.1.1 c.as_secondary.ensures,
-      λ l h. row-second a.q.now a.clock.0 f.0 f.1 _ refl c.asked-2.ensures a.out.now c.requires.1.1 c.as_secondary.ensures l c.in_subnet-second.result (c.in_subnet-second.ensures l h) (not-false c.in_subnet-second.result c.if-not-second.false),
-    )
+    record { out_after = fit-row-second c.args.q.now c.args.clock.0 c.requires.q_len.0 c.requires.q_len.1 _ refl c.asked-2.ensures c.args.out.now c.requires.out_len c.as_secondary.ensures; out_after_2 = λ l h. row-second c.args.q.now c.args.clock.0 c.requires.q_len.0 c.requires.q_len.1 _ refl c.asked-2.ensures c.args.out.now c.requires.out_len c.as_secondary.ensures l c.in_subnet-second.result (c.in_subnet-second.ensures l h) c.if-not-second.false }

@@ -18,19 +18,16 @@ loop-i-init c = (search rules, λ l h. refl)
 
 pub same_subnet-requires : goal.same_subnet-requires
 same_subnet-requires c =
-    (part-short c.args.addresses.now c.args.n c.requires.0.0 c.requires.0.1 c.loop-i.i c.loop-i-test.true, c.requires.1)
+    record { a_len = part-short c.args.addresses.now c.args.n c.requires.addresses_len.0 c.requires.addresses_len.1 c.loop-i.i c.loop-i-test.true; in_bounds = c.requires.in_bounds }
 
 pub returns-then-same_subnet : goal.returns-then-same_subnet
 returns-then-same_subnet c =
-    let a = c.args in
-    λ l h. some-here a.addresses.now a.n (lit< tt) c.requires.0.0 (λ old. same_subnet old a.q.now) l h c.loop-i.i (c.loop-i.invariant.1 l h) c.loop-i-test.true (sym c.same_subnet.ensures ∙ c.if-same_subnet.true)
+    λ l h. some-here c.args.addresses.now c.args.n (lit< tt) c.requires.addresses_len.0 (λ old. same_subnet old c.args.q.now) l h c.loop-i.i (c.loop-i.invariant.1 l h) c.loop-i-test.true (sym c.same_subnet.ensures ∙ c.if-same_subnet.true)
 
 pub loop-i-preserved : goal.loop-i-preserved
 loop-i-preserved c =
-    let a = c.args in
-    (omega arith, λ l h. some-past a.addresses.now a.n (lit< tt) c.requires.0.0 (λ old. same_subnet old a.q.now) l h c.loop-i.i (c.loop-i.invariant.1 l h) c.loop-i-test.true (sym c.same_subnet.ensures ∙ c.if-same_subnet.false))
+    (omega arith, λ l h. some-past c.args.addresses.now c.args.n (lit< tt) c.requires.addresses_len.0 (λ old. same_subnet old c.args.q.now) l h c.loop-i.i (c.loop-i.invariant.1 l h) c.loop-i-test.true (sym c.same_subnet.ensures ∙ c.if-same_subnet.false))
 
 pub returns : goal.returns
 returns c =
-    let a = c.args in
-    λ l h. some_end a.addresses.now a.n (lit< tt) c.requires.0.0 (λ old. same_subnet old a.q.now) l h c.loop-i.i (c.loop-i.invariant.1 l h) c.loop-i-test.false
+    λ l h. some_end c.args.addresses.now c.args.n (lit< tt) c.requires.addresses_len.0 (λ old. same_subnet old c.args.q.now) l h c.loop-i.i (c.loop-i.invariant.1 l h) c.loop-i-test.false

@@ -14,8 +14,8 @@ use borrow.Author.Rules.{rules}
 use Rattle.rows_place.proofs.in_subnet.Given as goal
 
 abbrev pub invariant-loop-i : goal.invariant-loop-i
-invariant-loop-i l =
-    (l.i ≤ l.n) × ((l : List Row) → Laid 20 fit_address l.addresses l → any (λ old. same_subnet old l.q) l ≡ any (λ old. same_subnet old l.q) (drop l.i l))
+invariant-loop-i turn =
+    (turn.i ≤ turn.n) × ((l : List Row) → Laid 20 fit_address turn.addresses l → any (λ old. same_subnet old turn.q) l ≡ any (λ old. same_subnet old turn.q) (drop turn.i l))
 
 abbrev pub decreases-loop-i : goal.decreases-loop-i
 decreases-loop-i l = l.n - l.i

@@ -15,8 +15,8 @@ use borrow.Author.Rules.{rules}
 use Rattle.rows_place.proofs.place4.Given as goal
 
 abbrev pub invariant-loop-i : goal.invariant-loop-i
-invariant-loop-i l =
-    (l.i ≤ l.n) × ((l : List Row) → Laid 20 fit_address l.addresses l → l.place ≡ behind_of (yields l.new) (take l.i l))
+invariant-loop-i turn =
+    (turn.i ≤ turn.n) × ((l : List Row) → Laid 20 fit_address turn.addresses l → turn.place ≡ behind_of (yields turn.new) (take turn.i l))
 
 abbrev pub decreases-loop-i : goal.decreases-loop-i
 decreases-loop-i l = l.n - l.i

@@ -20,19 +20,16 @@ loop-i-init c = (search rules, λ l h. sym (zero-add (place_of (same_address c.a
 
 pub same_address-requires : goal.same_address-requires
 same_address-requires c =
-    (c.requires.1, part-short c.args.addresses.now c.args.n c.requires.0.0 c.requires.0.1 c.loop-i.i c.loop-i-test.true)
+    record { in_bounds = c.requires.in_bounds; len = part-short c.args.addresses.now c.args.n c.requires.addresses_len.0 c.requires.addresses_len.1 c.loop-i.i c.loop-i-test.true }
 
 pub returns-then-same_address : goal.returns-then-same_address
 returns-then-same_address c =
-    let a = c.args in
-    (search rules, λ l h. find_here a.addresses.now a.n (lit< tt) c.requires.0.0 (same_address a.q.now) l h c.loop-i.i (c.loop-i.invariant.1 l h) c.loop-i-test.true (sym c.same_address.ensures ∙ c.if-same_address.true))
+    record { upper_bound = search rules; value = λ l h. find_here c.args.addresses.now c.args.n (lit< tt) c.requires.addresses_len.0 (same_address c.args.q.now) l h c.loop-i.i (c.loop-i.invariant.1 l h) c.loop-i-test.true (sym c.same_address.ensures ∙ c.if-same_address.true) }
 
 pub loop-i-preserved : goal.loop-i-preserved
 loop-i-preserved c =
-    let a = c.args in
-    (omega arith, λ l h. find_past a.addresses.now a.n (lit< tt) c.requires.0.0 (same_address a.q.now) l h c.loop-i.i (c.loop-i.invariant.1 l h) c.loop-i-test.true (sym c.same_address.ensures ∙ c.if-same_address.false))
+    (omega arith, λ l h. find_past c.args.addresses.now c.args.n (lit< tt) c.requires.addresses_len.0 (same_address c.args.q.now) l h c.loop-i.i (c.loop-i.invariant.1 l h) c.loop-i-test.true (sym c.same_address.ensures ∙ c.if-same_address.false))
 
 pub returns : goal.returns
 returns c =
-    let a = c.args in
-    (search rules, λ l h. find_end a.addresses.now a.n (lit< tt) c.requires.0.0 (same_address a.q.now) l h c.loop-i.i (c.loop-i.invariant.1 l h) c.loop-i.invariant.0 c.loop-i-test.false)
+    record { upper_bound = search rules; value = λ l h. find_end c.args.addresses.now c.args.n (lit< tt) c.requires.addresses_len.0 (same_address c.args.q.now) l h c.loop-i.i (c.loop-i.invariant.1 l h) c.loop-i.invariant.0 c.loop-i-test.false }

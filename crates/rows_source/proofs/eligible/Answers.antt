@@ -4,5 +4,4 @@ use Rattle.rows_source.proofs.eligible.Goals as goal
 
 pub returns : goal.returns
 returns c =
-    let a = c.args in
-    eligible-test a.scope a.a.now
+    eligible-test c.args.scope c.args.a.now

@@ -14,8 +14,7 @@ use Rattle.rows_source.proofs.select4.Goals as goal
 
 pub loop-i-init : goal.loop-i-init
 loop-i-init c =
-    let a = c.args in
-    (search rules, search rules, λ long l h. select_start a.addresses.now a.n long (wanted a.dst_present a.dst) a.scope l h)
+    (search rules, search rules, λ long l h. select_start c.args.addresses.now c.args.n long (wanted c.args.dst_present c.args.dst) c.args.scope l h)
 
 pub eligible-fit-requires : goal.eligible-fit-requires
 eligible-fit-requires c =
@@ -27,27 +26,26 @@ reaches-near-requires c =
 
 pub returns-then-fit-near : goal.returns-then-fit-near
 returns-then-fit-near c =
-    let a = c.args in
     λ l h.
-    select_found a.addresses.now a.n c.requires.0 (wanted a.dst_present a.dst) a.scope l h c.loop-i.i c.loop-i.auto
+    select_found c.args.addresses.now c.args.n c.requires.0 (wanted c.args.dst_present c.args.dst) c.args.scope l h c.loop-i.i c.loop-i.auto
     c.loop-i-test.true (c.loop-i.invariant.2 c.requires.0 l h)
     c.eligible-fit.result c.reaches-near.result c.eligible-fit.ensures c.reaches-near.ensures c.if-fit-near.true
 
 pub loop-i-preserved : goal.loop-i-preserved
 loop-i-preserved c =
-    let a = c.args in (
+    (
       omega arith,
       ⊎_elim (λ w. omega (arith, w.1)) (λ w. omega (arith, w.1)) c.if-fit-kept.branch,
       λ long l h.
           ⊎_elim
           (λ w.
           rw w.1
-          (select_kept a.addresses.now a.n long (wanted a.dst_present a.dst) a.scope l h c.loop-i.i c.loop-i.auto
+          (select_kept c.args.addresses.now c.args.n long (wanted c.args.dst_present c.args.dst) c.args.scope l h c.loop-i.i c.loop-i.auto
           c.loop-i-test.true (c.loop-i.invariant.2 long l h)
           c.eligible-fit.result c.reaches-near.result c.eligible-fit.ensures c.reaches-near.ensures c.if-fit-near.false w.0.taken))
           (λ w.
           rw w.1
-          (select_stays a.addresses.now a.n long (wanted a.dst_present a.dst) a.scope l h c.loop-i.i c.loop-i.auto
+          (select_stays c.args.addresses.now c.args.n long (wanted c.args.dst_present c.args.dst) c.args.scope l h c.loop-i.i c.loop-i.auto
           c.loop-i-test.true (c.loop-i.invariant.2 long l h)
           c.eligible-fit.result c.reaches-near.result c.eligible-fit.ensures c.reaches-near.ensures c.if-fit-near.false c.loop-i.invariant.1 w.0.left))
           c.if-fit-kept.branch,
@@ -55,14 +53,12 @@ loop-i-preserved c =
 
 pub returns-then-n-kept : goal.returns-then-n-kept
 returns-then-n-kept c =
-    let a = c.args in
     λ l h.
-    select_none a.addresses.now a.n c.requires.0 (wanted a.dst_present a.dst) a.scope l h c.loop-i.i c.loop-i.auto
+    select_none c.args.addresses.now c.args.n c.requires.0 (wanted c.args.dst_present c.args.dst) c.args.scope l h c.loop-i.i c.loop-i.auto
     c.loop-i-test.false (c.loop-i.invariant.2 c.requires.0 l h) c.if-n-kept.true
 
 pub returns : goal.returns
 returns c =
-    let a = c.args in
     λ l h.
-    select_end a.addresses.now a.n c.requires.0 (wanted a.dst_present a.dst) a.scope l h c.loop-i.i c.loop-i.auto
+    select_end c.args.addresses.now c.args.n c.requires.0 (wanted c.args.dst_present c.args.dst) c.args.scope l h c.loop-i.i c.loop-i.auto
     c.loop-i-test.false (c.loop-i.invariant.2 c.requires.0 l h) c.if-n-kept.false

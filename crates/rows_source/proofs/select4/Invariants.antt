@@ -13,10 +13,10 @@ use borrow.Author.Rules.{rules}
 use Rattle.rows_source.proofs.select4.Given as goal
 
 abbrev pub invariant-loop-i : goal.invariant-loop-i
-invariant-loop-i l =
-    (l.i ≤ l.n)
-    × (l.kept ≤ l.n)
-    × ((long : length l.addresses ≡ 20 * l.n) (l : List Row) (h : Laid 20 fit_address l.addresses l) → LoopInvariant l.addresses l.n long (wanted l.dst_present l.dst) l.scope l h l.i l.kept)
+invariant-loop-i turn =
+    (turn.i ≤ turn.n)
+    × (turn.kept ≤ turn.n)
+    × ((long : length turn.addresses ≡ 20 * turn.n) (l : List Row) (h : Laid 20 fit_address turn.addresses l) → LoopInvariant turn.addresses turn.n long (wanted turn.dst_present turn.dst) turn.scope l h turn.i turn.kept)
 
 abbrev pub decreases-loop-i : goal.decreases-loop-i
 decreases-loop-i l = l.n - l.i

@@ -22,17 +22,15 @@ dependents_from-requires c =
 
 pub returns-then-dependents_from : goal.returns-then-dependents_from
 returns-then-dependents_from c =
-    let a = c.args in
-    λ l h. some-here a.rows.now a.n (lit< tt) c.requires.0 (dependent_on a.ip) l h c.loop-i.i (c.loop-i.invariant.1 l h) c.loop-i-test.true (sym c.dependents_from.ensures ∙ c.if-dependents_from.true)
+    λ l h. some-here c.args.rows.now c.args.n (lit< tt) c.requires.0 (dependent_on c.args.ip) l h c.loop-i.i (c.loop-i.invariant.1 l h) c.loop-i-test.true (sym c.dependents_from.ensures ∙ c.if-dependents_from.true)
 
 pub loop-i-preserved : goal.loop-i-preserved
 loop-i-preserved c =
-    let a = c.args in (
+    (
       omega arith,
-      λ l h. some-past a.rows.now a.n (lit< tt) c.requires.0 (dependent_on a.ip) l h c.loop-i.i (c.loop-i.invariant.1 l h) c.loop-i-test.true (sym c.dependents_from.ensures ∙ c.if-dependents_from.false),
+      λ l h. some-past c.args.rows.now c.args.n (lit< tt) c.requires.0 (dependent_on c.args.ip) l h c.loop-i.i (c.loop-i.invariant.1 l h) c.loop-i-test.true (sym c.dependents_from.ensures ∙ c.if-dependents_from.false),
     )
 
 pub returns : goal.returns
 returns c =
-    let a = c.args in
-    λ l h. some_end a.rows.now a.n (lit< tt) c.requires.0 (dependent_on a.ip) l h c.loop-i.i (c.loop-i.invariant.1 l h) c.loop-i-test.false
+    λ l h. some_end c.args.rows.now c.args.n (lit< tt) c.requires.0 (dependent_on c.args.ip) l h c.loop-i.i (c.loop-i.invariant.1 l h) c.loop-i-test.false

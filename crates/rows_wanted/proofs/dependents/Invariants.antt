@@ -14,8 +14,8 @@ use borrow.Author.Rules.{rules}
 use Rattle.rows_wanted.proofs.dependents.Given as goal
 
 abbrev pub invariant-loop-i : goal.invariant-loop-i
-invariant-loop-i l =
-    (l.i ≤ l.n) × ((l : List Row) → Laid 32 fit_route l.rows l → any (dependent_on l.ip) l ≡ any (dependent_on l.ip) (drop l.i l))
+invariant-loop-i turn =
+    (turn.i ≤ turn.n) × ((l : List Row) → Laid 32 fit_route turn.rows l → any (dependent_on turn.ip) l ≡ any (dependent_on turn.ip) (drop turn.i l))
 
 abbrev pub decreases-loop-i : goal.decreases-loop-i
 decreases-loop-i l = l.n - l.i

@@ -19,21 +19,19 @@ loop-i-init c = (search rules, λ l h. refl)
 
 pub wants-requires : goal.wants-requires
 wants-requires c =
-    part-short c.args.addresses.now c.args.n c.requires.0.0 c.requires.0.1 c.loop-i.i c.loop-i-test.true
+    part-short c.args.addresses.now c.args.n c.requires.addresses_len.0 c.requires.addresses_len.1 c.loop-i.i c.loop-i-test.true
 
 pub returns-then-wants : goal.returns-then-wants
 returns-then-wants c =
-    let a = c.args in
-    λ l h. some-here a.addresses.now a.n (lit< tt) c.requires.0.0 (wants_row a.r.now) l h c.loop-i.i (c.loop-i.invariant.1 l h) c.loop-i-test.true (sym c.wants.ensures ∙ c.if-wants.true) ∙ wanted-rows l a.r.now
+    λ l h. some-here c.args.addresses.now c.args.n (lit< tt) c.requires.addresses_len.0 (wants_row c.args.r.now) l h c.loop-i.i (c.loop-i.invariant.1 l h) c.loop-i-test.true (sym c.wants.ensures ∙ c.if-wants.true) ∙ wanted-rows l c.args.r.now
 
 pub loop-i-preserved : goal.loop-i-preserved
 loop-i-preserved c =
-    let a = c.args in (
+    (
       omega arith,
-      λ l h. some-past a.addresses.now a.n (lit< tt) c.requires.0.0 (wants_row a.r.now) l h c.loop-i.i (c.loop-i.invariant.1 l h) c.loop-i-test.true (sym c.wants.ensures ∙ c.if-wants.false),
+      λ l h. some-past c.args.addresses.now c.args.n (lit< tt) c.requires.addresses_len.0 (wants_row c.args.r.now) l h c.loop-i.i (c.loop-i.invariant.1 l h) c.loop-i-test.true (sym c.wants.ensures ∙ c.if-wants.false),
     )
 
 pub returns : goal.returns
 returns c =
-    let a = c.args in
-    λ l h. some_end a.addresses.now a.n (lit< tt) c.requires.0.0 (wants_row a.r.now) l h c.loop-i.i (c.loop-i.invariant.1 l h) c.loop-i-test.false ∙ wanted-rows l a.r.now
+    λ l h. some_end c.args.addresses.now c.args.n (lit< tt) c.requires.addresses_len.0 (wants_row c.args.r.now) l h c.loop-i.i (c.loop-i.invariant.1 l h) c.loop-i-test.false ∙ wanted-rows l c.args.r.now

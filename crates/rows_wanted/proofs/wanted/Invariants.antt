@@ -15,8 +15,8 @@ use borrow.Author.Rules.{rules}
 use Rattle.rows_wanted.proofs.wanted.Given as goal
 
 abbrev pub invariant-loop-i : goal.invariant-loop-i
-invariant-loop-i l =
-    (l.i ≤ l.n) × ((l : List Row) → Laid 20 fit_address l.addresses l → any (wants_row l.r) l ≡ any (wants_row l.r) (drop l.i l))
+invariant-loop-i turn =
+    (turn.i ≤ turn.n) × ((l : List Row) → Laid 20 fit_address turn.addresses l → any (wants_row turn.r) l ≡ any (wants_row turn.r) (drop turn.i l))
 
 abbrev pub decreases-loop-i : goal.decreases-loop-i
 decreases-loop-i l = l.n - l.i

@@ -8,11 +8,9 @@ returns-then-dst-a c = rw c.if-dst-a.true
 
 pub returns-then-len-a : goal.returns-then-len-a
 returns-then-len-a c =
-    let a = c.args in
-    other_length a.a.now a.dst a.len c.if-dst-a.false (ne_eqb _ _ c.if-len-a.true)
+    other_length c.args.a.now c.args.dst c.args.len c.if-dst-a.false (ne_eqb _ _ c.if-len-a.true)
 
 pub returns : goal.returns
 returns c =
-    let a = c.args in
     rw (c.has_prefix_route-brings.ensures, c.network4-network.ensures)
-    (same_length a.a.now a.dst a.len c.if-dst-a.false (eq-eqb _ _ c.if-len-a.false))
+    (same_length c.args.a.now c.args.dst c.args.len c.if-dst-a.false (eq-eqb _ _ c.if-len-a.false))

@@ -14,29 +14,29 @@ use borrow.Author.Rules.{rules}
 use Rattle.state.proofs.insert_address.Goals as goal
 
 pub bounds-s-0 : goal.bounds-s-0
-bounds-s-0 c = omega (arith, sizes-valid c.requires.0)
+bounds-s-0 c = omega (arith, sizes-valid c.requires.represents_some)
 
 pub overflow_mul-i : goal.overflow_mul-i
-overflow_mul-i c = omega (arith, sizes-valid c.requires.0)
+overflow_mul-i c = omega (arith, sizes-valid c.requires.represents_some)
 
 pub overflow_add-i : goal.overflow_add-i
-overflow_add-i c = omega (arith, sizes-valid c.requires.0)
+overflow_add-i c = omega (arith, sizes-valid c.requires.represents_some)
 
 pub overflow_sub-wide : goal.overflow_sub-wide
-overflow_sub-wide c = omega (arith, sizes-valid c.requires.0)
+overflow_sub-wide c = omega (arith, sizes-valid c.requires.represents_some)
 
 pub overflow_mul-wide : goal.overflow_mul-wide
-overflow_mul-wide c = omega (arith, sizes-valid c.requires.0)
+overflow_mul-wide c = omega (arith, sizes-valid c.requires.represents_some)
 
 pub insert-requires : goal.insert-requires
 insert-requires c =
-    omega (arith, sizes-valid c.requires.0, length-address c.args.row.now c.requires.1.1)
+    omega (arith, sizes-valid c.requires.represents_some, length-address c.args.row.now c.requires.row_value)
 
 pub overflow_add-s : goal.overflow_add-s
-overflow_add-s c = omega (arith, sizes-valid c.requires.0)
+overflow_add-s c = omega (arith, sizes-valid c.requires.represents_some)
 
 pub bounds-s-0-2 : goal.bounds-s-0-2
-bounds-s-0-2 c = omega (arith, sizes-valid c.requires.0)
+bounds-s-0-2 c = omega (arith, sizes-valid c.requires.represents_some)
 
 pub returns : goal.returns
 returns c = λ st h.
@@ -47,4 +47,4 @@ returns c = λ st h.
     let w = a.s.now in
     let n = address_count w in
     rw (ap (λ (l : List ℕ). set l 0 (n + 1)) (at-insert.ensures ∙ ap (λ (m : ℕ). put (3 + 20 * i) (a.row.now ++ span (3 + 20 * i) (20 * (m - i)) w) w) at_wide.ensures))
-    (insert_address h i a.row.now (omega (arith, count-addresses h, c.requires.1.0)) (omega (arith, count-addresses h, c.requires.1.0)) c.requires.1.1)
+    (insert_address h i a.row.now (omega (arith, count-addresses h, c.requires.i_bound)) (omega (arith, count-addresses h, c.requires.i_bound)) c.requires.row_value)

@@ -9,17 +9,17 @@ use borrow.Author.Rules.{rules}
 use Rattle.state.proofs.replace_address.Goals as goal
 
 pub overflow_mul-i : goal.overflow_mul-i
-overflow_mul-i c = omega (arith, sizes-valid c.requires.0)
+overflow_mul-i c = omega (arith, sizes-valid c.requires.represents_some)
 
 pub overflow_add-i : goal.overflow_add-i
-overflow_add-i c = omega (arith, sizes-valid c.requires.0)
+overflow_add-i c = omega (arith, sizes-valid c.requires.represents_some)
 
 pub store-requires : goal.store-requires
 store-requires c =
-    omega (arith, sizes-valid c.requires.0, length-address c.args.row.now c.requires.1.1)
+    omega (arith, sizes-valid c.requires.represents_some, length-address c.args.row.now c.requires.row_value)
 
 pub returns : goal.returns
 returns c = λ st h.
     let at_store = c.store in
     let a = c.args in
-    rw at_store.ensures (replace_address h a.i a.row.now (omega (arith, count-addresses h, c.requires.1.0)) c.requires.1.1)
+    rw at_store.ensures (replace_address h a.i a.row.now (omega (arith, count-addresses h, c.requires.i_bound)) c.requires.row_value)

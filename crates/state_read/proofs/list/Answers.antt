@@ -15,29 +15,23 @@ use Rattle.state_read.proofs.list.Goals as goal
 
 pub overflow_add-e : goal.overflow_add-e
 overflow_add-e c =
-    let w = c.args.s.now in
-    record { fits = omega (arith, c.wide-e.ensures, (sizes-valid (valid w c.requires.0 c.requires.1)).tables) }
+    record { fits = omega (arith, c.wide-e.ensures, (sizes-valid (valid c.args.s.now c.requires.0 c.requires.1)).tables) }
 
 pub routes-requires : goal.routes-requires
 routes-requires c =
-    let w = c.args.s.now in
-    valid w c.requires.0 c.requires.1
+    valid c.args.s.now c.requires.0 c.requires.1
 
 pub slice_bounds-dump4-end : goal.slice_bounds-dump4-end
 slice_bounds-dump4-end c =
-    let w = c.args.s.now in
-    let z = sizes-valid (valid w c.requires.0 c.requires.1) in
+    let z = sizes-valid (valid c.args.s.now c.requires.0 c.requires.1) in
     omega (arith, c.wide-e.ensures, z.tables, z.long)
 
 pub dump4-requires : goal.dump4-requires
 dump4-requires c =
-    let w = c.args.s.now in
-    dump_ready w c.requires.0 c.requires.1 _ _ _ _ c.routes.ensures c.route_count.ensures c.wide-e.ensures c.requires.2
+    dump_ready c.args.s.now c.requires.0 c.requires.1 _ _ _ _ c.routes.ensures c.route_count.ensures c.wide-e.ensures c.requires.2
 
 pub returns : goal.returns
 returns c =
-    let w = c.args.s.now in
-    let k = c.wide-e.ensures in
-    let f = c.dump4.ensures (decode w).routes (of_routes _ (holds-decode w c.requires.0 c.requires.1) c.routes.ensures) in
-    let e = dumped w c.requires.0 c.requires.1 _ k in
-    (f.1 ∙ ap (λ (x : List Row). length x) e, f.0 ∙ ap (λ (x : List Row). put 0 (flat x) c.args.listing.now) e)
+    let f = c.dump4.ensures (decode c.args.s.now).routes (of_routes _ (holds-decode c.args.s.now c.requires.0 c.requires.1) c.routes.ensures) in
+    let e = dumped c.args.s.now c.requires.0 c.requires.1 _ c.wide-e.ensures in
+    record { value = f.1 ∙ ap (λ (x : List Row). length x) e; listing_after = f.0 ∙ ap (λ (x : List Row). put 0 (flat x) c.args.listing.now) e }

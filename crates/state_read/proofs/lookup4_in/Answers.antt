@@ -22,7 +22,7 @@ lookup4_in-requires c =
 
 pub returns : goal.returns
 returns c =
-    let w = c.args.s.now in (
+    (
       subst (λ (n : ℕ). placed n c.lookup4_in.result) c.route_count.ensures c.lookup4_in.ensures.0,
       λ st h.
           c.lookup4_in.ensures.1 st.routes (of_routes c.routes.result.now h c.routes.ensures)

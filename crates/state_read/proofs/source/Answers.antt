@@ -22,15 +22,13 @@ route_count-requires c = (sizes-valid c.requires).long
 
 pub source-requires : goal.source-requires
 source-requires c =
-    let v = c.requires in
-    let x = ready_addresses c.addresses.result.now c.address_count.result v c.addresses.ensures c.address_count.ensures in
-    let y = ready_routes c.routes.result.now c.route_count.result v c.routes.ensures c.route_count.ensures in
+    let x = ready_addresses c.addresses.result.now c.address_count.result c.requires c.addresses.ensures c.address_count.ensures in
+    let y = ready_routes c.routes.result.now c.route_count.result c.requires c.routes.ensures c.route_count.ensures in
     (x.0, x.1, y.0, y.1)
 
 pub returns : goal.returns
 returns c =
-    let ip = c.args.ip in
     λ st h.
     c.source.ensures st.addresses (of_addresses c.addresses.result.now h c.addresses.ensures) st.routes (of_routes c.routes.result.now h c.routes.ensures)
-    ∙ ap (λ (b : Bool). source_rows b st.addresses st.routes ip) (c.listed-listed.ensures ∙ listed-there h 253)
-    ∙ sym (source-rows st ip)
+    ∙ ap (λ (b : Bool). source_rows b st.addresses st.routes c.args.ip) (c.listed-listed.ensures ∙ listed-there h 253)
+    ∙ sym (source-rows st c.args.ip)

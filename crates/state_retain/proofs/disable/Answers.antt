@@ -12,9 +12,7 @@ bounds-s-0 c = omega (arith, sizes-valid c.requires)
 
 pub returns-then-s-eq0 : goal.returns-then-s-eq0
 returns-then-s-eq0 c = λ st h.
-    let at-if1 = c.if-s-eq0 in
-    let at-retain = c.retain in
-    rw (← (is-disable st (sym (count-addresses h) ∙ at-if1.true))) (at-retain.ensures st h)
+    rw (← (is-disable st (sym (count-addresses h) ∙ c.if-s-eq0.true))) (c.retain.ensures st h)
 
 pub returns-else-s-eq0 : goal.returns-else-s-eq0
 returns-else-s-eq0 c = λ st h. rw (← (no-disable st (λ e. c.if-s-eq0.false (count-addresses h ∙ e)))) h

@@ -7,13 +7,8 @@ use Rattle.state_retain.proofs.iteration.Goals as goal
 
 pub returns-then-remains : goal.returns-then-remains
 returns-then-remains c =
-    let at-remains = c.remains in
-    let at-if1 = c.if-remains in
-    let at-settle = c.settle in
-    let a = c.args in
-    turned-stays (remains a.host) a.i a.j a.s.now (sym at-remains.ensures ∙ at-if1.true) at-settle.ensures.0 at-settle.ensures.1
+    turned-stays (remains c.args.host) c.args.i c.args.j c.args.s.now (sym c.remains.ensures ∙ c.if-remains.true) c.settle.ensures.value c.settle.ensures.s_after
 
 pub returns : goal.returns
 returns c =
-    let a = c.args in
-    turned-goes (remains a.host) a.i a.j a.s.now (sym c.remains.ensures ∙ c.if-remains.false)
+    turned-goes (remains c.args.host) c.args.i c.args.j c.args.s.now (sym c.remains.ensures ∙ c.if-remains.false)

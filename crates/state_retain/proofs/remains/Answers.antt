@@ -14,8 +14,7 @@ returns-then-r-ne1 c =
 
 pub returns-then-host : goal.returns-then-host
 returns-then-host c =
-    let at-if1 = c.if-r-ne1 in
-    sym (on-device c.args.host c.args.r.now at-if1.false ∙ ap (λ (b : Bool). b && eqb (scope c.args.r.now) 254) c.if-host.true)
+    sym (on-device c.args.host c.args.r.now c.if-r-ne1.false ∙ ap (λ (b : Bool). b && eqb (scope c.args.r.now) 254) c.if-host.true)
 
 pub returns : goal.returns
 returns c =

@@ -16,27 +16,17 @@ loop-i-init c = (omega arith, keeping_start (remains c.args.host) c.args.s.now (
 
 pub iteration-j-requires : goal.iteration-j-requires
 iteration-j-requires c =
-    let at_loop = c.loop-i in
-    let at_wide = c.wide-n in
-    omega (arith, sizes-valid c.requires, keeping_few at_loop.invariant.1, at_wide.ensures)
+    omega (arith, sizes-valid c.requires, keeping_few c.loop-i.invariant.1, c.wide-n.ensures)
 
 pub loop-i-preserved : goal.loop-i-preserved
 loop-i-preserved c =
-    let at_loop = c.loop-i in
-    let at_wide = c.wide-n in
-    let at-iteration = c.iteration-j in
-    (omega arith, keeping_iteration at_loop.invariant.1 (omega (arith, sizes-valid c.requires, at_wide.ensures)) at-iteration.auto.0 at-iteration.ensures)
+    (omega arith, keeping_iteration c.loop-i.invariant.1 (omega (arith, sizes-valid c.requires, c.wide-n.ensures)) c.iteration-j.auto.s c.iteration-j.ensures)
 
 pub close-requires : goal.close-requires
 close-requires c =
-    let at_loop = c.loop-i in
-    let at_wide = c.wide-n in
-    omega (arith, sizes-valid c.requires, keeping_few at_loop.invariant.1, at_wide.ensures)
+    omega (arith, sizes-valid c.requires, keeping_few c.loop-i.invariant.1, c.wide-n.ensures)
 
 pub returns : goal.returns
 returns c =
-    let at-close = c.close in
-    let at_loop = c.loop-i in
-    let at_wide = c.wide-n in
-    let all : at_loop.i ≡ at_wide.result = omega (arith, c.loop-i-test.false) in
-    λ st h. rw (at-close.ensures, ← all) (keeping_end at_loop.invariant.1 h (all ∙ at_wide.ensures))
+    let all : c.loop-i.i ≡ c.wide-n.result = omega (arith, c.loop-i-test.false) in
+    λ st h. rw (c.close.ensures, ← all) (keeping_end c.loop-i.invariant.1 h (all ∙ c.wide-n.ensures))

@@ -9,7 +9,7 @@ use borrow.Author.Rules.{rules}
 use Rattle.state_retain.proofs.retain.Given as goal
 
 abbrev pub invariant-loop-i : goal.invariant-loop-i
-invariant-loop-i l = (l.i ≤ l.initial.s) × Keeping (remains l.n) l.host l.i l.j l.s
+invariant-loop-i l = (l.i ≤ l.n) × Keeping (remains l.host) l.initial.s l.i l.j l.s
 
 abbrev pub decreases-loop-i : goal.decreases-loop-i
-decreases-loop-i l = l.initial.s - l.i
+decreases-loop-i l = l.n - l.i

@@ -7,4 +7,4 @@ use borrow.Author.Rules.{rules}
 use Rattle.state_retain.proofs.settle.Goals as goal
 
 pub returns-then-i-j : goal.returns-then-i-j
-returns-then-i-j c = let a = c.args in (refl, itself a.s.now c.if-i-j.true (omega arith))
+returns-then-i-j c = record { value = refl; s_after = itself c.args.s.now c.if-i-j.true (omega arith) }

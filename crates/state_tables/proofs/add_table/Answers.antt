@@ -15,29 +15,25 @@ returns-then-listed c = λ st h.
     add_there h c.args.t (sym c.listed.ensures ∙ c.if-listed.true)
 
 pub bounds-s-2 : goal.bounds-s-2
-bounds-s-2 c = omega (arith, sizes-valid c.requires.0)
+bounds-s-2 c = omega (arith, sizes-valid c.requires.represents_some)
 
 pub overflow_add-e : goal.overflow_add-e
-overflow_add-e c = omega (arith, sizes-valid c.requires.0)
+overflow_add-e c = omega (arith, sizes-valid c.requires.represents_some)
 
 pub offset_bounds-s-e : goal.offset_bounds-s-e
-offset_bounds-s-e c = omega (arith, sizes-valid c.requires.0)
+offset_bounds-s-e c = omega (arith, sizes-valid c.requires.represents_some)
 
 pub bounds-s-e : goal.bounds-s-e
 bounds-s-e c =
-    let at_Listed = c.listed in
-    let at-if1 = c.if-listed in
-    omega (arith, sizes-valid c.requires.0, length-listed c.requires.0.holds, length_new c.args.t (tables_of c.args.s.now) (sym at_Listed.ensures ∙ at-if1.false), c.requires.1)
+    omega (arith, sizes-valid c.requires.represents_some, length-listed c.requires.represents_some.holds, length_new c.args.t (tables_of c.args.s.now) (sym c.listed.ensures ∙ c.if-listed.false), c.requires.s_len_bound)
 
 pub overflow_add-s : goal.overflow_add-s
-overflow_add-s c = omega (arith, sizes-valid c.requires.0)
+overflow_add-s c = omega (arith, sizes-valid c.requires.represents_some)
 
 pub bounds-s-2-2 : goal.bounds-s-2-2
-bounds-s-2-2 c = simp length-set (omega (arith, sizes-valid c.requires.0))
+bounds-s-2-2 c = simp length-set (omega (arith, sizes-valid c.requires.represents_some))
 
 pub returns : goal.returns
 returns c = λ st h.
-    let at_Listed = c.listed in
-    let at-if1 = c.if-listed in
     rw (ap (λ (m : ℕ). set (set c.args.s.now (tables_at + m) c.args.t) 2 (table_count c.args.s.now + 1)) c.wide-e.ensures)
-    (add_new h c.args.t (sym at_Listed.ensures ∙ at-if1.false) c.requires.1)
+    (add_new h c.args.t (sym c.listed.ensures ∙ c.if-listed.false) c.requires.s_len_bound)

@@ -22,8 +22,5 @@ slice_bounds-among-end c = omega (arith, sizes-valid c.requires)
 pub returns : goal.returns
 unfolding span
 returns c =
-    let at_wide = c.wide-n in
-    let w = c.args.s.now in
-    let n : ℕ = at_wide.result in
-    let size : tables_at + n - tables_at ≡ n = omega arith in
-    c.among.ensures ∙ ap (λ (m : ℕ). among c.args.t (take m (drop tables_at w))) (size ∙ at_wide.ensures)
+    let size : tables_at + c.wide-n.result - tables_at ≡ c.wide-n.result = omega arith in
+    c.among.ensures ∙ ap (λ (m : ℕ). among c.args.t (take m (drop tables_at c.args.s.now))) (size ∙ c.wide-n.ensures)

@@ -16,13 +16,10 @@ returns-then-t-ne-TABLE_LOCAL c =
 
 pub returns-then-listed : goal.returns-then-listed
 returns-then-listed c =
-    let at-if1 = c.if-t-ne-TABLE_LOCAL in
-    let at_Listed = c.listed in
     let l = tables_of c.args.s.now in
-    let t : ℕ = c.args.t in
-    let e : t ≡ 255 = at-if1.false in
-    let f : among 254 l ≡ Bool.true = sym at_Listed.ensures ∙ c.if-listed.true in
-    c.with_table-then-listed.ensures ∙ sym (rw (list-local t l e, f))
+    let e : c.args.t ≡ 255 = c.if-t-ne-TABLE_LOCAL.false in
+    let f : among 254 l ≡ Bool.true = sym c.listed.ensures ∙ c.if-listed.true in
+    c.with_table-then-listed.ensures ∙ sym (rw (list-local c.args.t l e, f))
 
 pub overflow_add-result : goal.overflow_add-result
 overflow_add-result c =
@@ -30,6 +27,4 @@ overflow_add-result c =
 
 pub returns : goal.returns
 returns c =
-    let at-if1 = c.if-t-ne-TABLE_LOCAL in
-    let at_Listed = c.listed in
-    ap (λ (n : ℕ). n + 1) c.with_table-2.ensures ∙ sym (length-local c.args.t (tables_of c.args.s.now) at-if1.false (sym at_Listed.ensures ∙ c.if-listed.false))
+    ap (λ (n : ℕ). n + 1) c.with_table-2.ensures ∙ sym (length-local c.args.t (tables_of c.args.s.now) c.if-t-ne-TABLE_LOCAL.false (sym c.listed.ensures ∙ c.if-listed.false))

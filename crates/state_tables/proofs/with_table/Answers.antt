@@ -13,9 +13,7 @@ bounds-s-2 c = omega (arith, sizes-valid c.requires)
 
 pub returns-then-listed : goal.returns-then-listed
 returns-then-listed c =
-    let at_Listed = c.listed in
-    let at-if1 = c.if-listed in
-    c.wide.ensures ∙ length-listed c.requires.holds ∙ sym (length-there c.args.t (tables_of c.args.s.now) (sym at_Listed.ensures ∙ at-if1.true))
+    c.wide.ensures ∙ length-listed c.requires.holds ∙ sym (length-there c.args.t (tables_of c.args.s.now) (sym c.listed.ensures ∙ c.if-listed.true))
 
 pub bounds-s-2-2 : goal.bounds-s-2-2
 bounds-s-2-2 c = omega (arith, sizes-valid c.requires)
@@ -25,6 +23,4 @@ overflow_add-result c = omega (arith, sizes-valid c.requires, c.wide-2.ensures)
 
 pub returns : goal.returns
 returns c =
-    let at_Listed = c.listed in
-    let at-if1 = c.if-listed in
-    ap (λ (n : ℕ). n + 1) (c.wide-2.ensures ∙ length-listed c.requires.holds) ∙ sym (length_new c.args.t (tables_of c.args.s.now) (sym at_Listed.ensures ∙ at-if1.false))
+    ap (λ (n : ℕ). n + 1) (c.wide-2.ensures ∙ length-listed c.requires.holds) ∙ sym (length_new c.args.t (tables_of c.args.s.now) (sym c.listed.ensures ∙ c.if-listed.false))

@@ -15,14 +15,11 @@ loop-i-init c = (c.rising-i.ensures.0, c.rising-i.ensures.2)
 
 pub loop-i-preserved : goal.loop-i-preserved
 loop-i-preserved c =
-    let at_loop = c.loop-i in
-    let at-in-place = c.in_place in
-    (c.rising-i-then-in_place.ensures.0, at_loop.invariant.1 ∙ rw c.if-in_place.true at at-in-place.ensures ∙ c.rising-i-then-in_place.ensures.2)
+    (c.rising-i-then-in_place.ensures.0, c.loop-i.invariant.1 ∙ rw c.if-in_place.true at c.in_place.ensures ∙ c.rising-i-then-in_place.ensures.2)
 
 pub returns-else-in_place : goal.returns-else-in_place
 returns-else-in_place c =
-    let at_loop = c.loop-i in
-    sym (at_loop.invariant.1 ∙ rw c.if-in_place.false at c.in_place.ensures)
+    sym (c.loop-i.invariant.1 ∙ rw c.if-in_place.false at c.in_place.ensures)
 
 pub returns : goal.returns
 returns c =

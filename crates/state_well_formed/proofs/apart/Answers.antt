@@ -18,22 +18,15 @@ loop-j-init c = (omega (arith, c.requires), omega arith, refl)
 
 pub returns-then-before : goal.returns-then-before
 returns-then-before c o =
-    let at_loop = c.loop-j in
-    let at-loop-test = c.loop-j-test in
-    let at-before2 = c.before-in-loop-j in
-    sym (at_loop.invariant.2 ∙ past-run (chop 32 c.args.n c.args.p.now) (get_or (chop 32 c.args.n c.args.p.now) c.args.i []) at_loop.j (ordered-later (chop 32 c.args.n c.args.p.now) c.args.i at_loop.j (omega (arith, at_loop.invariant.1)) o) (omega (arith, length-chop 32 c.args.n c.args.p.now, at-loop-test.true)) (two-before c.args.n c.args.p.now c.args.i at_loop.j c.requires.1 at-loop-test.true true at-before2.ensures c.if-before.true))
+    sym (c.loop-j.invariant.2 ∙ past-run (chop 32 c.args.n c.args.p.now) (get_or (chop 32 c.args.n c.args.p.now) c.args.i []) c.loop-j.j (ordered-later (chop 32 c.args.n c.args.p.now) c.args.i c.loop-j.j (omega (arith, c.loop-j.invariant.1)) o) (omega (arith, length-chop 32 c.args.n c.args.p.now, c.loop-j-test.true)) (two-before c.args.n c.args.p.now c.args.i c.loop-j.j c.requires.1 c.loop-j-test.true true c.before-in-loop-j.ensures c.if-before.true))
 
 pub returns-then-same_words : goal.returns-then-same_words
 returns-then-same_words c o =
-    let at_loop = c.loop-j in
-    let at-loop-test = c.loop-j-test in
-    sym (at_loop.invariant.2 ∙ two-same c.args.n c.args.p.now c.args.i at_loop.j c.requires.1 at-loop-test.true true c.same_words.ensures c.if-same_words.true)
+    sym (c.loop-j.invariant.2 ∙ two-same c.args.n c.args.p.now c.args.i c.loop-j.j c.requires.1 c.loop-j-test.true true c.same_words.ensures c.if-same_words.true)
 
 pub loop-j-preserved : goal.loop-j-preserved
 loop-j-preserved c =
-    let at_loop = c.loop-j in
-    let at-loop-test = c.loop-j-test in
-    (omega arith, omega arith, at_loop.invariant.2 ∙ two-same c.args.n c.args.p.now c.args.i at_loop.j c.requires.1 at-loop-test.true false c.same_words.ensures c.if-same_words.false)
+    (omega arith, omega arith, c.loop-j.invariant.2 ∙ two-same c.args.n c.args.p.now c.args.i c.loop-j.j c.requires.1 c.loop-j-test.true false c.same_words.ensures c.if-same_words.false)
 
 pub returns : goal.returns
 returns c o =

@@ -18,17 +18,14 @@ loop-i-init c = (omega arith, refl)
 
 pub loop-i-preserved : goal.loop-i-preserved
 loop-i-preserved c =
-    let at_loop = c.loop-i in
-    let at-loop-test = c.loop-i-test in (
+    (
       omega arith,
-      at_loop.invariant.1 ∙ fit-iteration 20 c.args.n c.args.p.now at_loop.i fit_address true at-loop-test.true c.fit_address.ensures c.if-fit_address.true,
+      c.loop-i.invariant.1 ∙ fit-iteration 20 c.args.n c.args.p.now c.loop-i.i fit_address true c.loop-i-test.true c.fit_address.ensures c.if-fit_address.true,
     )
 
 pub returns-else-fit_address : goal.returns-else-fit_address
 returns-else-fit_address c =
-    let at_loop = c.loop-i in
-    let at-loop-test = c.loop-i-test in
-    sym (at_loop.invariant.1 ∙ fit-iteration 20 c.args.n c.args.p.now at_loop.i fit_address false at-loop-test.true c.fit_address.ensures c.if-fit_address.false)
+    sym (c.loop-i.invariant.1 ∙ fit-iteration 20 c.args.n c.args.p.now c.loop-i.i fit_address false c.loop-i-test.true c.fit_address.ensures c.if-fit_address.false)
 
 pub returns : goal.returns
 returns c =

@@ -18,17 +18,14 @@ loop-i-init c = (omega arith, refl)
 
 pub loop-i-preserved : goal.loop-i-preserved
 loop-i-preserved c =
-    let at_loop = c.loop-i in
-    let at-loop-test = c.loop-i-test in (
+    (
       omega arith,
-      at_loop.invariant.1 ∙ fit-iteration 32 c.args.n c.args.p.now at_loop.i fit_route true at-loop-test.true c.fit_route.ensures c.if-fit_route.true,
+      c.loop-i.invariant.1 ∙ fit-iteration 32 c.args.n c.args.p.now c.loop-i.i fit_route true c.loop-i-test.true c.fit_route.ensures c.if-fit_route.true,
     )
 
 pub returns-else-fit_route : goal.returns-else-fit_route
 returns-else-fit_route c =
-    let at_loop = c.loop-i in
-    let at-loop-test = c.loop-i-test in
-    sym (at_loop.invariant.1 ∙ fit-iteration 32 c.args.n c.args.p.now at_loop.i fit_route false at-loop-test.true c.fit_route.ensures c.if-fit_route.false)
+    sym (c.loop-i.invariant.1 ∙ fit-iteration 32 c.args.n c.args.p.now c.loop-i.i fit_route false c.loop-i-test.true c.fit_route.ensures c.if-fit_route.false)
 
 pub returns : goal.returns
 returns c =

@@ -16,7 +16,6 @@ returns-then-before c =
 
 pub returns : goal.returns
 returns c =
-    let at-before2 = c.before-2 in
     place-iteration (chop 32 c.args.n c.args.p.now) c.args.i (omega (arith, length-chop 32 c.args.n c.args.p.now, c.requires))
-    (order-iteration c.args.n c.args.p.now c.args.i false c.requires.1 at-before2.ensures c.if-before.false)
+    (order-iteration c.args.n c.args.p.now c.args.i false c.requires.1 c.before-2.ensures c.if-before.false)
     c.apart.ensures

@@ -13,20 +13,16 @@ use Rattle.state_well_formed.proofs.none_twice.Goals as goal
 
 pub loop-i-init : goal.loop-i-init
 loop-i-init c =
-    let l = c.args.l.now in
-    (omega arith, twice_end l, marked-end 0 l)
+    (omega arith, twice_end c.args.l.now, marked-end 0 c.args.l.now)
 
 pub again-requires : goal.again-requires
 again-requires c =
-    let at_loop = c.loop-i in
-    let on : at_loop.i - 1 + 1 ≡ at_loop.i = omega arith in
-    (omega arith, ap (λ (k : ℕ). marked at_loop.seen (drop k c.args.l.now)) on ∙ at_loop.invariant.2)
+    let on : c.loop-i.i - 1 + 1 ≡ c.loop-i.i = omega arith in
+    (omega arith, ap (λ (k : ℕ). marked c.loop-i.seen (drop k c.args.l.now)) on ∙ c.loop-i.invariant.2)
 
 pub returns-then-again : goal.returns-then-again
 returns-then-again c =
-    let at_loop = c.loop-i in
-    let at-loop-test = c.loop-i-test in
-    sym (twice_later c.args.l.now (at_loop.i - 1) (twice_back c.args.l.now at_loop.i at-loop-test.true at_loop.invariant.0 true c.again.ensures c.if-again.true))
+    sym (twice_later c.args.l.now (c.loop-i.i - 1) (twice_back c.args.l.now c.loop-i.i c.loop-i-test.true c.loop-i.invariant.0 true c.again.ensures c.if-again.true))
 
 pub offset_bounds-l-at : goal.offset_bounds-l-at
 offset_bounds-l-at c = omega arith
@@ -36,23 +32,18 @@ bounds-l-at c = omega arith
 
 pub overflow_cast-seen : goal.overflow_cast-seen
 overflow_cast-seen c =
-    let at_loop = c.loop-i in
-    omega (arith, and_le_r (get_or c.args.l.now (at_loop.i - 1) 0) 63)
+    omega (arith, and_le_r (get_or c.args.l.now (c.loop-i.i - 1) 0) 63)
 
 pub overflow_shl-seen : goal.overflow_shl-seen
 overflow_shl-seen c =
-    let at_loop = c.loop-i in
-    omega (arith, and_le_r (get_or c.args.l.now (at_loop.i - 1) 0) 63)
+    omega (arith, and_le_r (get_or c.args.l.now (c.loop-i.i - 1) 0) 63)
 
 pub loop-i-smaller : goal.loop-i-smaller
 loop-i-smaller c = omega arith
 
 pub loop-i-preserved : goal.loop-i-preserved
 loop-i-preserved c =
-    let at_loop = c.loop-i in
-    let at-loop-test = c.loop-i-test in
-    let at_again = c.again in
-    (omega arith, twice_back c.args.l.now at_loop.i at-loop-test.true at_loop.invariant.0 false at_again.ensures c.if-again.false ∙ at_loop.invariant.1, marked-back c.args.l.now at_loop.i at-loop-test.true at_loop.invariant.0 at_loop.seen at_loop.invariant.2)
+    (omega arith, twice_back c.args.l.now c.loop-i.i c.loop-i-test.true c.loop-i.invariant.0 false c.again.ensures c.if-again.false ∙ c.loop-i.invariant.1, marked-back c.args.l.now c.loop-i.i c.loop-i-test.true c.loop-i.invariant.0 c.loop-i.seen c.loop-i.invariant.2)
 
 pub returns : goal.returns
 returns c =

@@ -14,9 +14,7 @@ loop-i-init c = (omega (arith, c.requires), omega arith, refl)
 
 pub loop-i-preserved : goal.loop-i-preserved
 loop-i-preserved c =
-    let at_loop = c.loop-i in
-    let at-loop-test = c.loop-i-test in
-    (omega arith, omega arith, at_loop.invariant.2 ∙ rise_iteration c.args.n c.args.p.now at_loop.i at-loop-test.true c.before-in-loop-i.ensures c.if-before.true)
+    (omega arith, omega arith, c.loop-i.invariant.2 ∙ rise_iteration c.args.n c.args.p.now c.loop-i.i c.loop-i-test.true c.before-in-loop-i.ensures c.if-before.true)
 
 pub returns-else-before : goal.returns-else-before
 returns-else-before c = c.loop-i.invariant

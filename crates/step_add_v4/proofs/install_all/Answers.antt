@@ -11,7 +11,7 @@ use Rattle.step_add_v4.proofs.install_all.Goals as goal
 
 pub address_count-n-requires : goal.address_count-n-requires
 address_count-n-requires c =
-    sound-long c.requires.0
+    sound-long c.requires.represents_fit
 
 pub loop-i-init : goal.loop-i-init
 loop-i-init c =
@@ -19,43 +19,29 @@ loop-i-init c =
 
 pub overflow_mul-from : goal.overflow_mul-from
 overflow_mul-from c =
-    let inv = c.loop-i.invariant in
-    omega (arith, inv.1.0)
+    omega (arith, c.loop-i.invariant.1.0)
 
 pub slice_bounds-install_at-start : goal.slice_bounds-install_at-start
 slice_bounds-install_at-start c =
-    let inv = c.loop-i.invariant in
-    omega (arith, inv.1.0, inv.1.1.1.0, c.requires.1)
+    omega (arith, c.loop-i.invariant.1.0, c.loop-i.invariant.1.1.1.0, c.requires.in_bounds)
 
 pub install_at-came-requires : goal.install_at-came-requires
 install_at-came-requires c =
-    let v = c.requires.0 in
-    let inv = c.loop-i.invariant in (
-      sofar-sound inv.1.1.1.1 v,
-      (
-        omega (arith, sofar-count inv.1.1.1.1 v, c.address_count-n.ensures, c.loop-i-test.true),
-        rest-room c.loop-i.emitted 136 c.loop-i.ev (omega (arith, inv.1.0, inv.1.1.1.0, c.requires.1)),
-      ),
-    )
+    record { represents_fit = sofar-sound c.loop-i.invariant.1.1.1.1 c.requires.represents_fit; i_bound = omega (arith, sofar-count c.loop-i.invariant.1.1.1.1 c.requires.represents_fit, c.address_count-n.ensures, c.loop-i-test.true); in_bounds = rest-room c.loop-i.emitted 136 c.loop-i.ev (omega (arith, c.loop-i.invariant.1.0, c.loop-i.invariant.1.1.1.0, c.requires.in_bounds)) }
 
 pub returns-in_default : goal.returns-in_default
 returns-in_default c =
-    let inv = c.loop-i.invariant in
-    (omega (arith, c.install_at-came.ensures.0), sofar-other inv.1.1.1.1 (omega (arith, c.address_count-n.ensures, c.loop-i-test.true)) c.install_at-came.ensures.1 (λ c e. not_first (rw e at c.in_default.in_default-own.keys2)))
+    record { result_bound = omega (arith, c.install_at-came.ensures.result_bound); adds_from = sofar-other c.loop-i.invariant.1.1.1.1 (omega (arith, c.address_count-n.ensures, c.loop-i-test.true)) c.install_at-came.ensures.adds_from (λ c e. not_first (rw e at c.in_default.in_default-own.keys2)) }
 
 pub overflow_add-emitted : goal.overflow_add-emitted
 overflow_add-emitted c =
-    let inv = c.loop-i.invariant in
-    omega (arith, inv.1.0, rows_are 4 c.install_at-came.result c.in-Rows.m c.in-Rows.is c.install_at-came.ensures.0)
+    omega (arith, c.loop-i.invariant.1.0, rows_are 4 c.install_at-came.result c.in-Rows.m c.in-Rows.is c.install_at-came.ensures.result_bound)
 
 pub loop-i-preserved : goal.loop-i-preserved
 loop-i-preserved c =
-    let v = c.requires.0 in
-    let inv = c.loop-i.invariant in
-    let next = sofar-next inv.1.1.1.1 (omega (arith, c.address_count-n.ensures, c.loop-i-test.true)) c.install_at-came.ensures.1 c.in-Rows.m c.in-Rows.is in
-    (omega arith, (sofar-few next v, (sound-long (sofar-sound next v) ∙ sym (sound-long v), (sofar-length next v, next))))
+    let next = sofar-next c.loop-i.invariant.1.1.1.1 (omega (arith, c.address_count-n.ensures, c.loop-i-test.true)) c.install_at-came.ensures.adds_from c.in-Rows.m c.in-Rows.is in
+    (omega arith, (sofar-few next c.requires.represents_fit, (sound-long (sofar-sound next c.requires.represents_fit) ∙ sym (sound-long c.requires.represents_fit), (sofar-length next c.requires.represents_fit, next))))
 
 pub returns : goal.returns
 returns c =
-    let inv = c.loop-i.invariant in
-    (inv.1.0, sofar-end inv.1.1.1.1 (omega (arith, c.address_count-n.ensures, c.loop-i-test.false)))
+    record { result_bound = c.loop-i.invariant.1.0; adds_from = sofar-end c.loop-i.invariant.1.1.1.1 (omega (arith, c.address_count-n.ensures, c.loop-i-test.false)) }

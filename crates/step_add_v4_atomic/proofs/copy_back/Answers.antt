@@ -7,36 +7,28 @@ use Rattle.step_add_v4_atomic.proofs.copy_back.Goals as goal
 
 pub returns-in_default : goal.returns-in_default
 returns-in_default c =
-    let a = c.args in
-    (omega arith, λ st u z h l m. whole-left st u a.came a.ev.now (λ k e. not_first (rw e at c.in_default.in_default-own.keys2)) h l m)
+    record { result_bound = omega arith; comes_whole = λ st u z h l m. whole-left st u c.args.came c.args.ev.now (λ k e. not_first (rw e at c.in_default.in_default-own.keys2)) h l m }
 
 pub store-requires : goal.store-requires
 store-requires c =
-    omega (arith, c.requires.0.0)
+    omega (arith, c.requires.copy_len.0)
 
 pub overflow_mul-end : goal.overflow_mul-end
 overflow_mul-end c =
-    let came = c.came-1 in
-    let few = rw came.given.1 at c.requires.0.1 in
+    let few = rw c.in-Rows.is at c.requires.copy_len.1 in
     omega (arith, few)
 
 pub slice_bounds-store-end : goal.slice_bounds-store-end
 slice_bounds-store-end c =
-    let came = c.came-1 in
-    let room = rw came.given.1 at c.requires.1.0 in
+    let room = rw c.in-Rows.is at c.requires.came_in_bounds.0 in
     omega (arith, room)
 
 pub store-requires-2 : goal.store-requires-2
 store-requires-2 c =
-    let came = c.came-1 in
-    let room = rw came.given.1 at c.requires.1.1 in
-    omega (arith, take-room (34 * came.given.0.0) c.args.rows.now, room)
+    let room = rw c.in-Rows.is at c.requires.came_in_bounds.1 in
+    omega (arith, take-room (34 * c.in-Rows.k) c.args.rows.now, room)
 
 pub returns : goal.returns
 returns c =
-    let came = c.came-1 in
-    let a = c.args in
-    let room = rw came.given.1 at c.requires.1.1 in
-    let words-stored = c.store.ensures in
-    let rows-stored = c.store-2.ensures in
-    (few-rows a.came came.given.0.0 came.given.1, λ st u z h l m. whole_back a.copy.now z a.rows.now a.s.now a.ev.now came.given.0.0 c.requires.0.0 room words-stored rows-stored st u a.came came.given.1 m)
+    let room = rw c.in-Rows.is at c.requires.came_in_bounds.1 in
+    record { result_bound = few-rows c.args.came c.in-Rows.k c.in-Rows.is; comes_whole = λ st u z h l m. whole_back c.args.copy.now z c.args.rows.now c.args.s.now c.args.ev.now c.in-Rows.k c.requires.copy_len.0 room c.store.ensures c.store-2.ensures st u c.args.came c.in-Rows.is m }

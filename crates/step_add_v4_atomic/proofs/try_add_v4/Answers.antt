@@ -9,21 +9,16 @@ use Rattle.step_add_v4_atomic.proofs.try_add_v4.Goals as goal
 
 pub store-requires : goal.store-requires
 store-requires c =
-    omega (arith, sound-long c.requires.0)
+    omega (arith, sound-long c.requires.represents_fit)
 
 pub add_v4-came-requires : goal.add_v4-came-requires
 add_v4-came-requires c =
-    (copy_sound _ c.args.s.now (sym (sound-long c.requires.0)) c.store.ensures c.requires.0, (c.requires.1.0, omega arith))
+    record { represents_fit = copy_sound _ c.args.s.now (sym (sound-long c.requires.represents_fit)) c.store.ensures c.requires.represents_fit; q_len = c.requires.q_len; in_bounds = omega arith }
 
 pub copy_back-requires : goal.copy_back-requires
 copy_back-requires c =
-    let few = c.add_v4-came.ensures.0 in
-    ((omega (arith, sound-long c.requires.0), omega (arith, few)), (omega (arith, few), omega (arith, few, c.requires.1.1)))
+    record { copy_len = (omega (arith, sound-long c.requires.represents_fit), omega (arith, c.add_v4-came.ensures.result_bound)); came_in_bounds = (omega (arith, c.add_v4-came.ensures.result_bound), omega (arith, c.add_v4-came.ensures.result_bound, c.requires.in_bounds)) }
 
 pub returns : goal.returns
 returns c =
-    let a = c.args in
-    let back = c.copy_back.ensures in (
-      omega (arith, back.0, c.add_v4-came.ensures.0),
-      λ st h g. back.1 st (add_v4 a.q.now a.clock.0 st) _ h (add_v4-leaves a.q.now a.clock.0 st) (c.add_v4-came.ensures.1 st (copy_holds _ a.s.now (sym (sound-long c.requires.0)) c.store.ensures st h) g),
-    )
+    record { result_bound = omega (arith, c.copy_back.ensures.result_bound, c.add_v4-came.ensures.result_bound); comes_whole = λ st h g. c.copy_back.ensures.comes_whole st (add_v4 c.args.q.now c.args.clock.0 st) _ h (add_v4-leaves c.args.q.now c.args.clock.0 st) (c.add_v4-came.ensures.comes st (copy_holds _ c.args.s.now (sym (sound-long c.requires.represents_fit)) c.store.ensures st h) g) }

@@ -20,21 +20,19 @@ loop-i-init c = (search rules, λ l h. sym (zero-add (place_of (deletes c.args.q
 
 pub deletes-requires : goal.deletes-requires
 deletes-requires c =
-    (c.requires.1, part-short c.args.rows.now c.args.n c.requires.0.0 c.requires.0.1 c.loop-i.i c.loop-i-test.true)
+    record { q_len = c.requires.q_len; a_len = part-short c.args.rows.now c.args.n c.requires.rows_len.0 c.requires.rows_len.1 c.loop-i.i c.loop-i-test.true }
 
 pub returns-then-deletes : goal.returns-then-deletes
 returns-then-deletes c =
-    let a = c.args in
-    λ l h. find_here a.rows.now a.n (lit< tt) c.requires.0.0 (deletes a.q.now) l h c.loop-i.i (c.loop-i.invariant.1 l h) c.loop-i-test.true (sym c.deletes.ensures ∙ c.if-deletes.true)
+    λ l h. find_here c.args.rows.now c.args.n (lit< tt) c.requires.rows_len.0 (deletes c.args.q.now) l h c.loop-i.i (c.loop-i.invariant.1 l h) c.loop-i-test.true (sym c.deletes.ensures ∙ c.if-deletes.true)
 
 pub loop-i-preserved : goal.loop-i-preserved
 loop-i-preserved c =
-    let a = c.args in (
+    (
       omega arith,
-      λ l h. find_past a.rows.now a.n (lit< tt) c.requires.0.0 (deletes a.q.now) l h c.loop-i.i (c.loop-i.invariant.1 l h) c.loop-i-test.true (sym c.deletes.ensures ∙ c.if-deletes.false),
+      λ l h. find_past c.args.rows.now c.args.n (lit< tt) c.requires.rows_len.0 (deletes c.args.q.now) l h c.loop-i.i (c.loop-i.invariant.1 l h) c.loop-i-test.true (sym c.deletes.ensures ∙ c.if-deletes.false),
     )
 
 pub returns : goal.returns
 returns c =
-    let a = c.args in
-    λ l h. find_end a.rows.now a.n (lit< tt) c.requires.0.0 (deletes a.q.now) l h c.loop-i.i (c.loop-i.invariant.1 l h) c.loop-i.invariant.0 c.loop-i-test.false
+    λ l h. find_end c.args.rows.now c.args.n (lit< tt) c.requires.rows_len.0 (deletes c.args.q.now) l h c.loop-i.i (c.loop-i.invariant.1 l h) c.loop-i.invariant.0 c.loop-i-test.false

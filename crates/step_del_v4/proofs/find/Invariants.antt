@@ -16,8 +16,8 @@ use borrow.Author.Rules.{rules}
 use Rattle.step_del_v4.proofs.find.Given as goal
 
 abbrev pub invariant-loop-i : goal.invariant-loop-i
-invariant-loop-i l =
-    (l.i ≤ l.n) × ((l : List Row) → Laid 20 fit_address l.rows l → place_of (deletes l.q) l ≡ l.i + place_of (deletes l.q) (drop l.i l))
+invariant-loop-i turn =
+    (turn.i ≤ turn.n) × ((l : List Row) → Laid 20 fit_address turn.rows l → place_of (deletes turn.q) l ≡ turn.i + place_of (deletes turn.q) (drop turn.i l))
 
 abbrev pub decreases-loop-i : goal.decreases-loop-i
 decreases-loop-i l = l.n - l.i

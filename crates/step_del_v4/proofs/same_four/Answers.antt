@@ -4,5 +4,4 @@ use Rattle.step_del_v4.proofs.same_four.Goals as goal
 
 pub returns : goal.returns
 returns c =
-    let a = c.args in
-    same-four a.a a.b a.c a.d a.p a.q a.r a.s (omega arith) (omega arith) (omega arith) (omega arith) (omega arith) (omega arith) (omega arith) (omega arith)
+    same-four c.args.a c.args.b c.args.c c.args.d c.args.p c.args.q c.args.r c.args.s (omega arith) (omega arith) (omega arith) (omega arith) (omega arith) (omega arith) (omega arith) (omega arith)

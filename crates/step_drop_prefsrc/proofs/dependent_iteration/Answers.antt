@@ -8,15 +8,8 @@ use Rattle.step_drop_prefsrc.proofs.dependent_iteration.Goals as goal
 
 pub returns-then-dependents_from : goal.returns-then-dependents_from
 returns-then-dependents_from c =
-    let at_test = c.dependents_from in
-    let at-if1 = c.if-dependents_from in
-    let a = c.args in
-    swept_goes (dependent_on a.ip) a.i a.j a.s.now a.ev.now (sym at_test.ensures ∙ at-if1.true) c.del_route4.ensures
+    swept_goes (dependent_on c.args.ip) c.args.i c.args.j c.args.s.now c.args.ev.now (sym c.dependents_from.ensures ∙ c.if-dependents_from.true) c.del_route4.ensures
 
 pub returns : goal.returns
 returns c =
-    let at_test = c.dependents_from in
-    let at-if1 = c.if-dependents_from in
-    let at-settle = c.settle in
-    let a = c.args in
-    swept_stays (dependent_on a.ip) a.i a.j a.s.now a.ev.now (sym at_test.ensures ∙ at-if1.false) at-settle.ensures.0 at-settle.ensures.1
+    swept_stays (dependent_on c.args.ip) c.args.i c.args.j c.args.s.now c.args.ev.now (sym c.dependents_from.ensures ∙ c.if-dependents_from.false) c.settle.ensures.value c.settle.ensures.s_after

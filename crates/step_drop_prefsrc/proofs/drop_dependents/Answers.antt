@@ -18,30 +18,22 @@ route_count-n-requires c = (sizes-valid (ready_valid c.requires)).long
 
 pub loop-i-init : goal.loop-i-init
 loop-i-init c =
-    let a = c.args in
-    let n = c.route_count-n.ensures in
     let sizes = sizes-valid (ready_valid c.requires) in
-    (omega arith, omega arith, omega (arith, n, sizes.routes), omega (arith, n, ready_room c.requires), sizes.long, refl, sweeping_start (dependent_on a.ip) a.s.now a.ev.now sizes.long)
+    (omega arith, omega arith, omega (arith, c.route_count-n.ensures, sizes.routes), omega (arith, c.route_count-n.ensures, ready_room c.requires), sizes.long, refl, sweeping_start (dependent_on c.args.ip) c.args.s.now c.args.ev.now sizes.long)
 
 pub dependent_iteration-j-requires : goal.dependent_iteration-j-requires
 dependent_iteration-j-requires c =
-    let at_loop = c.loop-i in
-    (omega arith, omega (arith, length_rest (at_loop.i - at_loop.j) at_loop.ev))
+    record { s_len = omega arith; in_bounds = omega (arith, length_rest (c.loop-i.i - c.loop-i.j) c.loop-i.ev) }
 
 pub loop-i-preserved : goal.loop-i-preserved
 loop-i-preserved c =
-    let at_loop = c.loop-i in
-    let taken = c.loop-i-test.true in
-    let at-iteration = c.dependent_iteration-j in
-    let k = sweeping_iteration at_loop.invariant.6 (omega (arith, taken)) (omega (arith, taken)) at-iteration.auto.0 at-iteration.auto.1.0 at-iteration.ensures in
-    (omega (arith, taken), keeping_few k.kept, at_loop.invariant.2, omega (arith, k.long), k.kept.long, k.long, k)
+    let k = sweeping_iteration c.loop-i.invariant.6 (omega (arith, c.loop-i-test.true)) (omega (arith, c.loop-i-test.true)) c.dependent_iteration-j.auto.s c.dependent_iteration-j.auto.ev.0 c.dependent_iteration-j.ensures in
+    (omega (arith, c.loop-i-test.true), keeping_few k.kept, c.loop-i.invariant.2, omega (arith, k.long), k.kept.long, k.long, k)
 
 pub shape_of-s : goal.shape_of-s
-shape_of-s c = c.close.auto.0 ∙ c.loop-i.invariant.4 ∙ sym (sizes-valid (ready_valid c.requires)).long
+shape_of-s c = c.close.auto.s ∙ c.loop-i.invariant.4 ∙ sym (sizes-valid (ready_valid c.requires)).long
 
 pub returns : goal.returns
 returns c =
-    let at_count = c.route_count-n in
-    let at_loop = c.loop-i in
-    let all : at_loop.i ≡ at_count.result = omega (arith, c.loop-i-test.false) in
-    λ st f. rw (c.close.ensures, ← all) (sweeping_end c.args.ip at_loop.invariant.6 (all ∙ at_count.ensures) f)
+    let all : c.loop-i.i ≡ c.route_count-n.result = omega (arith, c.loop-i-test.false) in
+    λ st f. rw (c.close.ensures, ← all) (sweeping_end c.args.ip c.loop-i.invariant.6 (all ∙ c.route_count-n.ensures) f)

@@ -15,7 +15,7 @@ use Rattle.step_drop_prefsrc.proofs.drop_dependents.Given as goal
 
 abbrev pub invariant-loop-i : goal.invariant-loop-i
 invariant-loop-i l =
-    (l.i ≤ l.initial.ev) × (l.j ≤ l.i) × (l.initial.ev ≤ 256) × (34 * l.initial.ev ≤ length l.ev) × (length l.s ≡ base_size) × (length l.ev ≡ length l.n) × Sweeping (dependent_on l.initial.s) l.ip l.i l.j l.s l.n l.ev
+    (l.i ≤ l.n) × (l.j ≤ l.i) × (l.n ≤ 256) × (34 * l.n ≤ length l.ev) × (length l.s ≡ base_size) × (length l.ev ≡ length l.initial.ev) × Sweeping (dependent_on l.ip) l.initial.s l.i l.j l.s l.initial.ev l.ev
 
 abbrev pub decreases-loop-i : goal.decreases-loop-i
-decreases-loop-i l = l.initial.ev - l.i
+decreases-loop-i l = l.n - l.i

@@ -20,41 +20,28 @@ use Rattle.step_drop_routes.proofs.delete_unwanted.Goals as goal
 
 pub loop-j-init : goal.loop-j-init
 loop-j-init c =
-    let y = c.requires.0 in
-    let z = c.requires.1.1 in
-    (omega arith, leaving-facts z.list 0 (leaving-start z.list y.fits) y.fits, λ st f l h. leaving-start l f)
+    (omega arith, leaving-facts c.requires.rows_len.1.list 0 (leaving-start c.requires.rows_len.1.list c.requires.some_room.fits) c.requires.some_room.fits, λ st f l h. leaving-start l f)
 
 pub unless_wanted-k-requires : goal.unless_wanted-k-requires
 unless_wanted-k-requires c =
-    let y = c.requires.0 in
-    let z = c.requires.1.1 in (
-      going_ready potential (c.loop-j.invariant.2 y.state y.fits z.list z.laid),
-      part-width c.args.rows.now c.args.m (lit< tt) c.requires.1.0 z c.loop-j.j c.loop-j-test.true,
-    )
+    record { some_room = going_ready potential (c.loop-j.invariant.2 c.requires.some_room.state c.requires.some_room.fits c.requires.rows_len.1.list c.requires.rows_len.1.laid); r_len = part-width c.args.rows.now c.args.m (lit< tt) c.requires.rows_len.0 c.requires.rows_len.1 c.loop-j.j c.loop-j-test.true }
 
 pub overflow_add-k : goal.overflow_add-k
 overflow_add-k c =
-    let taken = c.loop-j-test.true in
-    let iteration = c.unless_wanted-k.ensures in
-    let y = c.requires.0 in
-    let z = c.requires.1.1 in
-    let facts = leaving-facts z.list (c.loop-j.j + 1) (leaving-next z.list c.loop-j.j (c.loop-j.invariant.2 y.state y.fits z.list z.laid) c.args.rows.now c.args.m c.requires.1.0 z.laid taken (λ m g. iteration m g)) y.fits in
+    let facts = leaving-facts c.requires.rows_len.1.list (c.loop-j.j + 1) (leaving-next c.requires.rows_len.1.list c.loop-j.j (c.loop-j.invariant.2 c.requires.some_room.state c.requires.some_room.fits c.requires.rows_len.1.list c.requires.rows_len.1.laid) c.args.rows.now c.args.m c.requires.rows_len.0 c.requires.rows_len.1.laid c.loop-j-test.true (λ m g. c.unless_wanted-k.ensures m g)) c.requires.some_room.fits in
     record { fits = omega (arith, facts.3) }
 
 pub loop-j-preserved : goal.loop-j-preserved
 loop-j-preserved c =
-    let taken = c.loop-j-test.true in
-    let iteration = c.unless_wanted-k.ensures in
-    let y = c.requires.0 in
-    let z = c.requires.1.1 in (
-      omega (arith, taken),
-      leaving-facts z.list (c.loop-j.j + 1) (leaving-next z.list c.loop-j.j (c.loop-j.invariant.2 y.state y.fits z.list z.laid) c.args.rows.now c.args.m c.requires.1.0 z.laid taken (λ m g. iteration m g)) y.fits,
-      λ st f l h. leaving-next l c.loop-j.j (c.loop-j.invariant.2 st f l h) c.args.rows.now c.args.m c.requires.1.0 h taken (λ m g. iteration m g),
+    (
+      omega (arith, c.loop-j-test.true),
+      leaving-facts c.requires.rows_len.1.list (c.loop-j.j + 1) (leaving-next c.requires.rows_len.1.list c.loop-j.j (c.loop-j.invariant.2 c.requires.some_room.state c.requires.some_room.fits c.requires.rows_len.1.list c.requires.rows_len.1.laid) c.args.rows.now c.args.m c.requires.rows_len.0 c.requires.rows_len.1.laid c.loop-j-test.true (λ m g. c.unless_wanted-k.ensures m g)) c.requires.some_room.fits,
+      λ st f l h. leaving-next l c.loop-j.j (c.loop-j.invariant.2 st f l h) c.args.rows.now c.args.m c.requires.rows_len.0 h c.loop-j-test.true (λ m g. c.unless_wanted-k.ensures m g),
     )
 
 pub shape_of-s : goal.shape_of-s
-shape_of-s c = c.loop-j.invariant.1.1 ∙ sym (sizes-valid (ready_valid c.requires.0)).long
+shape_of-s c = c.loop-j.invariant.1.1 ∙ sym (sizes-valid (ready_valid c.requires.some_room)).long
 
 pub returns : goal.returns
 returns c =
-    λ st f l h. leaving-last l c.loop-j.j (c.loop-j.invariant.2 st f l h) c.args.rows.now c.args.m c.requires.1.0 h c.loop-j-test.false
+    λ st f l h. leaving-last l c.loop-j.j (c.loop-j.invariant.2 st f l h) c.args.rows.now c.args.m c.requires.rows_len.0 h c.loop-j-test.false

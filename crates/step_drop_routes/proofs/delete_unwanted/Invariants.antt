@@ -19,10 +19,10 @@ use Rattle.definition.specs.Words.{base_size}
 use Rattle.step_drop_routes.proofs.delete_unwanted.Given as goal
 
 abbrev pub invariant-loop-j : goal.invariant-loop-j
-invariant-loop-j l =
-    (l.j ≤ l.initial.ev)
-    × ((34 * l.k ≤ length l.ev) × (length l.s ≡ base_size) × (length l.ev ≡ length l.m) × (l.k ≤ 384))
-    × ((st : State) → RoomFor potential st l.rows l.m → (l : List Row) → Laid 32 any_row l.initial.s l → Leaving st l l.j l.k l.s l.m l.ev)
+invariant-loop-j turn =
+    (turn.j ≤ turn.m)
+    × ((34 * turn.k ≤ length turn.ev) × (length turn.s ≡ base_size) × (length turn.ev ≡ length turn.initial.ev) × (turn.k ≤ 384))
+    × ((st : State) → RoomFor potential st turn.initial.s turn.initial.ev → (l : List Row) → Laid 32 any_row turn.rows l → Leaving st l turn.j turn.k turn.s turn.initial.ev turn.ev)
 
 abbrev pub decreases-loop-j : goal.decreases-loop-j
-decreases-loop-j l = l.initial.ev - l.j
+decreases-loop-j l = l.m - l.j

@@ -19,16 +19,16 @@ loop-j-init c = (search rules, λ st h l q. refl)
 
 pub lost-requires : goal.lost-requires
 lost-requires c =
-    (c.requires.0, part-width c.args.rows.now c.args.m (lit< tt) c.requires.1.0 c.requires.1.1 c.loop-j.j c.loop-j-test.true)
+    record { represents_some = c.requires.represents_some; r_len = part-width c.args.rows.now c.args.m (lit< tt) c.requires.rows_len.0 c.requires.rows_len.1 c.loop-j.j c.loop-j-test.true }
 
 pub returns-then-lost : goal.returns-then-lost
 returns-then-lost c =
-    λ st h l q. some-here c.args.rows.now c.args.m (lit< tt) c.requires.1.0 (loses st.addresses) l q c.loop-j.j (c.loop-j.invariant.1 st h l q) c.loop-j-test.true (sym (c.lost.ensures st h) ∙ c.if-lost.true)
+    λ st h l q. some-here c.args.rows.now c.args.m (lit< tt) c.requires.rows_len.0 (loses st.addresses) l q c.loop-j.j (c.loop-j.invariant.1 st h l q) c.loop-j-test.true (sym (c.lost.ensures st h) ∙ c.if-lost.true)
 
 pub loop-j-preserved : goal.loop-j-preserved
 loop-j-preserved c =
-    (omega arith, λ st h l q. some-past c.args.rows.now c.args.m (lit< tt) c.requires.1.0 (loses st.addresses) l q c.loop-j.j (c.loop-j.invariant.1 st h l q) c.loop-j-test.true (sym (c.lost.ensures st h) ∙ c.if-lost.false))
+    (omega arith, λ st h l q. some-past c.args.rows.now c.args.m (lit< tt) c.requires.rows_len.0 (loses st.addresses) l q c.loop-j.j (c.loop-j.invariant.1 st h l q) c.loop-j-test.true (sym (c.lost.ensures st h) ∙ c.if-lost.false))
 
 pub returns : goal.returns
 returns c =
-    λ st h l q. some_end c.args.rows.now c.args.m (lit< tt) c.requires.1.0 (loses st.addresses) l q c.loop-j.j (c.loop-j.invariant.1 st h l q) c.loop-j-test.false
+    λ st h l q. some_end c.args.rows.now c.args.m (lit< tt) c.requires.rows_len.0 (loses st.addresses) l q c.loop-j.j (c.loop-j.invariant.1 st h l q) c.loop-j-test.false

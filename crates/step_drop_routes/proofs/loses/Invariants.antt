@@ -15,8 +15,8 @@ use borrow.Author.Rules.{rules}
 use Rattle.step_drop_routes.proofs.loses.Given as goal
 
 abbrev pub invariant-loop-j : goal.invariant-loop-j
-invariant-loop-j l =
-    (l.j ≤ l.m) × ((st : State) → Represents l.s st → (l : List Row) → Laid 32 any_row l.rows l → any (loses st.addresses) l ≡ any (loses st.addresses) (drop l.j l))
+invariant-loop-j turn =
+    (turn.j ≤ turn.m) × ((st : State) → Represents turn.s st → (l : List Row) → Laid 32 any_row turn.rows l → any (loses st.addresses) l ≡ any (loses st.addresses) (drop turn.j l))
 
 abbrev pub decreases-loop-j : goal.decreases-loop-j
 decreases-loop-j l = l.m - l.j

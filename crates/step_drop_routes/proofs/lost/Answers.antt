@@ -4,10 +4,11 @@ use borrow.Author.Rules.{rules}
 use Rattle.step_drop_routes.proofs.lost.Goals as goal
 
 pub returns-then-not-host : goal.returns-then-not-host
-returns-then-not-host c = λ st h. lost_not st.addresses c.args.r.now _ (not-true _ c.if-not-host.true)
+returns-then-not-host c = λ st h. lost_not st.addresses c.args.r.now _ c.if-not-host.true
 
 pub wanted_in-requires : goal.wanted_in-requires
-wanted_in-requires c = c.requires
+wanted_in-requires c =  let both = c.requires in
+    record { represents_some = both.0; r_len = both.1 }
 
 pub returns : goal.returns
-returns c = λ st h. lost_so st.addresses c.args.r.now c.wanted_in.result _ (c.wanted_in.ensures st h) (not-false _ c.if-not-host.false)
+returns c = λ st h. lost_so st.addresses c.args.r.now c.wanted_in.result _ (c.wanted_in.ensures st h) c.if-not-host.false

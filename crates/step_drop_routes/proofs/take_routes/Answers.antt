@@ -9,64 +9,49 @@ use borrow.Author.Rules.{rules}
 use Rattle.step_drop_routes.proofs.take_routes.Goals as goal
 
 pub delete_unwanted-k-requires : goal.delete_unwanted-k-requires
-delete_unwanted-k-requires c = c.requires
+delete_unwanted-k-requires c =  let both = c.requires in
+    record { some_room = both.0; rows_len = both.1 }
 
 pub loses-lost-requires : goal.loses-lost-requires
 loses-lost-requires c =
-    let y = c.requires.0 in
-    let z = c.requires.1.1 in
-    let t = c.delete_unwanted-k.ensures y.state y.fits z.list z.laid in
-    (step-valid t, c.requires.1)
+    let t = c.delete_unwanted-k.ensures c.requires.some_room.state c.requires.some_room.fits c.requires.rows_len.1.list c.requires.rows_len.1.laid in
+    record { represents_some = step-valid t; rows_len = c.requires.rows_len }
 
 pub overflow_mul-k : goal.overflow_mul-k
 overflow_mul-k c =
-    let y = c.requires.0 in
-    let z = c.requires.1.1 in
-    let t = c.delete_unwanted-k.ensures y.state y.fits z.list z.laid in
-    record { fits = omega (arith, (step-facts y.fits t).3) }
+    let t = c.delete_unwanted-k.ensures c.requires.some_room.state c.requires.some_room.fits c.requires.rows_len.1.list c.requires.rows_len.1.laid in
+    record { fits = omega (arith, (step-facts c.requires.some_room.fits t).3) }
 
 pub offset_bounds-ev-k : goal.offset_bounds-ev-k
 offset_bounds-ev-k c =
-    let y = c.requires.0 in
-    let z = c.requires.1.1 in
-    let t = c.delete_unwanted-k.ensures y.state y.fits z.list z.laid in
-    record { fits = omega (arith, (step-facts y.fits t).3) }
+    let t = c.delete_unwanted-k.ensures c.requires.some_room.state c.requires.some_room.fits c.requires.rows_len.1.list c.requires.rows_len.1.laid in
+    record { fits = omega (arith, (step-facts c.requires.some_room.fits t).3) }
 
 pub slice_bounds-fall-count : goal.slice_bounds-fall-count
 slice_bounds-fall-count c =
-    let y = c.requires.0 in
-    let z = c.requires.1.1 in
-    let t = c.delete_unwanted-k.ensures y.state y.fits z.list z.laid in
-    (step-facts y.fits t).0
+    let t = c.delete_unwanted-k.ensures c.requires.some_room.state c.requires.some_room.fits c.requires.rows_len.1.list c.requires.rows_len.1.laid in
+    (step-facts c.requires.some_room.fits t).0
 
 pub slice_bounds-fall-start : goal.slice_bounds-fall-start
 slice_bounds-fall-start c =
-    let y = c.requires.0 in
-    let z = c.requires.1.1 in
-    let t = c.delete_unwanted-k.ensures y.state y.fits z.list z.laid in
-    omega (arith, (step-facts y.fits t).0)
+    let t = c.delete_unwanted-k.ensures c.requires.some_room.state c.requires.some_room.fits c.requires.rows_len.1.list c.requires.rows_len.1.laid in
+    omega (arith, (step-facts c.requires.some_room.fits t).0)
 
 pub fall-n-requires : goal.fall-n-requires
 fall-n-requires c =
-    let y = c.requires.0 in
-    let z = c.requires.1.1 in
-    let t = c.delete_unwanted-k.ensures y.state y.fits z.list z.laid in
+    let t = c.delete_unwanted-k.ensures c.requires.some_room.state c.requires.some_room.fits c.requires.rows_len.1.list c.requires.rows_len.1.laid in
     step_ready t
 
 pub disable-requires : goal.disable-requires
 disable-requires c =
-    let y = c.requires.0 in
-    let z = c.requires.1.1 in
-    let t = c.delete_unwanted-k.ensures y.state y.fits z.list z.laid in
+    let t = c.delete_unwanted-k.ensures c.requires.some_room.state c.requires.some_room.fits c.requires.rows_len.1.list c.requires.rows_len.1.laid in
     step-valid (c.fall-n.ensures _ (step_ready t).fits)
 
 pub overflow_add-result : goal.overflow_add-result
 overflow_add-result c =
-    let y = c.requires.0 in
-    let z = c.requires.1.1 in
-    let t = c.delete_unwanted-k.ensures y.state y.fits z.list z.laid in
+    let t = c.delete_unwanted-k.ensures c.requires.some_room.state c.requires.some_room.fits c.requires.rows_len.1.list c.requires.rows_len.1.laid in
     let r = (step_ready t).fits in
-    record { fits = omega (arith, (step-facts y.fits t).3, (step-facts r (c.fall-n.ensures _ r)).3) }
+    record { fits = omega (arith, (step-facts c.requires.some_room.fits t).3, (step-facts r (c.fall-n.ensures _ r)).3) }
 
 pub returns : goal.returns
 returns c =

@@ -6,17 +6,16 @@ use borrow.Author.Rules.{rules}
 use Rattle.step_drop_routes.proofs.unless_wanted.Goals as goal
 
 pub wanted_in-requires : goal.wanted_in-requires
-wanted_in-requires c = (ready_valid c.requires.0, c.requires.1)
+wanted_in-requires c = record { represents_some = ready_valid c.requires.some_room; r_len = c.requires.r_len }
 
 pub returns-then-wanted_in : goal.returns-then-wanted_in
 returns-then-wanted_in c = λ st f. wanted-stays c.args.r.now f (sym (c.wanted_in.ensures st f.holds) ∙ c.if-wanted_in.true)
 
 pub kernel_del4-requires : goal.kernel_del4-requires
 kernel_del4-requires c =
-    (ready_valid c.requires.0, (c.requires.1, λ b. ready_row c.requires.0 b))
+    record { represents_some = ready_valid c.requires.some_room; p_len = c.requires.r_len; in_bounds = λ b. ready_row c.requires.some_room b }
 
 pub returns : goal.returns
 returns c =
-    let r = c.args.r.now in
     λ st f.
-    unwanted-goes r (sym (c.wanted_in.ensures st f.holds) ∙ c.if-wanted_in.false) (deletes r f (c.kernel_del4.ensures.1.1 st f.holds))
+    unwanted-goes c.args.r.now (sym (c.wanted_in.ensures st f.holds) ∙ c.if-wanted_in.false) (deletes c.args.r.now f (c.kernel_del4.ensures.emits st f.holds))

@@ -9,20 +9,17 @@ use Prim.Native.Nat.{ℕ, ◌*◌}
 use Rattle.step_drop_routes.proofs.wanted_in.Goals as goal
 
 pub addresses-requires : goal.addresses-requires
-addresses-requires c = c.requires.0
+addresses-requires c = c.requires.represents_some
 
 pub address_count-requires : goal.address_count-requires
-address_count-requires c = (sizes-valid c.requires.0).long
+address_count-requires c = (sizes-valid c.requires.represents_some).long
 
 pub wanted-requires : goal.wanted-requires
 wanted-requires c =
-    (
-      (
-        ap length c.addresses.ensures ∙ length-addresses c.requires.0 ∙ ap (λ (n : ℕ). 20 * n) (sym c.address_count.ensures),
-        subst (Lays 20 fit_address) (sym c.addresses.ensures) (lays_addresses c.requires.0),
-      ),
-      c.requires.1,
-    )
+    record { addresses_len = (
+        ap length c.addresses.ensures ∙ length-addresses c.requires.represents_some ∙ ap (λ (n : ℕ). 20 * n) (sym c.address_count.ensures),
+        subst (Lays 20 fit_address) (sym c.addresses.ensures) (lays_addresses c.requires.represents_some),
+      ); r_len = c.requires.r_len }
 
 pub returns : goal.returns
 returns c =

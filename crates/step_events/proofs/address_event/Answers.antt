@@ -12,17 +12,12 @@ use Rattle.step_events.proofs.address_event.Goals as goal
 
 pub bounds-ev-0 : goal.bounds-ev-0
 bounds-ev-0 c =
-    let at_clear = c.clear in
-    let at_store = c.store in
-    simp length-set (omega (arith, (at_clear.auto.0 ∙ at_store.auto.0), c.requires))
+    simp length-set (omega (arith, (c.clear.auto.s ∙ c.store.auto.s), c.requires))
 
 pub shape_of-ev : goal.shape_of-ev
-shape_of-ev c = simp length-set (c.clear.auto.0 ∙ c.store.auto.0)
+shape_of-ev c = simp length-set (c.clear.auto.s ∙ c.store.auto.s)
 
 pub returns : goal.returns
 returns c =
-    let at_clear = c.clear in
-    let at_store = c.store in
-    let a = c.args in
-    ap (λ (l : List ℕ). set (set l 1 0) 0 a.kind) (at_clear.ensures ∙ ap (put 22 (zeros 12)) at_store.ensures)
-    ∙ address-written a.kind a.a.now a.ev.now c.requires.1 c.requires.0
+    ap (λ (l : List ℕ). set (set l 1 0) 0 c.args.kind) (c.clear.ensures ∙ ap (put 22 (zeros 12)) c.store.ensures)
+    ∙ address-written c.args.kind c.args.a.now c.args.ev.now c.requires.1 c.requires.0

@@ -10,11 +10,9 @@ use borrow.Author.Rules.{rules}
 use Rattle.step_events.proofs.route_event.Goals as goal
 
 pub bounds-ev-0 : goal.bounds-ev-0
-bounds-ev-0 c = simp length-set (omega (arith, c.store.auto.0, c.requires))
+bounds-ev-0 c = simp length-set (omega (arith, c.store.auto.s, c.requires))
 
 pub returns : goal.returns
 returns c =
-    let at_store = c.store in
-    let a = c.args in
-    ap (λ (l : List ℕ). set (set l 1 a.flags) 0 a.kind) at_store.ensures
-    ∙ row_written a.kind a.flags a.r.now a.ev.now (omega (arith, c.requires))
+    ap (λ (l : List ℕ). set (set l 1 c.args.flags) 0 c.args.kind) c.store.ensures
+    ∙ row_written c.args.kind c.args.flags c.args.r.now c.args.ev.now (omega (arith, c.requires))

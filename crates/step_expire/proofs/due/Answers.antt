@@ -7,6 +7,5 @@ use Rattle.step_expire.proofs.due.Goals as goal
 
 pub returns : goal.returns
 returns c =
-    let a = c.args in
-    due-is a.allowance.0 a.clock.0 a.a.now c.reached-over.result
-    (c.reached-over.ensures ∙ ap (λ (l : Life). reached a.allowance.0 l.valid.0 l.changed.0 a.clock.0) c.life_of-life.ensures)
+    due-is c.args.allowance.0 c.args.clock.0 c.args.a.now c.reached-over.result
+    (c.reached-over.ensures ∙ ap (λ (l : Life). reached c.args.allowance.0 l.valid.0 l.changed.0 c.args.clock.0) c.life_of-life.ensures)

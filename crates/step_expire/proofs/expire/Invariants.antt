@@ -17,8 +17,8 @@ use Rattle.step_expire.proofs.expire.Given as goal
 abbrev pub invariant-loop-i : goal.invariant-loop-i
 invariant-loop-i l =
     (l.n ≡ address_count l.s)
-    × (((34 * l.k ≤ length l.ev) × (length l.s ≡ base_size) × (length l.ev ≡ length l.clock) × (l.k ≤ 384)) × ((l.i ≤ address_count l.s) × (address_count l.s ≤ 64)))
-    × ((st : State) → RoomFor potential st l.allowance l.clock → Expiring l.initial.s.0 l.initial.ev.0 st l.i l.k l.s l.clock l.ev)
+    × (((34 * l.k ≤ length l.ev) × (length l.s ≡ base_size) × (length l.ev ≡ length l.initial.ev) × (l.k ≤ 384)) × ((l.i ≤ address_count l.s) × (address_count l.s ≤ 64)))
+    × ((st : State) → RoomFor potential st l.initial.s l.initial.ev → Expiring l.allowance.0 l.clock.0 st l.i l.k l.s l.initial.ev l.ev)
 
 abbrev pub decreases-loop-i : goal.decreases-loop-i
 decreases-loop-i l = 66 * l.n - l.i

@@ -13,24 +13,21 @@ use borrow.Author.Rules.{rules}
 use Rattle.step_expire.proofs.mark.Goals as goal
 
 pub deprecate-requires : goal.deprecate-requires
-deprecate-requires c = (length-address _ c.requires.1.2, search rules)
+deprecate-requires c = record { a_len = length-address _ c.requires.i_bound.2; in_bounds = search rules }
 
 pub new_addr4-requires : goal.new_addr4-requires
 new_addr4-requires c =
-    let q = marked_row c.args.a.now c.deprecate.new.1.0 _ c.requires.1.2 c.deprecate.ensures refl in
-    let z = marked-fits c.args.a.now c.deprecate.new.1.0 c.requires.1.2 q in
-    (c.requires.1.1, z.0)
+    let q = marked_row c.args.a.now c.deprecate.new.out.0 _ c.requires.i_bound.2 c.deprecate.ensures refl in
+    let z = marked-fits c.args.a.now c.deprecate.new.out.0 c.requires.i_bound.2 q in
+    (c.requires.i_bound.1, z.0)
 
 pub replace_address-requires : goal.replace_address-requires
 replace_address-requires c =
-    let q = marked_row c.args.a.now c.deprecate.new.1.0 _ c.requires.1.2 c.deprecate.ensures refl in
-    let z = marked-fits c.args.a.now c.deprecate.new.1.0 c.requires.1.2 q in
-    (c.requires.0, (c.requires.1.0, z.1))
+    let q = marked_row c.args.a.now c.deprecate.new.out.0 _ c.requires.i_bound.2 c.deprecate.ensures refl in
+    let z = marked-fits c.args.a.now c.deprecate.new.out.0 c.requires.i_bound.2 q in
+    record { represents_some = c.requires.represents_some; i_bound = c.requires.i_bound.0; row_value = z.1 }
 
 pub returns : goal.returns
 returns c =
-    let q = marked_row c.args.a.now c.deprecate.new.1.0 _ c.requires.1.2 c.deprecate.ensures refl in
-    let z = marked-fits c.args.a.now c.deprecate.new.1.0 c.requires.1.2 q in (
-      c.new_addr4.ensures ∙ ap (λ (r : List ℕ). put 0 (new_addr4 r) c.args.ev.now) q,
-      λ st h. subst (λ (r : Row). Represents c.replace_address.new.0 (with_addresses (set st.addresses c.args.i r) st)) q (c.replace_address.ensures st h),
-    )
+    let q = marked_row c.args.a.now c.deprecate.new.out.0 _ c.requires.i_bound.2 c.deprecate.ensures refl in
+    let z = marked-fits c.args.a.now c.deprecate.new.out.0 c.requires.i_bound.2 q in record { ev_after = c.new_addr4.ensures ∙ ap (λ (r : List ℕ). put 0 (new_addr4 r) c.args.ev.now) q; represents = λ st h. subst (λ (r : Row). Represents c.replace_address.new.s (with_addresses (set st.addresses c.args.i r) st)) q (c.replace_address.ensures st h) }

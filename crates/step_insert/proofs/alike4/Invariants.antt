@@ -14,10 +14,10 @@ use lib.Dec.{lit<}
 use Rattle.step_insert.proofs.alike4.Given as goal
 
 abbrev pub invariant-loop-i : goal.invariant-loop-i
-invariant-loop-i l =
-    (l.i ≤ l.n)
-    × (l.start ≤ l.i)
-    × ((l : List Row) → Laid 32 fit_route l.rows l → LoopInvariant l.new l l.i l.start l.there)
+invariant-loop-i turn =
+    (turn.i ≤ turn.n)
+    × (turn.start ≤ turn.i)
+    × ((l : List Row) → Laid 32 fit_route turn.rows l → LoopInvariant turn.new l turn.i turn.start turn.there)
 
 abbrev pub decreases-loop-i : goal.decreases-loop-i
 decreases-loop-i l = l.n - l.i

@@ -17,13 +17,9 @@ loop-end-init c = (search rules, search rules, λ l h. find_start c.args.new.now
 
 pub returns-then-not-goes_on : goal.returns-then-not-goes_on
 returns-then-not-goes_on c =
-    let a = c.args in
-    let goes_on = c.see-seen.result.in_run || (c.see-seen.result.in_front && eqb c.loop-end.start c.loop-end.end) in (
-      λ l h.
-          pass-found a.new.now a.rows.now a.n c.requires.0.0 l h c.loop-end.end c.loop-end.start (c.loop-end.invariant.2 l h)
-          c.loop-end-test.true (rw (c.see-seen.ensures.0, c.see-seen.ensures.1) at (not-true goes_on c.if-not-goes_on.true)),
-      search rules,
-    )
+    let goes_on = c.see-seen.result.in_run || (c.see-seen.result.in_front && eqb c.loop-end.start c.loop-end.end) in record { start_value = λ l h.
+          pass-found c.args.new.now c.args.rows.now c.args.n c.requires.rows_len.0 l h c.loop-end.end c.loop-end.start (c.loop-end.invariant.2 l h)
+          c.loop-end-test.true (rw (c.see-seen.ensures.in_front_value, c.see-seen.ensures.in_run_value) at c.if-not-goes_on.true); start_le_end = search rules }
 
 pub overflow_add-start : goal.overflow_add-start
 overflow_add-start c =
@@ -31,21 +27,17 @@ overflow_add-start c =
 
 pub loop-end-preserved : goal.loop-end-preserved
 loop-end-preserved c =
-    let a = c.args in
     let goes_on = c.see-seen.result.in_run || (c.see-seen.result.in_front && eqb c.loop-end.start c.loop-end.end) in (
       search rules,
       omega (arith, c.one_if-start.ensures, tick-most c.see-seen.result.in_front),
       λ l h.
-          rw (c.one_if-start.ensures, c.see-seen.ensures.0)
-          (pass-more a.new.now a.rows.now a.n c.requires.0.0 l h c.loop-end.end c.loop-end.start (c.loop-end.invariant.2 l h)
-          c.loop-end-test.true (rw (c.see-seen.ensures.0, c.see-seen.ensures.1) at (not-false goes_on c.if-not-goes_on.false))),
+          rw (c.one_if-start.ensures, c.see-seen.ensures.in_front_value)
+          (pass-more c.args.new.now c.args.rows.now c.args.n c.requires.rows_len.0 l h c.loop-end.end c.loop-end.start (c.loop-end.invariant.2 l h)
+          c.loop-end-test.true (rw (c.see-seen.ensures.in_front_value, c.see-seen.ensures.in_run_value) at c.if-not-goes_on.false)),
     )
 
 pub returns : goal.returns
 returns c =
-    let a = c.args in (
-      λ l h.
-          pass_all a.new.now a.rows.now a.n c.requires.0.0 l h c.loop-end.end c.loop-end.start (c.loop-end.invariant.2 l h)
-          c.loop-end.invariant.0 c.loop-end-test.false,
-      search rules,
-    )
+    record { start_value = λ l h.
+          pass_all c.args.new.now c.args.rows.now c.args.n c.requires.rows_len.0 l h c.loop-end.end c.loop-end.start (c.loop-end.invariant.2 l h)
+          c.loop-end.invariant.0 c.loop-end-test.false; start_le_end = search rules }

@@ -13,7 +13,7 @@ use borrow.Author.Rules.{rules}
 use Rattle.step_insert.proofs.find_run.Given as goal
 
 abbrev pub invariant-loop-end : goal.invariant-loop-end
-invariant-loop-end l = (l.end ≤ l.n) × (l.start ≤ l.end) × ((l : List Row) → Laid 32 fit_route l.rows l → Sofar l.new l l.end l.start)
+invariant-loop-end turn = (turn.end ≤ turn.n) × (turn.start ≤ turn.end) × ((l : List Row) → Laid 32 fit_route turn.rows l → Sofar turn.new l turn.end turn.start)
 
 abbrev pub decreases-loop-end : goal.decreases-loop-end
 decreases-loop-end l = l.n - l.end

@@ -9,44 +9,33 @@ use Rattle.step_insert.proofs.plan4.Goals as goal
 
 pub alike4-alike-requires : goal.alike4-alike-requires
 alike4-alike-requires c =
-    let run = c.find_run-run.result in
-    let within = c.find_run-run.ensures.1 in
-    (own_lays c.args.rows.now c.args.n c.requires.0.0 run.start run.end within.0 within.1 c.requires.0.1, c.requires.1)
+    record { rows_len = own_lays c.args.rows.now c.args.n c.requires.rows_len.0 c.find_run-run.result.start c.find_run-run.result.end c.find_run-run.ensures.start_le_end.0 c.find_run-run.ensures.start_le_end.1 c.requires.rows_len.1; len = c.requires.len }
 
 pub returns-then-end-start : goal.returns-then-end-start
 returns-then-end-start c =
-    let a = c.args in
-    let run = c.find_run-run.result in
-    let within = c.find_run-run.ensures.1 in
-    let alike = c.alike4-alike.result in
-    let start = run.start + alike.start in
-    let end = run.start + alike.end in
-    let here = own-run a.rows.now a.n c.requires.0.0 run.start run.end within.0 within.1
-    a.new.now run.read c.find_run-run.ensures.0 alike.start alike.end alike.there c.alike4-alike.ensures.0
+    let start = c.find_run-run.result.start + c.alike4-alike.result.start in
+    let end = c.find_run-run.result.start + c.alike4-alike.result.end in
+    let here = own-run c.args.rows.now c.args.n c.requires.rows_len.0 c.find_run-run.result.start c.find_run-run.result.end c.find_run-run.ensures.start_le_end.0 c.find_run-run.ensures.start_le_end.1
+    c.args.new.now c.find_run-run.result.read c.find_run-run.ensures.start_value c.alike4-alike.result.start c.alike4-alike.result.end c.alike4-alike.result.there c.alike4-alike.ensures.run
     in
     rw c.created.ensures (
-      placed-created a.n a.flags start 0x600 (omega (arith, within, c.alike4-alike.ensures.1)),
-      λ l h o. none-planned a.new.now a.flags l start end alike.there (here l h o) o c.if-end-start.true,
+      placed-created c.args.n c.args.flags start 0x600 (omega (arith, c.find_run-run.ensures.start_le_end, c.alike4-alike.ensures.start_le_end)),
+      λ l h o. none-planned c.args.new.now c.args.flags l start end c.alike4-alike.result.there (here l h o) o c.if-end-start.true,
     )
 
 pub returns : goal.returns
 returns c =
-    let a = c.args in
-    let run = c.find_run-run.result in
-    let within = c.find_run-run.ensures.1 in
-    let alike = c.alike4-alike.result in
-    let start = run.start + alike.start in
-    let end = run.start + alike.end in
-    let here = own-run a.rows.now a.n c.requires.0.0 run.start run.end within.0 within.1
-    a.new.now run.read c.find_run-run.ensures.0 alike.start alike.end alike.there c.alike4-alike.ensures.0
+    let start = c.find_run-run.result.start + c.alike4-alike.result.start in
+    let end = c.find_run-run.result.start + c.alike4-alike.result.end in
+    let here = own-run c.args.rows.now c.args.n c.requires.rows_len.0 c.find_run-run.result.start c.find_run-run.result.end c.find_run-run.ensures.start_le_end.0 c.find_run-run.ensures.start_le_end.1
+    c.args.new.now c.find_run-run.result.read c.find_run-run.ensures.start_value c.alike4-alike.result.start c.alike4-alike.result.end c.alike4-alike.result.there c.alike4-alike.ensures.run
     in
-    let more = c.if-end-start.false in
     rw c.among.ensures (
-      placed-among a.n a.flags start end alike.there c.same_words-first.result
-          (omega (arith, within, c.alike4-alike.ensures.1, more)) (omega (arith, within, c.alike4-alike.ensures.1)),
+      placed-among c.args.n c.args.flags start end c.alike4-alike.result.there c.same_words-first.result
+          (omega (arith, c.find_run-run.ensures.start_le_end, c.alike4-alike.ensures.start_le_end, c.if-end-start.false)) (omega (arith, c.find_run-run.ensures.start_le_end, c.alike4-alike.ensures.start_le_end)),
       λ l h o.
-          some-planned a.new.now a.flags l start end alike.there (here l h o) o more c.same_words-first.result
+          some-planned c.args.new.now c.args.flags l start end c.alike4-alike.result.there (here l h o) o c.if-end-start.false c.same_words-first.result
           (c.same_words-first.ensures
-          ∙ ap (eq_row a.new.now) (own_row a.rows.now a.n c.requires.0.0 run.start run.end within.0 within.1 l h
-          alike.start (omega (arith, within, c.alike4-alike.ensures.1, more)))),
+          ∙ ap (eq_row c.args.new.now) (own_row c.args.rows.now c.args.n c.requires.rows_len.0 c.find_run-run.result.start c.find_run-run.result.end c.find_run-run.ensures.start_le_end.0 c.find_run-run.ensures.start_le_end.1 l h
+          c.alike4-alike.result.start (omega (arith, c.find_run-run.ensures.start_le_end, c.alike4-alike.ensures.start_le_end, c.if-end-start.false)))),
     )

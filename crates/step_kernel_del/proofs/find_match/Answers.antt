@@ -19,17 +19,15 @@ loop-i-init c = (search rules, λ l h. sym (zero-add (place_of (matches c.args.p
 
 pub returns-then-matches : goal.returns-then-matches
 returns-then-matches c =
-    let a = c.args in
-    λ l h. find_here a.rows.now a.n (lit< tt) c.requires.0.0 (matches a.p.now) l h c.loop-i.i (c.loop-i.invariant.1 l h) c.loop-i-test.true (sym c.matches.ensures ∙ c.if-matches.true)
+    λ l h. find_here c.args.rows.now c.args.n (lit< tt) c.requires.rows_len.0 (matches c.args.p.now) l h c.loop-i.i (c.loop-i.invariant.1 l h) c.loop-i-test.true (sym c.matches.ensures ∙ c.if-matches.true)
 
 pub loop-i-preserved : goal.loop-i-preserved
 loop-i-preserved c =
-    let a = c.args in (
+    (
       omega arith,
-      λ l h. find_past a.rows.now a.n (lit< tt) c.requires.0.0 (matches a.p.now) l h c.loop-i.i (c.loop-i.invariant.1 l h) c.loop-i-test.true (sym c.matches.ensures ∙ c.if-matches.false),
+      λ l h. find_past c.args.rows.now c.args.n (lit< tt) c.requires.rows_len.0 (matches c.args.p.now) l h c.loop-i.i (c.loop-i.invariant.1 l h) c.loop-i-test.true (sym c.matches.ensures ∙ c.if-matches.false),
     )
 
 pub returns : goal.returns
 returns c =
-    let a = c.args in
-    λ l h. find_end a.rows.now a.n (lit< tt) c.requires.0.0 (matches a.p.now) l h c.loop-i.i (c.loop-i.invariant.1 l h) c.loop-i.invariant.0 c.loop-i-test.false
+    λ l h. find_end c.args.rows.now c.args.n (lit< tt) c.requires.rows_len.0 (matches c.args.p.now) l h c.loop-i.i (c.loop-i.invariant.1 l h) c.loop-i.invariant.0 c.loop-i-test.false

@@ -15,8 +15,8 @@ use borrow.Author.Rules.{rules}
 use Rattle.step_kernel_del.proofs.find_match.Given as goal
 
 abbrev pub invariant-loop-i : goal.invariant-loop-i
-invariant-loop-i l =
-    (l.i ≤ l.n) × ((l : List Row) → Laid 32 fit_route l.rows l → place_of (matches l.p) l ≡ l.i + place_of (matches l.p) (drop l.i l))
+invariant-loop-i turn =
+    (turn.i ≤ turn.n) × ((l : List Row) → Laid 32 fit_route turn.rows l → place_of (matches turn.p) l ≡ turn.i + place_of (matches turn.p) (drop turn.i l))
 
 abbrev pub decreases-loop-i : goal.decreases-loop-i
 decreases-loop-i l = l.n - l.i

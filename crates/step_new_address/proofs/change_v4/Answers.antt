@@ -13,19 +13,19 @@ use Rattle.step_new_address.proofs.change_v4.Goals as goal
 
 pub overflow_mul-at : goal.overflow_mul-at
 overflow_mul-at c =
-    omega (arith, sound-few c.requires.0, sound-long c.requires.0, c.requires.1.0)
+    omega (arith, sound-few c.requires.represents_fit, sound-long c.requires.represents_fit, c.requires.i_bound)
 
 pub overflow_add-at : goal.overflow_add-at
 overflow_add-at c =
-    omega (arith, sound-few c.requires.0, sound-long c.requires.0, c.requires.1.0)
+    omega (arith, sound-few c.requires.represents_fit, sound-long c.requires.represents_fit, c.requires.i_bound)
 
 pub overflow_add-at-2 : goal.overflow_add-at-2
 overflow_add-at-2 c =
-    omega (arith, sound-few c.requires.0, sound-long c.requires.0, c.requires.1.0)
+    omega (arith, sound-few c.requires.represents_fit, sound-long c.requires.represents_fit, c.requires.i_bound)
 
 pub offset_bounds-s-at : goal.offset_bounds-s-at
 offset_bounds-s-at c =
-    omega (arith, sound-few c.requires.0, sound-long c.requires.0, c.requires.1.0)
+    omega (arith, sound-few c.requires.represents_fit, sound-long c.requires.represents_fit, c.requires.i_bound)
 
 pub slice_bounds-store-count : goal.slice_bounds-store-count
 slice_bounds-store-count c =
@@ -33,11 +33,11 @@ slice_bounds-store-count c =
 
 pub slice_bounds-store-start : goal.slice_bounds-store-start
 slice_bounds-store-start c =
-    omega (arith, sound-few c.requires.0, sound-long c.requires.0, c.requires.1.0)
+    omega (arith, sound-few c.requires.represents_fit, sound-long c.requires.represents_fit, c.requires.i_bound)
 
 pub slice_bounds-store-end-2 : goal.slice_bounds-store-end-2
 slice_bounds-store-end-2 c =
-    omega (arith, sound-few c.requires.0, sound-long c.requires.0, c.requires.1.0)
+    omega (arith, sound-few c.requires.represents_fit, sound-long c.requires.represents_fit, c.requires.i_bound)
 
 pub store-requires : goal.store-requires
 store-requires c =
@@ -45,97 +45,65 @@ store-requires c =
 
 pub changed_to-requires : goal.changed_to-requires
 changed_to-requires c =
-    (c.requires.1.1.0.0, (old-long c.args.i c.requires.1.0 _ refl c.store.ensures c.requires.0, omega arith))
+    record { q_len = c.requires.q_len.0; len = old-long c.args.i c.requires.i_bound _ refl c.store.ensures c.requires.represents_fit; in_bounds = omega arith }
 
 pub moved-came-requires : goal.moved-came-requires
 moved-came-requires c =
-    let fit = old-fit c.args.i c.requires.1.0 _ refl c.store.ensures c.requires.0 in
-    (c.requires.0, (c.requires.1.1.0.0, (length-address c.store.new.0 fit, (fit, omega (arith, c.requires.1.1.1)))))
+    let fit = old-fit c.args.i c.requires.i_bound _ refl c.store.ensures c.requires.represents_fit in
+    record { represents_fit = c.requires.represents_fit; q_len = c.requires.q_len.0; len = length-address c.store.new.s fit; value = fit; in_bounds = omega (arith, c.requires.in_bounds) }
 
 pub returns-in_default : goal.returns-in_default
 returns-in_default c =
-    let a = c.args in
-    let q = a.q.now in
-    let f = c.requires.1.1.0 in
-    let old = c.store.new.0 in
-    let fit = old-fit a.i c.requires.1.0 _ refl c.store.ensures c.requires.0 in
-    (omega (arith, c.moved-came.ensures.0), λ st hs g at. change-other q a.clock.0 old f.1 fit _ refl c.changed_to.ensures c.moved-came.ensures.1 (λ k e. not_first (rw e at c.in_default.in_default-own.keys2)) st hs g (get_or st.addresses a.i []) (old_row a.i c.requires.1.0 _ refl c.store.ensures st hs))
+    let fit = old-fit c.args.i c.requires.i_bound _ refl c.store.ensures c.requires.represents_fit in
+    record { result_bound = omega (arith, c.moved-came.ensures.result_bound); comes = λ st hs g at. change-other c.args.q.now c.args.clock.0 c.store.new.s c.requires.q_len.1 fit _ refl c.changed_to.ensures c.moved-came.ensures.adds_from (λ k e. not_first (rw e at c.in_default.in_default-own.keys2)) st hs g (get_or st.addresses c.args.i []) (old_row c.args.i c.requires.i_bound _ refl c.store.ensures st hs) }
 
 pub replace_address-requires : goal.replace_address-requires
 replace_address-requires c =
-    let a = c.args in
-    let q = a.q.now in
-    let f = c.requires.1.1.0 in
-    let old = c.store.new.0 in
-    let fit = old-fit a.i c.requires.1.0 _ refl c.store.ensures c.requires.0 in
-    let k = c.in-Rows.k in
-    let two = rows_are 2 c.moved-came.result k c.in-Rows.is c.moved-came.ensures.0 in
-    let v = change-sound q a.clock.0 old f.1 fit _ refl c.changed_to.ensures c.moved-came.ensures.1 k c.in-Rows.is c.requires.0 in
-    let n = change-count q a.clock.0 old f.1 fit _ refl c.changed_to.ensures c.moved-came.ensures.1 k c.in-Rows.is c.requires.0.state c.requires.0.holds c.requires.0.fits in
-    (fit-some v, (omega (arith, n, c.requires.1.0), changed-fit q a.clock.0 old f.1 fit _ refl c.changed_to.ensures))
+    let fit = old-fit c.args.i c.requires.i_bound _ refl c.store.ensures c.requires.represents_fit in
+    let two = rows_are 2 c.moved-came.result c.in-Rows.k c.in-Rows.is c.moved-came.ensures.result_bound in
+    let v = change-sound c.args.q.now c.args.clock.0 c.store.new.s c.requires.q_len.1 fit _ refl c.changed_to.ensures c.moved-came.ensures.adds_from c.in-Rows.k c.in-Rows.is c.requires.represents_fit in
+    let n = change-count c.args.q.now c.args.clock.0 c.store.new.s c.requires.q_len.1 fit _ refl c.changed_to.ensures c.moved-came.ensures.adds_from c.in-Rows.k c.in-Rows.is c.requires.represents_fit.state c.requires.represents_fit.holds c.requires.represents_fit.fits in
+    record { represents_some = fit-some v; i_bound = omega (arith, n, c.requires.i_bound); row_value = changed-fit c.args.q.now c.args.clock.0 c.store.new.s c.requires.q_len.1 fit _ refl c.changed_to.ensures }
 
 pub overflow_mul-from : goal.overflow_mul-from
 overflow_mul-from c =
-    let a = c.args in
-    let fit = old-fit a.i c.requires.1.0 _ refl c.store.ensures c.requires.0 in
-    let k = c.in-Rows.k in
-    let two = rows_are 2 c.moved-came.result k c.in-Rows.is c.moved-came.ensures.0 in
+    let fit = old-fit c.args.i c.requires.i_bound _ refl c.store.ensures c.requires.represents_fit in
+    let two = rows_are 2 c.moved-came.result c.in-Rows.k c.in-Rows.is c.moved-came.ensures.result_bound in
     omega (arith, two)
 
 pub offset_bounds-ev-from : goal.offset_bounds-ev-from
 offset_bounds-ev-from c =
-    let a = c.args in
-    let fit = old-fit a.i c.requires.1.0 _ refl c.store.ensures c.requires.0 in
-    let k = c.in-Rows.k in
-    let two = rows_are 2 c.moved-came.result k c.in-Rows.is c.moved-came.ensures.0 in
+    let fit = old-fit c.args.i c.requires.i_bound _ refl c.store.ensures c.requires.represents_fit in
+    let two = rows_are 2 c.moved-came.result c.in-Rows.k c.in-Rows.is c.moved-came.ensures.result_bound in
     omega (arith, two)
 
 pub slice_bounds-new_addr4-count : goal.slice_bounds-new_addr4-count
 slice_bounds-new_addr4-count c =
-    let a = c.args in
-    let fit = old-fit a.i c.requires.1.0 _ refl c.store.ensures c.requires.0 in
-    let k = c.in-Rows.k in
-    let two = rows_are 2 c.moved-came.result k c.in-Rows.is c.moved-came.ensures.0 in
-    omega (arith, two, c.requires.1.1.1)
+    let fit = old-fit c.args.i c.requires.i_bound _ refl c.store.ensures c.requires.represents_fit in
+    let two = rows_are 2 c.moved-came.result c.in-Rows.k c.in-Rows.is c.moved-came.ensures.result_bound in
+    omega (arith, two, c.requires.in_bounds)
 
 pub slice_bounds-new_addr4-start : goal.slice_bounds-new_addr4-start
 slice_bounds-new_addr4-start c =
-    let a = c.args in
-    let fit = old-fit a.i c.requires.1.0 _ refl c.store.ensures c.requires.0 in
-    let k = c.in-Rows.k in
-    let two = rows_are 2 c.moved-came.result k c.in-Rows.is c.moved-came.ensures.0 in
-    omega (arith, two, c.requires.1.1.1)
+    let fit = old-fit c.args.i c.requires.i_bound _ refl c.store.ensures c.requires.represents_fit in
+    let two = rows_are 2 c.moved-came.result c.in-Rows.k c.in-Rows.is c.moved-came.ensures.result_bound in
+    omega (arith, two, c.requires.in_bounds)
 
 pub new_addr4-requires : goal.new_addr4-requires
 new_addr4-requires c =
-    let a = c.args in
-    let q = a.q.now in
-    let f = c.requires.1.1.0 in
-    let old = c.store.new.0 in
-    let fit = old-fit a.i c.requires.1.0 _ refl c.store.ensures c.requires.0 in
-    let k = c.in-Rows.k in
-    let two = rows_are 2 c.moved-came.result k c.in-Rows.is c.moved-came.ensures.0 in
-    (rest-room k 34 c.moved-came.new.1.0 (omega (arith, two, c.requires.1.1.1)), length-address c.changed_to.new.1.1.1.0 (changed-fit q a.clock.0 old f.1 fit _ refl c.changed_to.ensures))
+    let fit = old-fit c.args.i c.requires.i_bound _ refl c.store.ensures c.requires.represents_fit in
+    let two = rows_are 2 c.moved-came.result c.in-Rows.k c.in-Rows.is c.moved-came.ensures.result_bound in
+    (rest-room c.in-Rows.k 34 c.moved-came.new.ev.0 (omega (arith, two, c.requires.in_bounds)), length-address c.changed_to.new.out.1.1.0 (changed-fit c.args.q.now c.args.clock.0 c.store.new.s c.requires.q_len.1 fit _ refl c.changed_to.ensures))
 
 pub overflow_add-result : goal.overflow_add-result
 overflow_add-result c =
-    let a = c.args in
-    let fit = old-fit a.i c.requires.1.0 _ refl c.store.ensures c.requires.0 in
-    let k = c.in-Rows.k in
-    let two = rows_are 2 c.moved-came.result k c.in-Rows.is c.moved-came.ensures.0 in
+    let fit = old-fit c.args.i c.requires.i_bound _ refl c.store.ensures c.requires.represents_fit in
+    let two = rows_are 2 c.moved-came.result c.in-Rows.k c.in-Rows.is c.moved-came.ensures.result_bound in
     omega (arith, two)
 
 pub returns : goal.returns
 returns c =
-    let a = c.args in
-    let q = a.q.now in
-    let f = c.requires.1.1.0 in
-    let old = c.store.new.0 in
-    let fit = old-fit a.i c.requires.1.0 _ refl c.store.ensures c.requires.0 in
-    let k = c.in-Rows.k in
-    let two = rows_are 2 c.moved-came.result k c.in-Rows.is c.moved-came.ensures.0 in
-    let room = rest-room k 34 c.moved-came.new.1.0 (omega (arith, two, c.requires.1.1.1)) in (
-      omega (arith, two),
-      λ st hs g at. change-done q a.clock.0 old f.1 fit _ refl c.changed_to.ensures c.moved-came.ensures.1 k c.in-Rows.is a.i
-          c.replace_address.ensures room c.new_addr4.ensures st hs g at (get_or st.addresses a.i []) (old_row a.i c.requires.1.0 _ refl c.store.ensures st hs),
-    )
+    let fit = old-fit c.args.i c.requires.i_bound _ refl c.store.ensures c.requires.represents_fit in
+    let two = rows_are 2 c.moved-came.result c.in-Rows.k c.in-Rows.is c.moved-came.ensures.result_bound in
+    let room = rest-room c.in-Rows.k 34 c.moved-came.new.ev.0 (omega (arith, two, c.requires.in_bounds)) in record { result_bound = omega (arith, two); comes = λ st hs g at. change-done c.args.q.now c.args.clock.0 c.store.new.s c.requires.q_len.1 fit _ refl c.changed_to.ensures c.moved-came.ensures.adds_from c.in-Rows.k c.in-Rows.is c.args.i
+          c.replace_address.ensures room c.new_addr4.ensures st hs g at (get_or st.addresses c.args.i []) (old_row c.args.i c.requires.i_bound _ refl c.store.ensures st hs) }

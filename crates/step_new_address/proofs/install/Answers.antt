@@ -17,45 +17,30 @@ loop-i-init c =
 
 pub overflow_mul-from : goal.overflow_mul-from
 overflow_mul-from c =
-    omega (arith, c.loop-i.invariant.0, c.loop-i.invariant.1.0, c.requires.1.1.1)
+    omega (arith, c.loop-i.invariant.0, c.loop-i.invariant.1.0, c.requires.k_in_bounds.1)
 
 pub slice_bounds-kernel_add4-start : goal.slice_bounds-kernel_add4-start
 slice_bounds-kernel_add4-start c =
-    omega (arith, c.loop-i-test.true, c.loop-i.invariant.0, c.loop-i.invariant.1.0, c.loop-i.invariant.1.1.1.0, c.requires.1.1.0)
+    omega (arith, c.loop-i-test.true, c.loop-i.invariant.0, c.loop-i.invariant.1.0, c.loop-i.invariant.1.1.1.0, c.requires.k_in_bounds.0)
 
 pub kernel_add4-came-requires : goal.kernel_add4-came-requires
 kernel_add4-came-requires c =
-    let y = c.requires.1.0 in
-    let inv = c.loop-i.invariant in (
-      sofar-valid inv.1.1.1.1 c.requires.0 y.1,
-      (
-        part-fit c.args.block.now c.args.k (lit< tt) y.0 y.1 c.loop-i.i c.loop-i-test.true,
-        rest-room c.loop-i.emitted 34 c.loop-i.ev (omega (arith, c.requires.1.1.0, inv.0, inv.1.0, inv.1.1.1.0, c.loop-i-test.true)),
-      ),
-    )
+    record { represents_some = sofar-valid c.loop-i.invariant.1.1.1.1 c.requires.represents_fit c.requires.block_len.1; value = part-fit c.args.block.now c.args.k (lit< tt) c.requires.block_len.0 c.requires.block_len.1 c.loop-i.i c.loop-i-test.true; in_bounds = rest-room c.loop-i.emitted 34 c.loop-i.ev (omega (arith, c.requires.k_in_bounds.0, c.loop-i.invariant.0, c.loop-i.invariant.1.0, c.loop-i.invariant.1.1.1.0, c.loop-i-test.true)) }
 
 pub returns-in_default : goal.returns-in_default
 returns-in_default c =
-    let y = c.requires.1.0 in
-    let inv = c.loop-i.invariant in
-    let taken = c.loop-i-test.true in
-    (omega (arith, taken, c.kernel_add4-came.ensures.1.0), λ rows h. sofar-other inv.1.1.1.1 c.args.k y.0 taken c.kernel_add4-came.ensures.1.1 (λ c e. not_first (rw e at c.in_default.in_default-own.keys2)) rows h)
+    record { result_bound = omega (arith, c.loop-i-test.true, c.kernel_add4-came.ensures.result_bound); adds_from = λ rows h. sofar-other c.loop-i.invariant.1.1.1.1 c.args.k c.requires.block_len.0 c.loop-i-test.true c.kernel_add4-came.ensures.comes (λ c e. not_first (rw e at c.in_default.in_default-own.keys2)) rows h }
 
 pub overflow_add-emitted : goal.overflow_add-emitted
 overflow_add-emitted c =
-    omega (arith, c.loop-i.invariant.0, c.loop-i.invariant.1.0, c.requires.1.1.1, rows_are 1 c.kernel_add4-came.result c.in-Rows.m c.in-Rows.is c.kernel_add4-came.ensures.1.0)
+    omega (arith, c.loop-i.invariant.0, c.loop-i.invariant.1.0, c.requires.k_in_bounds.1, rows_are 1 c.kernel_add4-came.result c.in-Rows.m c.in-Rows.is c.kernel_add4-came.ensures.result_bound)
 
 pub loop-i-preserved : goal.loop-i-preserved
 loop-i-preserved c =
-    let y = c.requires.1.0 in
-    let inv = c.loop-i.invariant in
-    let m = c.in-Rows.m in
-    let one = rows_are 1 c.kernel_add4-came.result m c.in-Rows.is c.kernel_add4-came.ensures.1.0 in
-    let next = sofar-next inv.1.1.1.1 c.args.k y.0 c.loop-i-test.true c.kernel_add4-came.ensures.1.1 m c.in-Rows.is in
-    (omega arith, (omega (arith, one, inv.1.0), (sound-long (sofar-sound next c.requires.0 y.1) ∙ sym (sound-long c.requires.0), (sofar-length next c.requires.0 y.1, next))))
+    let one = rows_are 1 c.kernel_add4-came.result c.in-Rows.m c.in-Rows.is c.kernel_add4-came.ensures.result_bound in
+    let next = sofar-next c.loop-i.invariant.1.1.1.1 c.args.k c.requires.block_len.0 c.loop-i-test.true c.kernel_add4-came.ensures.comes c.in-Rows.m c.in-Rows.is in
+    (omega arith, (omega (arith, one, c.loop-i.invariant.1.0), (sound-long (sofar-sound next c.requires.represents_fit c.requires.block_len.1) ∙ sym (sound-long c.requires.represents_fit), (sofar-length next c.requires.represents_fit c.requires.block_len.1, next))))
 
 pub returns : goal.returns
 returns c =
-    let y = c.requires.1.0 in
-    let inv = c.loop-i.invariant in
-    (omega (arith, inv.0, inv.1.0), λ rows h. sofar-end inv.1.1.1.1 c.args.k y.0 c.loop-i-test.false rows h)
+    record { result_bound = omega (arith, c.loop-i.invariant.0, c.loop-i.invariant.1.0); adds_from = λ rows h. sofar-end c.loop-i.invariant.1.1.1.1 c.args.k c.requires.block_len.0 c.loop-i-test.false rows h }

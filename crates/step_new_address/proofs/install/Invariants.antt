@@ -13,7 +13,7 @@ use Rattle.step_new_address.proofs.install.Given as goal
 
 abbrev pub invariant-loop-i : goal.invariant-loop-i
 invariant-loop-i l =
-    (l.i ≤ l.initial.ev) × ((l.emitted ≤ l.i) × ((length l.s ≡ length l.block) × ((length l.ev ≡ length l.k) × LoopInvariant l.initial.s l.block l.k l.i l.s l.ev l.emitted)))
+    (l.i ≤ l.k) × ((l.emitted ≤ l.i) × ((length l.s ≡ length l.initial.s) × ((length l.ev ≡ length l.initial.ev) × LoopInvariant l.block l.initial.s l.initial.ev l.i l.s l.ev l.emitted)))
 
 abbrev pub decreases-loop-i : goal.decreases-loop-i
-decreases-loop-i l = l.initial.ev - l.i
+decreases-loop-i l = l.k - l.i

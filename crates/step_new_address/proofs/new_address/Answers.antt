@@ -11,74 +11,47 @@ use Rattle.step_new_address.proofs.new_address.Goals as goal
 
 pub address_count-n-requires : goal.address_count-n-requires
 address_count-n-requires c =
-    sound-long c.requires.0
+    sound-long c.requires.represents_fit
 
 pub returns-then-n-ge-ADDRESS_LIMIT : goal.returns-then-n-ge-ADDRESS_LIMIT
 returns-then-n-ge-ADDRESS_LIMIT c =
-    (omega arith, λ st h g. new_full c.args.new.now c.args.up st (omega (arith, count-addresses h, c.address_count-n.ensures, c.if-n-ge-ADDRESS_LIMIT.true)))
+    record { result_bound = omega arith; adds_from = λ st h g. new_full c.args.new.now c.args.up st (omega (arith, count-addresses h, c.address_count-n.ensures, c.if-n-ge-ADDRESS_LIMIT.true)) }
 
 pub place4-place-requires : goal.place4-place-requires
 place4-place-requires c =
-    (ready_addresses _ c.address_count-n.result (fit-some c.requires.0) c.addresses.ensures c.address_count-n.ensures, length-address c.args.new.now c.requires.1.0)
+    record { addresses_len = ready_addresses _ c.address_count-n.result (fit-some c.requires.represents_fit) c.addresses.ensures c.address_count-n.ensures; len = length-address c.args.new.now c.requires.value }
 
 pub insert_address-requires : goal.insert_address-requires
 insert_address-requires c =
-    (fit-some c.requires.0, ((omega (arith, c.place4-place.ensures.0, c.address_count-n.ensures), omega (arith, c.address_count-n.ensures, c.if-n-ge-ADDRESS_LIMIT.false)), c.requires.1.0))
+    record { represents_some = fit-some c.requires.represents_fit; i_bound = (omega (arith, c.place4-place.ensures.upper_bound, c.address_count-n.ensures), omega (arith, c.address_count-n.ensures, c.if-n-ge-ADDRESS_LIMIT.false)); row_value = c.requires.value }
 
 pub new_addr4-requires : goal.new_addr4-requires
 new_addr4-requires c =
-    (omega (arith, c.requires.1.1), length-address c.args.new.now c.requires.1.0)
+    (omega (arith, c.requires.in_bounds), length-address c.args.new.now c.requires.value)
 
 pub addresses-requires-2 : goal.addresses-requires-2
 addresses-requires-2 c =
-    let v = c.requires.0 in
-    record { state = _; holds = c.insert_address.ensures v.state v.holds }
+    record { state = _; holds = c.insert_address.ensures c.requires.represents_fit.state c.requires.represents_fit.holds }
 
 pub candidates-k-requires : goal.candidates-k-requires
 candidates-k-requires c =
-    let a = c.args in
-    let new = a.new.now in
-    let v = c.requires.0 in
-    let fit = c.requires.1.0 in
-    let l = c.addresses.ensures in
-    let place = c.place4-place.ensures.1 v.state.addresses (of_addresses _ v.holds l) in
-    let put = c.insert_address.ensures v.state v.holds in
-    let count = placed-count new a.up v.state c.place4-place.result place put in (
-      ready_addresses _ (c.address_count-n.result + 1) (record { state = _; holds = put }) c.addresses-2.ensures (omega (arith, count, count-addresses v.holds, c.address_count-n.ensures)),
-      (fit-short new fit, omega arith),
-    )
+    let place = c.place4-place.ensures.l_value c.requires.represents_fit.state.addresses (of_addresses _ c.requires.represents_fit.holds c.addresses.ensures) in
+    let put = c.insert_address.ensures c.requires.represents_fit.state c.requires.represents_fit.holds in
+    let count = placed-count c.args.new.now c.args.up c.requires.represents_fit.state c.place4-place.result place put in record { addresses_len = ready_addresses _ (c.address_count-n.result + 1) (record { state = _; holds = put }) c.addresses-2.ensures (omega (arith, count, count-addresses c.requires.represents_fit.holds, c.address_count-n.ensures)); a_len = fit-short c.args.new.now c.requires.value; in_bounds = omega arith }
 
 pub install-came-requires : goal.install-came-requires
 install-came-requires c =
-    let a = c.args in
-    let new = a.new.now in
-    let v = c.requires.0 in
-    let fit = c.requires.1.0 in
-    let l = c.addresses.ensures in
-    let place = c.place4-place.ensures.1 v.state.addresses (of_addresses _ v.holds l) in
-    let put = c.insert_address.ensures v.state v.holds in
-    let there = placed-holds new a.up v.state c.place4-place.result place put in
-    let rows = c.candidates-k.ensures.1 (placed new v.state).addresses (of_addresses _ there c.addresses-2.ensures) in
-    let few = c.candidates-k.ensures.0.1 in (
-      record { state = placed new v.state; holds = there; fits = placed-fit new a.up v.state fit v.fits },
-      (
-        new_ready new a.up v.state c.place4-place.result place put fit c.candidates-k.result _ _ rows,
-        (rest-room 1 (34 * c.candidates-k.result) c.new_addr4.new.0 (omega (arith, few, c.requires.1.1, emitted-length new fit a.ev.now (omega (arith, c.requires.1.1)) c.new_addr4.ensures)), omega (arith, few)),
-      ),
-    )
+    let place = c.place4-place.ensures.l_value c.requires.represents_fit.state.addresses (of_addresses _ c.requires.represents_fit.holds c.addresses.ensures) in
+    let put = c.insert_address.ensures c.requires.represents_fit.state c.requires.represents_fit.holds in
+    let there = placed-holds c.args.new.now c.args.up c.requires.represents_fit.state c.place4-place.result place put in
+    let rows = c.candidates-k.ensures.value (placed c.args.new.now c.requires.represents_fit.state).addresses (of_addresses _ there c.addresses-2.ensures) in
+    record { represents_fit = record { state = placed c.args.new.now c.requires.represents_fit.state; holds = there; fits = placed-fit c.args.new.now c.args.up c.requires.represents_fit.state c.requires.value c.requires.represents_fit.fits }; block_len = new_ready c.args.new.now c.args.up c.requires.represents_fit.state c.place4-place.result place put c.requires.value c.candidates-k.result _ _ rows; k_in_bounds = (rest-room 1 (34 * c.candidates-k.result) c.new_addr4.new.ev (omega (arith, c.candidates-k.ensures.lower_bound.1, c.requires.in_bounds, emitted-length c.args.new.now c.requires.value c.args.ev.now (omega (arith, c.requires.in_bounds)) c.new_addr4.ensures)), omega (arith, c.candidates-k.ensures.lower_bound.1)) }
 
 pub returns : goal.returns
 returns c =
-    let a = c.args in
-    let new = a.new.now in
-    let fit = c.requires.1.0 in
-    let l = c.addresses.ensures in
-    let few = c.candidates-k.ensures.0.1 in (
-      omega (arith, few, joined-few 1 c.candidates-k.result c.install-came.result c.joined.result c.joined.ensures c.install-came.ensures.0),
-      λ st h g.
-          let place = c.place4-place.ensures.1 st.addresses (of_addresses _ h l) in
+    record { result_bound = omega (arith, c.candidates-k.ensures.lower_bound.1, joined-few 1 c.candidates-k.result c.install-came.result c.joined.result c.joined.ensures c.install-came.ensures.result_bound); adds_from = λ st h g.
+          let place = c.place4-place.ensures.l_value st.addresses (of_addresses _ h c.addresses.ensures) in
           let put = c.insert_address.ensures st h in
-          let there = placed-holds new a.up st c.place4-place.result place put in
-          let rows = c.candidates-k.ensures.1 (placed new st).addresses (of_addresses _ there c.addresses-2.ensures) in
-          new_done new a.up st c.place4-place.result place put fit c.candidates-k.result _ _ rows g (omega (arith, c.requires.1.1)) c.new_addr4.ensures c.install-came.ensures.1 c.joined.result c.joined.ensures,
-    )
+          let there = placed-holds c.args.new.now c.args.up st c.place4-place.result place put in
+          let rows = c.candidates-k.ensures.value (placed c.args.new.now st).addresses (of_addresses _ there c.addresses-2.ensures) in
+          new_done c.args.new.now c.args.up st c.place4-place.result place put c.requires.value c.candidates-k.result _ _ rows g (omega (arith, c.requires.in_bounds)) c.new_addr4.ensures c.install-came.ensures.adds_from c.joined.result c.joined.ensures }

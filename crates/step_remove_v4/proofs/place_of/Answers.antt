@@ -18,17 +18,15 @@ loop-i-init c = (search rules, λ l h. sym (zero-add (place_of (eq_row c.args.a.
 
 pub returns-then-same_words : goal.returns-then-same_words
 returns-then-same_words c =
-    let a = c.args in
-    λ l h. find_here a.rows.now a.n (lit< tt) c.requires.0 (eq_row a.a.now) l h c.loop-i.i (c.loop-i.invariant.1 l h) c.loop-i-test.true (sym c.same_words.ensures ∙ c.if-same_words.true)
+    λ l h. find_here c.args.rows.now c.args.n (lit< tt) c.requires.0 (eq_row c.args.a.now) l h c.loop-i.i (c.loop-i.invariant.1 l h) c.loop-i-test.true (sym c.same_words.ensures ∙ c.if-same_words.true)
 
 pub loop-i-preserved : goal.loop-i-preserved
 loop-i-preserved c =
-    let a = c.args in (
+    (
       omega arith,
-      λ l h. find_past a.rows.now a.n (lit< tt) c.requires.0 (eq_row a.a.now) l h c.loop-i.i (c.loop-i.invariant.1 l h) c.loop-i-test.true (sym c.same_words.ensures ∙ c.if-same_words.false),
+      λ l h. find_past c.args.rows.now c.args.n (lit< tt) c.requires.0 (eq_row c.args.a.now) l h c.loop-i.i (c.loop-i.invariant.1 l h) c.loop-i-test.true (sym c.same_words.ensures ∙ c.if-same_words.false),
     )
 
 pub returns : goal.returns
 returns c =
-    let a = c.args in
-    λ l h. find_end a.rows.now a.n (lit< tt) c.requires.0 (eq_row a.a.now) l h c.loop-i.i (c.loop-i.invariant.1 l h) c.loop-i.invariant.0 c.loop-i-test.false
+    λ l h. find_end c.args.rows.now c.args.n (lit< tt) c.requires.0 (eq_row c.args.a.now) l h c.loop-i.i (c.loop-i.invariant.1 l h) c.loop-i.invariant.0 c.loop-i-test.false

@@ -14,8 +14,8 @@ use borrow.Author.Rules.{rules}
 use Rattle.step_remove_v4.proofs.place_of.Given as goal
 
 abbrev pub invariant-loop-i : goal.invariant-loop-i
-invariant-loop-i l =
-    (l.i ≤ l.n) × ((l : List Row) → Laid 20 fit_address l.rows l → place_of (eq_row l.a) l ≡ l.i + place_of (eq_row l.a) (drop l.i l))
+invariant-loop-i turn =
+    (turn.i ≤ turn.n) × ((l : List Row) → Laid 20 fit_address turn.rows l → place_of (eq_row turn.a) l ≡ turn.i + place_of (eq_row turn.a) (drop turn.i l))
 
 abbrev pub decreases-loop-i : goal.decreases-loop-i
 decreases-loop-i l = l.n - l.i

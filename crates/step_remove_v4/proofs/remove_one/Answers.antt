@@ -24,54 +24,45 @@ address_count-n-requires c = (sizes-valid (ready_valid (present_ready c.requires
 pub leaving-m-requires : goal.leaving-m-requires
 leaving-m-requires c =
     let v = ready_valid (present_ready c.requires) in
-    (
-      (
+    record { addresses_len = (
         ap length c.addresses.ensures ∙ length-addresses v ∙ ap (λ (n : ℕ). 20 * n) (sym c.address_count-n.ensures),
         subst (Lays 20 fit_address) (sym c.addresses.ensures) (lays_addresses v),
-      ),
-      (fit-short _ (present-fit c.requires), search rules),
-    )
+      ); a_len = fit-short _ (present-fit c.requires); in_bounds = search rules }
 
 pub slice_bounds-take_routes-count : goal.slice_bounds-take_routes-count
 slice_bounds-take_routes-count c =
-    let y = c.requires in
-    let t = c.take_out-one.ensures.1 y.state y.fits y.there in
-    (step-facts y.fits t).0
+    let t = c.take_out-one.ensures.emits_within c.requires.state c.requires.fits c.requires.there in
+    (step-facts c.requires.fits t).0
 
 pub slice_bounds-take_routes-start : goal.slice_bounds-take_routes-start
 slice_bounds-take_routes-start c =
-    let y = c.requires in
-    let t = c.take_out-one.ensures.1 y.state y.fits y.there in
-    omega (arith, (step-facts y.fits t).0)
+    let t = c.take_out-one.ensures.emits_within c.requires.state c.requires.fits c.requires.there in
+    omega (arith, (step-facts c.requires.fits t).0)
 
 pub bounds-a-0 : goal.bounds-a-0
 bounds-a-0 c = omega (arith, (present-room c.requires).1)
 
 pub take_routes-requires : goal.take_routes-requires
 take_routes-requires c =
-    let y = c.requires in
-    let t = c.take_out-one.ensures.1 y.state y.fits y.there in
-    let st = y.state in
-    let e = c.leaving-m.ensures.1 st.addresses (subst (λ (x : List ℕ). Laid 20 fit_address x st.addresses) (sym c.addresses.ensures) (laid-addresses y.fits.holds)) in
-    let l = leaving st.addresses c.args.a.now in
-    let b = block_laid l c.leaving-m.result _ (leaving-sized st.addresses c.args.a.now) e.0 e.1 in
-    (step_ready t, (laid-length b ∙ ap (λ (n : ℕ). 32 * n) (sym e.0), record { list = l; laid = b }))
+    let t = c.take_out-one.ensures.emits_within c.requires.state c.requires.fits c.requires.there in
+    let e = c.leaving-m.ensures.value c.requires.state.addresses (subst (λ (x : List ℕ). Laid 20 fit_address x c.requires.state.addresses) (sym c.addresses.ensures) (laid-addresses c.requires.fits.holds)) in
+    let l = leaving c.requires.state.addresses c.args.a.now in
+    let b = block_laid l c.leaving-m.result _ (leaving-sized c.requires.state.addresses c.args.a.now) e.0 e.1 in
+    record { some_room = step_ready t; rows_len = (laid-length b ∙ ap (λ (n : ℕ). 32 * n) (sym e.0), record { list = l; laid = b }) }
 
 pub overflow_add-result : goal.overflow_add-result
 overflow_add-result c =
-    let y = c.requires in
-    let t = c.take_out-one.ensures.1 y.state y.fits y.there in
-    let st = y.state in
-    let e = c.leaving-m.ensures.1 st.addresses (subst (λ (x : List ℕ). Laid 20 fit_address x st.addresses) (sym c.addresses.ensures) (laid-addresses y.fits.holds)) in
-    let l = leaving st.addresses c.args.a.now in
-    let b = block_laid l c.leaving-m.result _ (leaving-sized st.addresses c.args.a.now) e.0 e.1 in
+    let t = c.take_out-one.ensures.emits_within c.requires.state c.requires.fits c.requires.there in
+    let e = c.leaving-m.ensures.value c.requires.state.addresses (subst (λ (x : List ℕ). Laid 20 fit_address x c.requires.state.addresses) (sym c.addresses.ensures) (laid-addresses c.requires.fits.holds)) in
+    let l = leaving c.requires.state.addresses c.args.a.now in
+    let b = block_laid l c.leaving-m.result _ (leaving-sized c.requires.state.addresses c.args.a.now) e.0 e.1 in
     let r = rest-fits potential t in
-    record { fits = omega (arith, (step-facts y.fits t).3, (step-facts r (c.take_routes.ensures (gone_from c.args.a.now st).state r l b)).3) }
+    record { fits = omega (arith, (step-facts c.requires.fits t).3, (step-facts r (c.take_routes.ensures (gone_from c.args.a.now c.requires.state).state r l b)).3) }
 
 pub returns : goal.returns
 returns c = λ st f q.
-    let t = c.take_out-one.ensures.1 st f q in
-    let e = c.leaving-m.ensures.1 st.addresses (subst (λ (x : List ℕ). Laid 20 fit_address x st.addresses) (sym c.addresses.ensures) (laid-addresses f.holds)) in
+    let t = c.take_out-one.ensures.emits_within st f q in
+    let e = c.leaving-m.ensures.value st.addresses (subst (λ (x : List ℕ). Laid 20 fit_address x st.addresses) (sym c.addresses.ensures) (laid-addresses f.holds)) in
     let l = leaving st.addresses c.args.a.now in
     let b = block_laid l c.leaving-m.result _ (leaving-sized st.addresses c.args.a.now) e.0 e.1 in
     one-step c.args.a.now t (c.take_routes.ensures (gone_from c.args.a.now st).state (rest-fits potential t) l b)

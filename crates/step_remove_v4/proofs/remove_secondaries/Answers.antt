@@ -14,17 +14,15 @@ use borrow.Author.Rules.{rules}
 use Rattle.step_remove_v4.proofs.remove_secondaries.Goals as goal
 
 pub address_count-n-requires : goal.address_count-n-requires
-address_count-n-requires c = (sizes-valid (ready_valid c.requires.0)).long
+address_count-n-requires c = (sizes-valid (ready_valid c.requires.some_room)).long
 
 pub loop-j-init : goal.loop-j-init
 loop-j-init c =
-    let y = c.requires.0 in
-    let a = c.args.a.now in
-    let n = c.address_count-n.ensures in (
+    (
       omega arith,
-      omega (arith, n, (sizes-valid (ready_valid y)).addresses),
-      gone-facts a c.address_count-n.result 0 (gone-start a c.address_count-n.result n y.fits) y.fits,
-      λ st f. gone-start a c.address_count-n.result n f,
+      omega (arith, c.address_count-n.ensures, (sizes-valid (ready_valid c.requires.some_room)).addresses),
+      gone-facts c.args.a.now c.address_count-n.result 0 (gone-start c.args.a.now c.address_count-n.result c.address_count-n.ensures c.requires.some_room.fits) c.requires.some_room.fits,
+      λ st f. gone-start c.args.a.now c.address_count-n.result c.address_count-n.ensures f,
     )
 
 pub address_count-requires : goal.address_count-requires
@@ -32,40 +30,28 @@ address_count-requires c = c.loop-j.invariant.2.0.1
 
 pub gone_iteration-k-requires : goal.gone_iteration-k-requires
 gone_iteration-k-requires c =
-    let y = c.requires.0 in
-    (going_ready potential (c.loop-j.invariant.3 y.state y.fits), (omega (arith, c.loop-j-test.true, c.address_count.ensures, c.loop-j.invariant.2.1), c.requires.1))
+    record { some_room = going_ready potential (c.loop-j.invariant.3 c.requires.some_room.state c.requires.some_room.fits); i_bound = omega (arith, c.loop-j-test.true, c.address_count.ensures, c.loop-j.invariant.2.1); a_value = c.requires.a_value }
 
 pub overflow_add-k : goal.overflow_add-k
 overflow_add-k c =
-    let y = c.requires.0 in
-    let a = c.args.a.now in
-    let n = c.address_count-n.result in
-    let m = c.address_count in
-    let taken = c.loop-j-test.true in
-    let i = c.loop-j.j + m.result - n in
-    let e : i + n ≡ c.loop-j.j + address_count c.loop-j.s = omega (arith, m.ensures, c.loop-j.invariant.2.1.1) in
-    let iteration = c.gone_iteration-k.ensures in
-    let facts = gone-facts a n (c.loop-j.j + 1) (gone-next a n c.loop-j.j (c.loop-j.invariant.3 y.state y.fits) taken i e (λ x f. iteration x f)) y.fits in
+    let i = c.loop-j.j + c.address_count.result - c.address_count-n.result in
+    let e : i + c.address_count-n.result ≡ c.loop-j.j + address_count c.loop-j.s = omega (arith, c.address_count.ensures, c.loop-j.invariant.2.1.1) in
+    let facts = gone-facts c.args.a.now c.address_count-n.result (c.loop-j.j + 1) (gone-next c.args.a.now c.address_count-n.result c.loop-j.j (c.loop-j.invariant.3 c.requires.some_room.state c.requires.some_room.fits) c.loop-j-test.true i e (λ x f. c.gone_iteration-k.ensures x f)) c.requires.some_room.fits in
     record { fits = omega (arith, facts.0.3) }
 
 pub loop-j-preserved : goal.loop-j-preserved
 loop-j-preserved c =
-    let y = c.requires.0 in
-    let a = c.args.a.now in
-    let n = c.address_count-n.result in
-    let m = c.address_count in
-    let taken = c.loop-j-test.true in
-    let i = c.loop-j.j + m.result - n in
-    let e : i + n ≡ c.loop-j.j + address_count c.loop-j.s = omega (arith, m.ensures, c.loop-j.invariant.2.1.1) in
-    let iteration = c.gone_iteration-k.ensures in (
-      omega (arith, taken),
+    let i = c.loop-j.j + c.address_count.result - c.address_count-n.result in
+    let e : i + c.address_count-n.result ≡ c.loop-j.j + address_count c.loop-j.s = omega (arith, c.address_count.ensures, c.loop-j.invariant.2.1.1) in
+    (
+      omega (arith, c.loop-j-test.true),
       c.loop-j.invariant.1,
-      gone-facts a n (c.loop-j.j + 1) (gone-next a n c.loop-j.j (c.loop-j.invariant.3 y.state y.fits) taken i e (λ x f. iteration x f)) y.fits,
-      λ st f. gone-next a n c.loop-j.j (c.loop-j.invariant.3 st f) taken i e (λ x f. iteration x f),
+      gone-facts c.args.a.now c.address_count-n.result (c.loop-j.j + 1) (gone-next c.args.a.now c.address_count-n.result c.loop-j.j (c.loop-j.invariant.3 c.requires.some_room.state c.requires.some_room.fits) c.loop-j-test.true i e (λ x f. c.gone_iteration-k.ensures x f)) c.requires.some_room.fits,
+      λ st f. gone-next c.args.a.now c.address_count-n.result c.loop-j.j (c.loop-j.invariant.3 st f) c.loop-j-test.true i e (λ x f. c.gone_iteration-k.ensures x f),
     )
 
 pub shape_of-s : goal.shape_of-s
-shape_of-s c = c.loop-j.invariant.2.0.1 ∙ sym (sizes-valid (ready_valid c.requires.0)).long
+shape_of-s c = c.loop-j.invariant.2.0.1 ∙ sym (sizes-valid (ready_valid c.requires.some_room)).long
 
 pub returns : goal.returns
 returns c =

@@ -15,10 +15,10 @@ use Rattle.step_remove_v4.proofs.remove_secondaries.Given as goal
 
 abbrev pub invariant-loop-j : goal.invariant-loop-j
 invariant-loop-j l =
-    (l.j ≤ l.initial.ev)
-    × (l.initial.ev ≤ 64)
-    × (((34 * l.k ≤ length l.ev) × (length l.s ≡ base_size) × (length l.ev ≡ length l.n) × (l.k ≤ 384)) × ((address_count l.s ≤ l.initial.ev) × (l.initial.ev ≤ l.j + address_count l.s)))
-    × ((st : State) → RoomFor potential st l.a l.n → Going1 l.initial.s st l.initial.ev l.j l.k l.s l.n l.ev)
+    (l.j ≤ l.n)
+    × (l.n ≤ 64)
+    × (((34 * l.k ≤ length l.ev) × (length l.s ≡ base_size) × (length l.ev ≡ length l.initial.ev) × (l.k ≤ 384)) × ((address_count l.s ≤ l.n) × (l.n ≤ l.j + address_count l.s)))
+    × ((st : State) → RoomFor potential st l.initial.s l.initial.ev → Going1 l.a st l.n l.j l.k l.s l.initial.ev l.ev)
 
 abbrev pub decreases-loop-j : goal.decreases-loop-j
-decreases-loop-j l = l.initial.ev - l.j
+decreases-loop-j l = l.n - l.j

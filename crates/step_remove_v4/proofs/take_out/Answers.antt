@@ -27,14 +27,10 @@ del_addr4-requires c = present-room c.requires
 
 pub remove_address-requires : goal.remove_address-requires
 remove_address-requires c =
-    let st = c.requires.state in
-    (ready_valid (present_ready c.requires), present-place c.requires c.place_of-i.result (c.place_of-i.ensures st.addresses (subst (λ (x : List ℕ). Laid 20 fit_address x st.addresses) (sym c.addresses.ensures) (laid-addresses c.requires.fits.holds))))
+    record { represents_some = ready_valid (present_ready c.requires); i_bound = present-place c.requires c.place_of-i.result (c.place_of-i.ensures c.requires.state.addresses (subst (λ (x : List ℕ). Laid 20 fit_address x c.requires.state.addresses) (sym c.addresses.ensures) (laid-addresses c.requires.fits.holds))) }
 
 pub returns : goal.returns
 returns c =
-    (
-      refl,
-      λ st f t.
+    record { value = refl; emits_within = λ st f t.
           gone-step c.args.a.now c.place_of-i.result f t (present-fit c.requires) (c.place_of-i.ensures st.addresses (subst (λ (x : List ℕ). Laid 20 fit_address x st.addresses) (sym c.addresses.ensures) (laid-addresses f.holds)))
-          (c.remove_address.ensures st f.holds) c.del_addr4.ensures,
-    )
+          (c.remove_address.ensures st f.holds) c.del_addr4.ensures }

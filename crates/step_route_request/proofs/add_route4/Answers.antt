@@ -9,26 +9,14 @@ use borrow.Author.Rules.{rules}
 use Rattle.step_route_request.proofs.add_route4.Goals as goal
 
 pub returns-then-tables_after-gt-TABLE_LIMIT : goal.returns-then-tables_after-gt-TABLE_LIMIT
-returns-then-tables_after-gt-TABLE_LIMIT c = let a = c.args in
-    let q = a.q.now in
-    λ st h g. table-full q c.table_named-t.result a.ev.now c.table_named-t.ensures h (omega (arith, c.tables_after.ensures, c.if-tables_after-gt-TABLE_LIMIT.true))
+returns-then-tables_after-gt-TABLE_LIMIT c = λ st h g. table-full c.args.q.now c.table_named-t.result c.args.ev.now c.table_named-t.ensures h (omega (arith, c.tables_after.ensures, c.if-tables_after-gt-TABLE_LIMIT.true))
 
 pub add_checked-requires : goal.add_checked-requires
-add_checked-requires c = let a = c.args in
-    let q = a.q.now in
-    let v = c.requires.0 in
-    let f = c.checked-in-By-1.given in
-    let made = create4 (table_named q) v.state in
-    (v, (omega (arith, c.tables_after.ensures, c.if-tables_after-gt-TABLE_LIMIT.false), ((c.requires.1.0.0, asked-fits q made f.0.0 (by-checked c.check-checked.result f.0.0 f.1 (check_all q made) (c.check-checked.ensures v.state v.holds)) c.requires.1.0.0 c.requires.1.0.1), c.requires.1.1)))
+add_checked-requires c = let made = create4 (table_named c.args.q.now) c.requires.represents_fit.state in
+    record { represents_fit = c.requires.represents_fit; s_len_bound = omega (arith, c.tables_after.ensures, c.if-tables_after-gt-TABLE_LIMIT.false); q_len = (c.requires.q_len.0, asked-fits c.args.q.now made c.in-By.linked (by-checked c.check-checked.result c.in-By.linked c.in-By.is (check_all c.args.q.now made) (c.check-checked.ensures c.requires.represents_fit.state c.requires.represents_fit.holds)) c.requires.q_len.0 c.requires.q_len.1); in_bounds = c.requires.in_bounds }
 
 pub returns-in-Refused : goal.returns-in-Refused
-returns-in-Refused c = let a = c.args in
-    let q = a.q.now in
-    let f = c.checked-1.given in
-    λ st h g. way_refused q c.table_named-t.result st a.ev.now c.check-checked.result c.table_named-t.ensures (c.check-checked.ensures st h) f.0.0 f.1 (c.list_table.ensures st h)
+returns-in-Refused c = λ st h g. way_refused c.args.q.now c.table_named-t.result st c.args.ev.now c.check-checked.result c.table_named-t.ensures (c.check-checked.ensures st h) c.in-Refused.error c.in-Refused.is (c.list_table.ensures st h)
 
 pub returns-in-By : goal.returns-in-By
-returns-in-By c = let a = c.args in
-    let q = a.q.now in
-    let f = c.checked-in-By-1.given in
-    λ st h g. way_added q c.table_named-t.result st a.ev.now c.check-checked.result c.table_named-t.ensures (c.check-checked.ensures st h) f.0.0 f.1 (c.add_checked.ensures st h g)
+returns-in-By c = λ st h g. way_added c.args.q.now c.table_named-t.result st c.args.ev.now c.check-checked.result c.table_named-t.ensures (c.check-checked.ensures st h) c.in-By.linked c.in-By.is (c.add_checked.ensures st h g)

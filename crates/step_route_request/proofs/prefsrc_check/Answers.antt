@@ -10,19 +10,16 @@ use Rattle.state_read.specs.Parts.{ready_routes, of_routes}
 use Rattle.step_route_request.proofs.prefsrc_check.Goals as goal
 
 pub returns-then-q-ne1 : goal.returns-then-q-ne1
-returns-then-q-ne1 c = let a = c.args in
-    λ st h f. no-prefsrc a.q.now st a.t c.requires.1.1 a.linked c.if-q-ne1.true
+returns-then-q-ne1 c = λ st h f. no-prefsrc c.args.q.now st c.args.t c.requires.q_len.1 c.args.linked c.if-q-ne1.true
 
 pub route_count-n-requires : goal.route_count-n-requires
-route_count-n-requires c = (sizes-valid c.requires.0).long
+route_count-n-requires c = (sizes-valid c.requires.represents_some).long
 
 pub valid_prefsrc4-requires : goal.valid_prefsrc4-requires
-valid_prefsrc4-requires c = (ready_routes _ _ c.requires.0 c.routes.ensures c.route_count-n.ensures, omega (arith, c.requires.1.0))
+valid_prefsrc4-requires c = record { rows_len = ready_routes _ _ c.requires.represents_some c.routes.ensures c.route_count-n.ensures; in_bounds = omega (arith, c.requires.q_len.0) }
 
 pub returns-then-valid_prefsrc4 : goal.returns-then-valid_prefsrc4
-returns-then-valid_prefsrc4 c = let a = c.args in
-    λ st h f. good-prefsrc a.q.now st a.t c.requires.1.1 a.linked c.if-q-ne1.false c.valid_prefsrc4.result (c.listed.result || eqb c.prefsrc_table-own.result a.t) a.local (own-listed h c.prefsrc_table-own.result a.t c.listed.result c.prefsrc_table-own.ensures c.listed.ensures) f (c.valid_prefsrc4.ensures st.routes (of_routes _ h c.routes.ensures)) c.if-valid_prefsrc4.true
+returns-then-valid_prefsrc4 c = λ st h f. good-prefsrc c.args.q.now st c.args.t c.requires.q_len.1 c.args.linked c.if-q-ne1.false c.valid_prefsrc4.result (c.listed.result || eqb c.prefsrc_table-own.result c.args.t) c.args.local (own-listed h c.prefsrc_table-own.result c.args.t c.listed.result c.prefsrc_table-own.ensures c.listed.ensures) f (c.valid_prefsrc4.ensures st.routes (of_routes _ h c.routes.ensures)) c.if-valid_prefsrc4.true
 
 pub returns : goal.returns
-returns c = let a = c.args in
-    λ st h f. bad_prefsrc a.q.now st a.t c.requires.1.1 a.linked c.if-q-ne1.false c.valid_prefsrc4.result (c.listed.result || eqb c.prefsrc_table-own.result a.t) a.local (own-listed h c.prefsrc_table-own.result a.t c.listed.result c.prefsrc_table-own.ensures c.listed.ensures) f (c.valid_prefsrc4.ensures st.routes (of_routes _ h c.routes.ensures)) c.if-valid_prefsrc4.false
+returns c = λ st h f. bad_prefsrc c.args.q.now st c.args.t c.requires.q_len.1 c.args.linked c.if-q-ne1.false c.valid_prefsrc4.result (c.listed.result || eqb c.prefsrc_table-own.result c.args.t) c.args.local (own-listed h c.prefsrc_table-own.result c.args.t c.listed.result c.prefsrc_table-own.ensures c.listed.ensures) f (c.valid_prefsrc4.ensures st.routes (of_routes _ h c.routes.ensures)) c.if-valid_prefsrc4.false

@@ -5,19 +5,13 @@ use borrow.Author.Rules.{rules}
 use Rattle.step_route_request.proofs.tell.Goals as goal
 
 pub returns-in-Put : goal.returns-in-Put
-returns-in-Put c = let a = c.args in
-    let f = c.i-1.given in
-    emission-put a.new.now a.i a.ev.now f.0.0 f.1 c.new_route4.ensures
+returns-in-Put c = emission-put c.args.new.now c.args.i c.args.ev.now c.in-Put.flags c.in-Put.is c.new_route4.ensures
 
 pub returns-in-Nothing : goal.returns-in-Nothing
-returns-in-Nothing c = let a = c.args in
-    emission-nothing a.new.now a.i a.ev.now c.in-Nothing.is
+returns-in-Nothing c = emission-nothing c.args.new.now c.args.i c.args.ev.now c.in-Nothing.is
 
 pub returns-in-Refused : goal.returns-in-Refused
-returns-in-Refused c = let a = c.args in
-    let f = c.i-in-Refused-1.given in
-    emission-refused a.new.now a.i a.ev.now f.0.0 f.1
+returns-in-Refused c = emission-refused c.args.new.now c.args.i c.args.ev.now c.in-Refused.error c.in-Refused.is
 
 pub returns-in-Full : goal.returns-in-Full
-returns-in-Full c = let a = c.args in
-    emission-full a.new.now a.i a.ev.now c.in-Full.is
+returns-in-Full c = emission-full c.args.new.now c.args.i c.args.ev.now c.in-Full.is

@@ -8,4 +8,4 @@ use borrow.Author.Rules.{rules}
 use Rattle.text.proofs.byte.Goals as goal
 
 pub returns : goal.returns
-returns c = (refl, put_one c.args.at c.args.c c.args.out.now (omega arith))
+returns c = record { value = refl; out_after = put_one c.args.at c.args.c c.args.out.now (omega arith) }

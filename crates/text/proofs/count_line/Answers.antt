@@ -12,6 +12,5 @@ ends-requires c = omega (arith, count_word c.args.n (omega arith))
 
 pub returns : goal.returns
 returns c =
-    let a = c.args in
-    let w = count-wrote a.at c.text-next.result c.ends.result a.n a.out.now _ _ (omega arith) c.text-next.ensures.0 c.text-next.ensures.1 c.ends.ensures.0 c.ends.ensures.1 (omega arith) in
-    (omega (arith, w.next, length-count a.n (omega arith)), (w.next, w.bytes))
+    let w = count-wrote c.args.at c.text-next.result c.ends.result c.args.n c.args.out.now _ _ (omega arith) c.text-next.ensures.value c.text-next.ensures.out_after c.ends.ensures.value c.ends.ensures.out_after (omega arith) in
+    record { upper_bound = omega (arith, w.next, length-count c.args.n (omega arith)); value = w.next; out_after = w.bytes }

@@ -11,7 +11,6 @@ number_to-requires c = omega (arith, length-dotted c.args.dst, count_word c.args
 
 pub returns : goal.returns
 returns c =
-    let a = c.args in
-    let w = bracketed-wrote a.at a.dst a.len c.byte-first.result c.dotted_to-second.result c.number_to.result a.out.now _ _ _ (omega arith)
-    c.byte-first.ensures.0 c.byte-first.ensures.1 c.dotted_to-second.ensures.0 c.dotted_to-second.ensures.1 c.number_to.ensures.0 c.number_to.ensures.1 (omega arith) in
-    (omega arith, w.bytes)
+    let w = bracketed-wrote c.args.at c.args.dst c.args.len c.byte-first.result c.dotted_to-second.result c.number_to.result c.args.out.now _ _ _ (omega arith)
+    c.byte-first.ensures.value c.byte-first.ensures.out_after c.dotted_to-second.ensures.value c.dotted_to-second.ensures.out_after c.number_to.ensures.value c.number_to.ensures.out_after (omega arith) in
+    record { value = omega arith; out_after = w.bytes }

@@ -10,6 +10,5 @@ byte-requires c = omega arith
 
 pub returns : goal.returns
 returns c =
-    let a = c.args in
-    let w = ending-wrote a.at a.n c.number_to-next.result c.byte.result a.out.now _ _ c.number_to-next.ensures.0 c.number_to-next.ensures.1 c.byte.ensures.0 c.byte.ensures.1 (omega arith) in
-    (omega arith, w.bytes)
+    let w = ending-wrote c.args.at c.args.n c.number_to-next.result c.byte.result c.args.out.now _ _ c.number_to-next.ensures.value c.number_to-next.ensures.out_after c.byte.ensures.value c.byte.ensures.out_after (omega arith) in
+    record { value = omega arith; out_after = w.bytes }

@@ -14,16 +14,15 @@ use Rattle.text.proofs.lines.Goals as goal
 
 pub loop-i-init : goal.loop-i-init
 loop-i-init c =
-    let a = c.args in
-    (omega arith, refl, omega arith, lines_none a.at (chop 32 a.n a.rows.now) a.out.now (omega arith) (put-none a.at a.out.now))
+    (omega arith, refl, omega arith, lines_none c.args.at (chop 32 c.args.n c.args.rows.now) c.args.out.now (omega arith) (put-none c.args.at c.args.out.now))
 
 pub loop-i-preserved : goal.loop-i-preserved
 loop-i-preserved c =
-    let a = c.args in (
+    (
       omega arith,
       omega arith,
       omega arith,
-      line-more a.n a.rows.now c.loop-i.i (omega arith) a.at c.loop-i.next c.line-next.result a.out.now c.loop-i.out _ c.loop-i.invariant.3 c.line-next.ensures.1.0 c.line-next.ensures.1.1 (omega arith),
+      line-more c.args.n c.args.rows.now c.loop-i.i (omega arith) c.args.at c.loop-i.next c.line-next.result c.args.out.now c.loop-i.out _ c.loop-i.invariant.3 c.line-next.ensures.value c.line-next.ensures.out_after (omega arith),
     )
 
 pub shape_of-out : goal.shape_of-out
@@ -31,7 +30,6 @@ shape_of-out c = c.loop-i.invariant.1
 
 pub returns : goal.returns
 returns c =
-    let a = c.args in
-    let done : c.loop-i.i ≡ a.n = omega arith in
-    let x = lines_all a.n a.rows.now (rw done at c.loop-i.invariant.3) in
-    (omega arith, (x.next, x.bytes))
+    let done : c.loop-i.i ≡ c.args.n = omega arith in
+    let x = lines_all c.args.n c.args.rows.now (rw done at c.loop-i.invariant.3) in
+    record { upper_bound = omega arith; value = x.next; out_after = x.bytes }

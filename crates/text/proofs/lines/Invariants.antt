@@ -13,7 +13,7 @@ use borrow.Author.Rules.{rules}
 use Rattle.text.proofs.lines.Given as goal
 
 abbrev pub invariant-loop-i : goal.invariant-loop-i
-invariant-loop-i l = (l.i ≤ l.initial.out) × (length l.out ≡ length l.at) × (l.next ≤ l.rows + 75 * l.i) × Wrote l.rows (each line (take l.i (chop 32 l.initial.out l.n))) l.next l.at l.out
+invariant-loop-i l = (l.i ≤ l.n) × (length l.out ≡ length l.initial.out) × (l.next ≤ l.at + 75 * l.i) × Wrote l.at (each line (take l.i (chop 32 l.n l.rows))) l.next l.initial.out l.out
 
 abbrev pub decreases-loop-i : goal.decreases-loop-i
-decreases-loop-i l = l.initial.out - l.i
+decreases-loop-i l = l.n - l.i

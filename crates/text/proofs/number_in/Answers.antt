@@ -7,6 +7,5 @@ use Rattle.text.proofs.number_in.Goals as goal
 
 pub returns : goal.returns
 returns c =
-    let a = c.args in
-    let w = between-wrote a.at a.a a.n a.b c.byte-next.result c.number_to.result a.out.now _ _ c.byte-next.ensures.0 c.byte-next.ensures.1 c.number_to.ensures.0 c.number_to.ensures.1 (omega arith) in
-    (omega arith, w.bytes)
+    let w = between-wrote c.args.at c.args.a c.args.n c.args.b c.byte-next.result c.number_to.result c.args.out.now _ _ c.byte-next.ensures.value c.byte-next.ensures.out_after c.number_to.ensures.value c.number_to.ensures.out_after (omega arith) in
+    record { value = omega arith; out_after = w.bytes }

@@ -7,6 +7,5 @@ use Rattle.text.proofs.number_to.Goals as goal
 
 pub returns : goal.returns
 returns c =
-    let a = c.args in
-    let w = number-then a.at a.n a.c c.places-k.result c.byte.result a.out.now _ _ c.places-k.ensures c.spell.ensures c.byte.ensures.0 c.byte.ensures.1 (omega arith) in
-    (omega arith, w.bytes)
+    let w = number-then c.args.at c.args.n c.args.c c.places-k.result c.byte.result c.args.out.now _ _ c.places-k.ensures c.spell.ensures c.byte.ensures.value c.byte.ensures.out_after (omega arith) in
+    record { value = omega arith; out_after = w.bytes }

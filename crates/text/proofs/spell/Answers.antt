@@ -15,27 +15,25 @@ use Rattle.text.proofs.spell.Goals as goal
 
 pub loop-i-init : goal.loop-i-init
 loop-i-init c =
-    let a = c.args in
-    let long = length-lasts a.k a.n in (
+    let long = length-lasts c.args.k c.args.n in (
       omega arith,
       refl,
-      rw (drop_of_length-le (lasts a.k a.n) {i = a.k} (omega arith)) (put-none (a.at + a.k) a.out.now),
-      take_all a.k (lasts a.k a.n) (omega arith),
+      rw (drop_of_length-le (lasts c.args.k c.args.n) {i = c.args.k} (omega arith)) (put-none (c.args.at + c.args.k) c.args.out.now),
+      take_all c.args.k (lasts c.args.k c.args.n) (omega arith),
     )
 
 pub loop-i-preserved : goal.loop-i-preserved
 loop-i-preserved c =
-    let a = c.args in
     let i = c.loop-i.i - 1 in
     let back : i + 1 ≡ c.loop-i.i = omega arith in
-    let l = lasts a.k a.n in
-    let long = length-lasts a.k a.n in
+    let l = lasts c.args.k c.args.n in
+    let long = length-lasts c.args.k c.args.n in
     let d = last-digit i c.loop-i.rest l (rw (← back) at c.loop-i.invariant.3) in (
       omega arith,
-      length-set c.loop-i.out (a.at + i) (48 + c.loop-i.rest % 10) ∙ c.loop-i.invariant.1,
-      ap (λ (x : List ℕ). set x (a.at + i) (48 + c.loop-i.rest % 10)) (rw (← back) at c.loop-i.invariant.2)
-          ∙ ap (λ (v : ℕ). set (put (a.at + (i + 1)) (drop (i + 1) l) a.out.now) (a.at + i) v) (sym d.0)
-          ∙ put-drop a.at l a.out.now i (omega arith) (omega arith),
+      length-set c.loop-i.out (c.args.at + i) (48 + c.loop-i.rest % 10) ∙ c.loop-i.invariant.1,
+      ap (λ (x : List ℕ). set x (c.args.at + i) (48 + c.loop-i.rest % 10)) (rw (← back) at c.loop-i.invariant.2)
+          ∙ ap (λ (v : ℕ). set (put (c.args.at + (i + 1)) (drop (i + 1) l) c.args.out.now) (c.args.at + i) v) (sym d.0)
+          ∙ put-drop c.args.at l c.args.out.now i (omega arith) (omega arith),
       d.1,
     )
 

@@ -14,7 +14,7 @@ use borrow.Author.Rules.{rules}
 use Rattle.text.proofs.spell.Given as goal
 
 abbrev pub invariant-loop-i : goal.invariant-loop-i
-invariant-loop-i l = (l.i ≤ l.n) × (length l.out ≡ length l.at) × (l.out ≡ put (l.k + l.i) (drop l.i (lasts l.n l.initial.out)) l.at) × (take l.i (lasts l.n l.initial.out) ≡ lasts l.i l.rest)
+invariant-loop-i l = (l.i ≤ l.k) × (length l.out ≡ length l.initial.out) × (l.out ≡ put (l.at + l.i) (drop l.i (lasts l.k l.n)) l.initial.out) × (take l.i (lasts l.k l.n) ≡ lasts l.i l.rest)
 
 abbrev pub decreases-loop-i : goal.decreases-loop-i
 decreases-loop-i l = l.i

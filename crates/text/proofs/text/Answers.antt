@@ -16,11 +16,11 @@ loop-i-init c = (omega arith, refl, put-none c.args.at c.args.out.now)
 
 pub loop-i-preserved : goal.loop-i-preserved
 loop-i-preserved c =
-    let a = c.args in (
+    (
       omega arith,
-      length-set c.loop-i.out (a.at + c.loop-i.i) (get_or a.t.now c.loop-i.i 0) ∙ c.loop-i.invariant.1,
-      ap (λ (l : List ℕ). set l (a.at + c.loop-i.i) (get_or a.t.now c.loop-i.i 0)) c.loop-i.invariant.2
-          ∙ put-take a.at a.t.now a.out.now c.loop-i.i (omega arith) (omega arith),
+      length-set c.loop-i.out (c.args.at + c.loop-i.i) (get_or c.args.t.now c.loop-i.i 0) ∙ c.loop-i.invariant.1,
+      ap (λ (l : List ℕ). set l (c.args.at + c.loop-i.i) (get_or c.args.t.now c.loop-i.i 0)) c.loop-i.invariant.2
+          ∙ put-take c.args.at c.args.t.now c.args.out.now c.loop-i.i (omega arith) (omega arith),
     )
 
 pub shape_of-out : goal.shape_of-out
@@ -28,7 +28,4 @@ shape_of-out c = c.loop-i.invariant.1
 
 pub returns : goal.returns
 returns c =
-    let a = c.args in (
-      omega arith,
-      c.loop-i.invariant.2 ∙ ap (λ (x : List ℕ). put a.at x a.out.now) (take_all c.loop-i.i a.t.now (omega arith)),
-    )
+    record { value = omega arith; out_after = c.loop-i.invariant.2 ∙ ap (λ (x : List ℕ). put c.args.at x c.args.out.now) (take_all c.loop-i.i c.args.t.now (omega arith)) }

@@ -12,7 +12,7 @@ use borrow.Author.Rules.{rules}
 use Rattle.text.proofs.text.Given as goal
 
 abbrev pub invariant-loop-i : goal.invariant-loop-i
-invariant-loop-i l = (l.i ≤ length l.initial.out) × (length l.out ≡ length l.at) × (l.out ≡ put l.t (take l.i l.initial.out) l.at)
+invariant-loop-i l = (l.i ≤ length l.t) × (length l.out ≡ length l.initial.out) × (l.out ≡ put l.at (take l.i l.t) l.initial.out)
 
 abbrev pub decreases-loop-i : goal.decreases-loop-i
-decreases-loop-i l = length l.initial.out - l.i
+decreases-loop-i l = length l.t - l.i

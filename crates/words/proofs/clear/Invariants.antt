@@ -13,7 +13,7 @@ use borrow.Author.Rules.{rules}
 use Rattle.words.proofs.clear.Given as goal
 
 abbrev pub invariant-loop-i : goal.invariant-loop-i
-invariant-loop-i l = (l.i ≤ l.initial.s) × (length l.s ≡ length l.at) × (l.s ≡ put l.n (take l.i (zeros l.initial.s)) l.at)
+invariant-loop-i l = (l.i ≤ l.n) × (length l.s ≡ length l.initial.s) × (l.s ≡ put l.at (take l.i (zeros l.n)) l.initial.s)
 
 abbrev pub decreases-loop-i : goal.decreases-loop-i
-decreases-loop-i l = l.initial.s - l.i
+decreases-loop-i l = l.n - l.i

@@ -12,7 +12,7 @@ use borrow.Author.Rules.{rules}
 use Rattle.words.proofs.store.Given as goal
 
 abbrev pub invariant-loop-i : goal.invariant-loop-i
-invariant-loop-i l = (l.i ≤ length l.initial.s) × (length l.s ≡ length l.at) × (l.s ≡ put l.vs (take l.i l.initial.s) l.at)
+invariant-loop-i l = (l.i ≤ length l.vs) × (length l.s ≡ length l.initial.s) × (l.s ≡ put l.at (take l.i l.vs) l.initial.s)
 
 abbrev pub decreases-loop-i : goal.decreases-loop-i
-decreases-loop-i l = length l.initial.s - l.i
+decreases-loop-i l = length l.vs - l.i

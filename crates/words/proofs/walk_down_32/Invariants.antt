@@ -13,7 +13,7 @@ use borrow.Author.Rules.{rules}
 use Rattle.words.proofs.walk_down_32.Given as goal
 
 abbrev pub invariant-loop-i : goal.invariant-loop-i
-invariant-loop-i l = (l.i ≤ l.initial.s) × (length l.s ≡ length l.n) × (l.s ≡ put 0 (take l.i (span 32 l.initial.s l.n)) l.n)
+invariant-loop-i l = (l.i ≤ l.n) × (length l.s ≡ length l.initial.s) × (l.s ≡ put 0 (take l.i (span 32 l.n l.initial.s)) l.initial.s)
 
 abbrev pub decreases-loop-i : goal.decreases-loop-i
-decreases-loop-i l = l.initial.s - l.i
+decreases-loop-i l = l.n - l.i

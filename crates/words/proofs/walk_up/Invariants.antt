@@ -13,7 +13,7 @@ use borrow.Author.Rules.{rules}
 use Rattle.words.proofs.walk_up.Given as goal
 
 abbrev pub invariant-loop-i : goal.invariant-loop-i
-invariant-loop-i l = (l.i ≤ l.initial.s) × (length l.s ≡ length l.from) × (l.s ≡ put (l.n + l.i) (drop l.i (span l.to l.initial.s l.from)) l.from)
+invariant-loop-i l = (l.i ≤ l.n) × (length l.s ≡ length l.initial.s) × (l.s ≡ put (l.to + l.i) (drop l.i (span l.from l.n l.initial.s)) l.initial.s)
 
 abbrev pub decreases-loop-i : goal.decreases-loop-i
 decreases-loop-i l = l.i

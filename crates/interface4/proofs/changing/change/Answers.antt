@@ -13,9 +13,8 @@ use Rattle.interface4.proofs.changing.change.Goals as goal
 
 pub returns-then-not-request-size : goal.returns-then-not-request-size
 returns-then-not-request-size c =
-    let a = c.args in
-    changed-no a.code a.size a.request.now a.state.now a.events.now a.clock c.requires
-    (not-true _ c.if-not-request-size.true) (ap numbers_in c.refused.ensures)
+    changed-no c.args.code c.args.size c.args.request.now c.args.state.now c.args.events.now c.args.clock c.requires
+    c.if-not-request-size.true (ap numbers_in c.refused.ensures)
 
 pub words_of-requires : goal.words_of-requires
 words_of-requires c =
@@ -30,7 +29,7 @@ give_back-requires c =
     let kept = still a.code a.size a.request.now a.state.now a.events.now a.clock (start c).requires (fit c) _ _
     c.words_of.ensures c.words_of-2.ensures refl (made_gave c.change-answer.ensures)
     (λ i. (c.slice_known-1.given i).fits) in
-    ((search rules, (there c).state), λ h. kept (sym c.still-kept.ensures ∙ h))
+    record { s_len = (search rules, (there c).state); state_value = λ h. kept (sym c.still-kept.ensures ∙ h) }
 
 pub give_rows-requires : goal.give_rows-requires
 give_rows-requires c =
@@ -44,4 +43,4 @@ returns c =
     let a = (start c).args in
     changed-yes a.code a.size a.request.now a.state.now a.events.now a.clock (start c).requires (fit c) _ _
     c.words_of.ensures c.words_of-2.ensures refl (made_gave c.change-answer.ensures)
-    c.give_back.ensures.0 c.give_rows.ensures.0 c.give_back.ensures.1 c.give_rows.ensures.1
+    c.give_back.ensures.state_after c.give_rows.ensures.out_after c.give_back.ensures.below c.give_rows.ensures.below

@@ -12,9 +12,8 @@ use Rattle.interface4.proofs.changing.change_one.Goals as goal
 
 pub returns-then-not-request-size : goal.returns-then-not-request-size
 returns-then-not-request-size c =
-    let a = c.args in
-    changed-no a.code a.size a.request.now a.state.now a.events.now 0 c.requires.0
-    (not-true _ c.if-not-request-size.true) (ap numbers_in c.refused.ensures)
+    changed-no c.args.code c.args.size c.args.request.now c.args.state.now c.args.events.now 0 c.requires.asks
+    c.if-not-request-size.true (ap numbers_in c.refused.ensures)
 
 pub words_of-requires : goal.words_of-requires
 words_of-requires c =
@@ -33,7 +32,7 @@ give_back-requires c =
     c.words_of.ensures c.words_of-2.ensures refl
     (one_gave a.code _ _ _ c.change_one-answer.result (start c).requires.1 c.change_one-answer.ensures)
     (λ i. (c.slice_known-1.given i).fits) in
-    ((search rules, (there c).state), λ h. kept (sym c.still-kept.ensures ∙ h))
+    record { s_len = (search rules, (there c).state); state_value = λ h. kept (sym c.still-kept.ensures ∙ h) }
 
 pub give_rows-requires : goal.give_rows-requires
 give_rows-requires c =
@@ -49,4 +48,4 @@ returns c =
     changed-yes a.code a.size a.request.now a.state.now a.events.now 0 (start c).requires.0 (fit c) _ _
     c.words_of.ensures c.words_of-2.ensures refl
     (one_gave a.code _ _ _ c.change_one-answer.result (start c).requires.1 c.change_one-answer.ensures)
-    c.give_back.ensures.0 c.give_rows.ensures.0 c.give_back.ensures.1 c.give_rows.ensures.1
+    c.give_back.ensures.state_after c.give_rows.ensures.out_after c.give_back.ensures.below c.give_rows.ensures.below

@@ -9,10 +9,10 @@ use Rattle.interface4.specs.Changing.{change_fits, EnoughBytes, fits, changed-no
 use borrow.Author.Rules.{rules}
 use Rattle.interface4.proofs.changing.change_one.Given as goal
 
-pub fit : (c : tie.Else1) → change_fits (start c).args.size (start c).args.request.now (start c).args.state.now (start c).args.events.now ≡ true
-fit c = not-false _ c.if1.false
+pub fit : (c : goal.Else-not-request-size) → change_fits (start c).args.size (start c).args.request.now (start c).args.state.now (start c).args.events.now ≡ true
+fit c = not-false _ c.if-not-request-size.false
 
-pub there : (c : tie.Else1) → EnoughBytes (start c).args.size (start c).args.request.now (start c).args.state.now (start c).args.events.now
+pub there : (c : goal.Else-not-request-size) → EnoughBytes (start c).args.size (start c).args.request.now (start c).args.state.now (start c).args.events.now
 there c = fits _ _ _ _ (fit c)
 
 -- behind the test there are as many bytes as there must be

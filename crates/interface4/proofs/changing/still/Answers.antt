@@ -9,15 +9,12 @@ use Rattle.interface4.proofs.changing.still.Goals as goal
 
 pub returns-in-5 : goal.returns-in-5
 returns-in-5 c =
-    let a = c.args in
-    ap (λ (k : ℕ). (change_at k).still a.number a.value) (sym c.in-5.is)
+    ap (λ (k : ℕ). (change_at k).still c.args.number c.args.value) (sym c.in-5.is)
 
 pub returns-in-6 : goal.returns-in-6
 returns-in-6 c =
-    let a = c.args in
-    c.unfit.ensures ∙ ap (λ (k : ℕ). (change_at k).still a.number a.value) (sym c.in-6.is)
+    c.unfit.ensures ∙ ap (λ (k : ℕ). (change_at k).still c.args.number c.args.value) (sym c.in-6.is)
 
 pub returns-in_default : goal.returns-in_default
 returns-in_default c =
-    let a = c.args in
-    still-rest a.code a.number a.value c.in_default.in_default-own.rest.0.1 c.in_default.in_default-own.rest.1
+    still-rest c.args.code c.args.number c.args.value c.in_default.in_default-own.rest.0.1 c.in_default.in_default-own.rest.1

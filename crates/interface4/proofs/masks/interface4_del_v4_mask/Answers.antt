@@ -13,25 +13,20 @@ use Rattle.interface4.proofs.masks.interface4_del_v4_mask.Goals as goal
 
 pub returns-then-request-ne-DEL_V4_BYTES : goal.returns-then-request-ne-DEL_V4_BYTES
 returns-then-request-ne-DEL_V4_BYTES c =
-    let a = c.args in
-    let q = a.request.now in
-    let s = a.state.now in
-    mask-unsized del_v4_size q s a.events.now (del_v4_mask_call (words_of q) event_room (words_of s)) c.if-request-ne-DEL_V4_BYTES.true (ap numbers_in c.refused.ensures)
+    mask-unsized del_v4_size c.args.request.now c.args.state.now c.args.events.now (del_v4_mask_call (words_of c.args.request.now) event_room (words_of c.args.state.now)) c.if-request-ne-DEL_V4_BYTES.true (ap numbers_in c.refused.ensures)
 
 pub returns-then-n-ne0 : goal.returns-then-n-ne0
 unfolding del_v4_mask_call
 returns-then-n-ne0 c =
     let a = (start c).args in
-    let long = c.if-request-ne-DEL_V4_BYTES.false in
-    bad_on del_v4_asking a.request.now a.state.now a.events.now long (λ i. (c.slice_known-1.given i).fits)
-    (words-whole del_v4_size a.request.now _ _ long refl c.words_of.ensures) c.to_prefix-n.ensures.0 c.if-n-ne0.true
+    bad_on del_v4_asking a.request.now a.state.now a.events.now c.if-request-ne-DEL_V4_BYTES.false (λ i. (c.slice_known-1.given i).fits)
+    (words-whole del_v4_size a.request.now _ _ c.if-request-ne-DEL_V4_BYTES.false refl c.words_of.ensures) c.to_prefix-n.ensures.value c.if-n-ne0.true
     (ap numbers_in c.refuse.ensures)
 
 pub returns : goal.returns
 unfolding del_v4_mask_call
 returns c =
     let a = (start c).args in
-    let long = c.if-request-ne-DEL_V4_BYTES.false in
-    good-on del_v4_asking a.request.now a.state.now a.events.now long
-    (words-whole del_v4_size a.request.now _ _ long refl c.words_of.ensures) c.to_prefix-n.ensures.0 c.if-n-ne0.false
-    c.to_prefix-n.ensures.1 c.as_bytes.ensures (search rules) c.interface4_del_v4.ensures
+    good-on del_v4_asking a.request.now a.state.now a.events.now c.if-request-ne-DEL_V4_BYTES.false
+    (words-whole del_v4_size a.request.now _ _ c.if-request-ne-DEL_V4_BYTES.false refl c.words_of.ensures) c.to_prefix-n.ensures.value c.if-n-ne0.false
+    c.to_prefix-n.ensures.q_after c.as_bytes.ensures (search rules) c.interface4_del_v4.ensures

@@ -11,13 +11,8 @@ use Rattle.interface4.proofs.masks.interface4w_add_v4_mask.Goals as goal
 
 pub done-requires : goal.done-requires
 done-requires c =
-    let a = c.args in
-    let q = a.request.now in
-    let ev = a.events.now in
-    let w = a.state.now in
-    small c.add_v4.result (add_v4_mask_call q (length ev) a.clock w).reply c.add_v4.ensures.answer (add_v4-mask-emitted q (length ev) w a.clock)
+    small c.add_v4.result (add_v4_mask_call c.args.request.now (length c.args.events.now) c.args.clock c.args.state.now).reply c.add_v4.ensures.answer (add_v4-mask-emitted c.args.request.now (length c.args.events.now) c.args.state.now c.args.clock)
 
 pub returns : goal.returns
 returns c =
-    let did = c.add_v4.ensures in
-    record { answer = c.done.ensures ∙ ap reply_from did.says; words = did.words; buffer = did.events }
+    record { answer = c.done.ensures ∙ ap reply_from c.add_v4.ensures.says; words = c.add_v4.ensures.words; buffer = c.add_v4.ensures.events }

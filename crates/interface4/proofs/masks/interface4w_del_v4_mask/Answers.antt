@@ -11,13 +11,8 @@ use Rattle.interface4.proofs.masks.interface4w_del_v4_mask.Goals as goal
 
 pub done-requires : goal.done-requires
 done-requires c =
-    let a = c.args in
-    let q = a.request.now in
-    let ev = a.events.now in
-    let w = a.state.now in
-    small c.del_v4.result (del_v4_mask_call q (length ev) w).reply c.del_v4.ensures.answer (del_v4-mask-emitted q (length ev) w)
+    small c.del_v4.result (del_v4_mask_call c.args.request.now (length c.args.events.now) c.args.state.now).reply c.del_v4.ensures.answer (del_v4-mask-emitted c.args.request.now (length c.args.events.now) c.args.state.now)
 
 pub returns : goal.returns
 returns c =
-    let did = c.del_v4.ensures in
-    record { answer = c.done.ensures ∙ ap reply_from did.says; words = did.words; buffer = did.events }
+    record { answer = c.done.ensures ∙ ap reply_from c.del_v4.ensures.says; words = c.del_v4.ensures.words; buffer = c.del_v4.ensures.events }

@@ -21,15 +21,13 @@ use Rattle.interface4.proofs.masks.refuse.Goals as goal
 abbrev number : ℕ → List ℕ → ℕ
 number n w = checked (record { buffers = true; row = true; request = n }) w
 
-fit : (c : tie.Else1) → with (start c).args.state.now (4 * event_room) (start c).args.room ≡ true
-fit c = not-false _ c.if1.false
+fit : (c : goal.Else-not-state-room) → with (start c).args.state.now (4 * event_room) (start c).args.room ≡ true
+fit c = not-false _ c.if-not-state-room.false
 
 pub returns-then-not-state-room : goal.returns-then-not-state-room
 returns-then-not-state-room c =
-    let a = c.args in
-    let s = a.state.now in
     c.refused.ensures
-    ∙ ap reply_of (sym (cond-false (with s (4 * event_room) a.room) (refusal (number a.number (words_of s))) (refusal 200) (not-true _ c.if-not-state-room.true)))
+    ∙ ap reply_of (sym (cond-false (with c.args.state.now (4 * event_room) c.args.room) (refusal (number c.args.number (words_of c.args.state.now))) (refusal 200) c.if-not-state-room.true))
 
 pub words_of-requires : goal.words_of-requires
 words_of-requires c =

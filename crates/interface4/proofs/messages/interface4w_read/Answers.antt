@@ -7,5 +7,4 @@ use Rattle.interface4.proofs.messages.interface4w_read.Goals as goal
 
 pub returns : goal.returns
 returns c =
-    let read = c.read.ensures in
-    (c.asked.ensures ∙ ap reply_from read.says, read.rows)
+    record { value = c.asked.ensures ∙ ap reply_from c.read.ensures.says; request_after = c.read.ensures.rows }

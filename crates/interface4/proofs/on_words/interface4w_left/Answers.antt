@@ -6,4 +6,4 @@ use borrow.Author.Rules.{rules}
 use Rattle.interface4.proofs.on_words.interface4w_left.Goals as goal
 
 pub returns : goal.returns
-returns c = c.remaining.ensures ∙ ap reply_of c.left.ensures.1
+returns c = c.remaining.ensures ∙ ap reply_of c.left.ensures.result_value

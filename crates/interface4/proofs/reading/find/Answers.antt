@@ -19,8 +19,7 @@ use Rattle.interface4.proofs.reading.find.Goals as goal
 
 pub returns-then-not-state-row : goal.returns-then-not-state-row
 returns-then-not-state-row c =
-    let a = c.args in
-    found-no a.code a.a a.b a.c a.state.now a.row.now (not-true _ c.if-not-state-row.true) (ap numbers_in c.refused.ensures)
+    found-no c.args.code c.args.a c.args.b c.args.c c.args.state.now c.args.row.now c.if-not-state-row.true (ap numbers_in c.refused.ensures)
 
 pub words_of-requires : goal.words_of-requires
 words_of-requires c = omega (arith, (there c).state)
@@ -35,4 +34,4 @@ returns c =
     let a = (start c).args in
     let words = words-whole state_size a.state.now _ _ (there c).state refl c.words_of.ensures in
     found-yes a.code a.a a.b a.c a.state.now a.row.now words refl c.find-answer.ensures (fit c)
-    (λ i. (c.shared_slice_known-1.given i).fits) c.give_rows.ensures.0 c.give_rows.ensures.1
+    (λ i. (c.shared_slice_known-1.given i).fits) c.give_rows.ensures.out_after c.give_rows.ensures.below

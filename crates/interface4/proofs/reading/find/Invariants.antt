@@ -16,10 +16,10 @@ use Rattle.interface4.specs.Reading.{EnoughRoom, fits, found-no, one, found-yes}
 use borrow.Author.Rules.{rules}
 use Rattle.interface4.proofs.reading.find.Given as goal
 
-pub fit : (c : tie.Else1) → with (start c).args.state.now (4 * Route.size) (length (start c).args.row.now) ≡ true
-fit c = not-false _ c.if1.false
+pub fit : (c : goal.Else-not-state-row) → with (start c).args.state.now (4 * Route.size) (length (start c).args.row.now) ≡ true
+fit c = not-false _ c.if-not-state-row.false
 
-pub there : (c : tie.Else1) → EnoughRoom (4 * Route.size) (start c).args.state.now (start c).args.row.now
+pub there : (c : goal.Else-not-state-row) → EnoughRoom (4 * Route.size) (start c).args.state.now (start c).args.row.now
 there c = fits _ _ _ (fit c)
 
 -- behind the test there are as many bytes as there must be

@@ -18,14 +18,11 @@ use Rattle.interface4.proofs.reading.interface4_check.Goals as goal
 
 pub returns-then-state-ne-STATE_BYTES : goal.returns-then-state-ne-STATE_BYTES
 returns-then-state-ne-STATE_BYTES c =
-    let s = c.args.state.now in
-    let short = ne_eqb (length s) (4 * state_size) c.if-state-ne-STATE_BYTES.true in
-    c.refused.ensures ∙ ap reply_of (sym (cond-false (state_fits s) (check_reply (words_of s)) (refusal 200) short))
+    let short = ne_eqb (length c.args.state.now) (4 * state_size) c.if-state-ne-STATE_BYTES.true in
+    c.refused.ensures ∙ ap reply_of (sym (cond-false (state_fits c.args.state.now) (check_reply (words_of c.args.state.now)) (refusal 200) short))
 
 pub returns : goal.returns
 returns c =
-    let s = c.args.state.now in
-    let long = c.if-state-ne-STATE_BYTES.false in
-    let words = words-whole state_size s _ _ long refl c.words_of.ensures in
+    let words = words-whole state_size c.args.state.now _ _ c.if-state-ne-STATE_BYTES.false refl c.words_of.ensures in
     c.interface4w_check.ensures ∙ ap (λ (w : List ℕ). reply_of (check_reply w)) words
-    ∙ ap reply_of (sym (cond-true (state_fits s) (check_reply (words_of s)) (refusal 200) (eq-eqb (length s) (4 * state_size) long)))
+    ∙ ap reply_of (sym (cond-true (state_fits c.args.state.now) (check_reply (words_of c.args.state.now)) (refusal 200) (eq-eqb (length c.args.state.now) (4 * state_size) c.if-state-ne-STATE_BYTES.false)))

@@ -18,8 +18,7 @@ use Rattle.interface4.proofs.reading.interface4_dump4.Goals as goal
 
 pub returns-then-not-state-listing : goal.returns-then-not-state-listing
 returns-then-not-state-listing c =
-    let a = c.args in
-    listed-no a.state.now a.listing.now (not-true _ c.if-not-state-listing.true) (ap numbers_in c.refused.ensures)
+    listed-no c.args.state.now c.args.listing.now c.if-not-state-listing.true (ap numbers_in c.refused.ensures)
 
 pub words_of-requires : goal.words_of-requires
 words_of-requires c = omega (arith, (there c).state)
@@ -36,4 +35,4 @@ returns c =
     let a = (start c).args in
     let words = words-whole state_size a.state.now _ _ (there c).state refl c.words_of.ensures in
     listed-yes a.state.now a.listing.now words refl c.list-answer.ensures (fit c)
-    (λ i. (c.shared_slice_known-1.given i).fits) c.give_rows.ensures.0 c.give_rows.ensures.1
+    (λ i. (c.shared_slice_known-1.given i).fits) c.give_rows.ensures.out_after c.give_rows.ensures.below

@@ -15,10 +15,10 @@ use Rattle.interface4.specs.Reading.{EnoughRoom, fits, listed-no, listing-room, 
 use borrow.Author.Rules.{rules}
 use Rattle.interface4.proofs.reading.interface4_dump4.Given as goal
 
-pub fit : (c : tie.Else1) → with (start c).args.state.now (4 * listing_room) (length (start c).args.listing.now) ≡ true
-fit c = not-false _ c.if1.false
+pub fit : (c : goal.Else-not-state-listing) → with (start c).args.state.now (4 * listing_room) (length (start c).args.listing.now) ≡ true
+fit c = not-false _ c.if-not-state-listing.false
 
-pub there : (c : tie.Else1) → EnoughRoom (4 * listing_room) (start c).args.state.now (start c).args.listing.now
+pub there : (c : goal.Else-not-state-listing) → EnoughRoom (4 * listing_room) (start c).args.state.now (start c).args.listing.now
 there c = fits _ _ _ (fit c)
 
 -- behind the test there are as many bytes as there must be

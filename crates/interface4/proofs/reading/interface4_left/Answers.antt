@@ -13,13 +13,10 @@ use Rattle.interface4.proofs.reading.interface4_left.Goals as goal
 
 pub returns-then-row-ne-ADDRESS_BYTES : goal.returns-then-row-ne-ADDRESS_BYTES
 returns-then-row-ne-ADDRESS_BYTES c =
-    let a = c.args in
-    let none = row-no (4 * Address.size) a.row.now c.if-row-ne-ADDRESS_BYTES.true in
-    c.interface4w_left.ensures ∙ ap (λ (x : List ℕ). reply_of (left_call x a.clock)) none
+    let none = row-no (4 * Address.size) c.args.row.now c.if-row-ne-ADDRESS_BYTES.true in
+    c.interface4w_left.ensures ∙ ap (λ (x : List ℕ). reply_of (left_call x c.args.clock)) none
 
 pub returns : goal.returns
 returns c =
-    let a = c.args in
-    let same = c.if-row-ne-ADDRESS_BYTES.false in
-    let row = words-whole Address.size a.row.now _ _ same refl c.words_of.ensures ∙ row-yes (4 * Address.size) a.row.now same in
-    c.interface4w_left-2.ensures ∙ ap (λ (x : List ℕ). reply_of (left_call x a.clock)) row
+    let row = words-whole Address.size c.args.row.now _ _ c.if-row-ne-ADDRESS_BYTES.false refl c.words_of.ensures ∙ row-yes (4 * Address.size) c.args.row.now c.if-row-ne-ADDRESS_BYTES.false in
+    c.interface4w_left-2.ensures ∙ ap (λ (x : List ℕ). reply_of (left_call x c.args.clock)) row

@@ -11,12 +11,10 @@ use Rattle.interface4.proofs.reading.row_size.Goals as goal
 
 pub returns-then-n-eq-ROUTE_BYTES : goal.returns-then-n-eq-ROUTE_BYTES
 returns-then-n-eq-ROUTE_BYTES c =
-    let n = c.args.n in
     let size = 4 * Route.size in
-    (sym (cond-true (eqb n size) size 0 (eq-eqb n size c.if-n-eq-ROUTE_BYTES.true)), (omega arith, omega arith))
+    record { value = sym (cond-true (eqb c.args.n size) size 0 (eq-eqb c.args.n size c.if-n-eq-ROUTE_BYTES.true)); upper_bound = (omega arith, omega arith) }
 
 pub returns-else-n-eq-ROUTE_BYTES : goal.returns-else-n-eq-ROUTE_BYTES
 returns-else-n-eq-ROUTE_BYTES c =
-    let n = c.args.n in
     let size = 4 * Route.size in
-    (sym (cond-false (eqb n size) size 0 (ne_eqb n size c.if-n-eq-ROUTE_BYTES.false)), (omega arith, omega arith))
+    record { value = sym (cond-false (eqb c.args.n size) size 0 (ne_eqb c.args.n size c.if-n-eq-ROUTE_BYTES.false)); upper_bound = (omega arith, omega arith) }

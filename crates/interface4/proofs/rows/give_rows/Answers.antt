@@ -7,5 +7,4 @@ use Rattle.interface4.proofs.rows.give_rows.Goals as goal
 
 pub returns : goal.returns
 returns c =
-    let a = c.args in
-    (part-back a.rows.now a.out.now _ (a.size * a.n) c.bytes_of.ensures, λ i. (c.shared_slice_known-1.given i).fits)
+    record { out_after = part-back c.args.rows.now c.args.out.now _ (c.args.size * c.args.n) c.bytes_of.ensures; below = λ i. (c.shared_slice_known-1.given i).fits }

@@ -7,8 +7,7 @@ use Rattle.row_address.proofs.V4.covers.Goals as goal
 
 pub returns-then-self-gt32 : goal.returns-then-self-gt32
 returns-then-self-gt32 c =
-    let a = c.args.self in
-    c.same_network.ensures ∙ covers-all a c.args.ip c.if-self-gt32.true
+    c.same_network.ensures ∙ covers-all c.args.self c.args.ip c.if-self-gt32.true
 
 pub returns : goal.returns
 returns c = c.same_network-2.ensures

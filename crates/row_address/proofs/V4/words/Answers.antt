@@ -18,5 +18,6 @@ long v is = sym (length-map v.label.words (λ (x : ℕ). x)) ∙ is.1.1.1.1.1.1.
 
 pub returns : goal.returns
 returns c =
-    written c.args.self c.mark.result c.value.result c.low.result c.high.result c.low-2.result c.high-2.result
-    (long c.args.self c.well-formed.0) c.mark.ensures c.value.ensures c.low.ensures c.high.ensures c.low-2.ensures c.high-2.ensures
+     let both = written c.args.self c.mark.result c.value.result c.low.result c.high.result c.low-2.result c.high-2.result
+    (long c.args.self c.well-formed.0) c.mark.ensures c.value.ensures c.low.ensures c.high.ensures c.low-2.ensures c.high-2.ensures in
+    record { value = both.0; result_value = both.1 }

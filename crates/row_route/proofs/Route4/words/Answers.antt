@@ -19,11 +19,12 @@ long r is = sym (length-map r.metrics (λ (x : ℕ). x)) ∙ is.1.1.1.1.1.1.1.1.
 pub store-requires-2 : goal.store-requires-2
 store-requires-2 c =
     head-room c.args.self c.code.result c.mark.result c.value.result c.mark-2.result c.value-2.result c.bit.result c.bit-2.result c.bit-3.result
-    (replicate 32 0) c.store.new.0 c.store.new.0 refl (long c.args.self c.well-formed.0) c.store.ensures
+    (replicate 32 0) c.store.new.s c.store.new.s refl (long c.args.self c.well-formed.0) c.store.ensures
 
 pub returns : goal.returns
 returns c =
-    written c.args.self c.code.result c.mark.result c.value.result c.mark-2.result c.value-2.result c.bit.result c.bit-2.result c.bit-3.result
-    (replicate 32 0) c.store.new.0 c.store-2.new.0 refl (long c.args.self c.well-formed.0)
+     let both = written c.args.self c.code.result c.mark.result c.value.result c.mark-2.result c.value-2.result c.bit.result c.bit-2.result c.bit-3.result
+    (replicate 32 0) c.store.new.s c.store-2.new.s refl (long c.args.self c.well-formed.0)
     c.code.ensures c.mark.ensures c.value.ensures c.mark-2.ensures c.value-2.ensures c.bit.ensures c.bit-2.ensures c.bit-3.ensures
-    c.store.ensures c.store-2.ensures
+    c.store.ensures c.store-2.ensures in
+    record { value = both.0; result_value = both.1 }
