@@ -24,16 +24,16 @@ slice_bounds-listing-end c =
 
 pub slice_bounds-render-end : goal.slice_bounds-render-end
 slice_bounds-render-end c =
-    sym (length-take-le (32 * c.list-n.result) c.list-n.new.listing.0 (omega (arith, c.list-n.ensures.value, listing-few c.args.s.now c.requires.0 c.requires.1)))
+    sym (length-take-le (32 * c.list-n.result) c.list-n.new.listing (omega (arith, c.list-n.ensures.value, listing-few c.args.s.now c.requires.0 c.requires.1)))
 
 pub render-requires : goal.render-requires
 render-requires c =
     let few = listing-few c.args.s.now c.requires.0 c.requires.1 in
-    (length-take-le (32 * c.list-n.result) c.list-n.new.listing.0 (omega arith), omega arith, omega arith)
+    (length-take-le (32 * c.list-n.result) c.list-n.new.listing (omega arith), omega arith, omega arith)
 
 pub returns : goal.returns
 returns c =
     let few = listing-few c.args.s.now c.requires.0 c.requires.1 in
-    let rows = listed-rows (dump4 (decode c.args.s.now)) c.list-n.new.listing.0 _ c.list-n.result (listing-sized c.args.s.now c.requires.0 c.requires.1) c.list-n.ensures.value c.list-n.ensures.listing_after in
+    let rows = listed-rows (dump4 (decode c.args.s.now)) c.list-n.new.listing _ c.list-n.result (listing-sized c.args.s.now c.requires.0 c.requires.1) c.list-n.ensures.value c.list-n.ensures.listing_after in
     let e = ap render rows in
     record { upper_bound = omega (arith, c.render.ensures.upper_bound); value = c.render.ensures.value ∙ ap (λ (x : List ℕ). length x) e; out_after = c.render.ensures.out_after ∙ ap (λ (x : List ℕ). put 0 x c.args.out.now) e }

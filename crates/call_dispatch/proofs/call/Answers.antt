@@ -10,43 +10,38 @@ use Rattle.call_dispatch.specs.Laws.{called-change, called-list, called_find, ca
 use borrow.Author.Rules.{rules}
 use Rattle.call_dispatch.proofs.call.Goals as goal
 
-past7 : (c : goal.Else-code-le7) → leb (start c).args.code 7 ≡ false
-past7 c = lt-leb _ 7 c.if-code-le7.false
-
-not8 : (c : goal.Else-code-eq8) → eqb (start c).args.code 8 ≡ false
-not8 c = ne_eqb _ 8 c.if-code-eq8.false
-
-past10 : (c : goal.Else-code-le10) → leb (start c).args.code 10 ≡ false
-past10 c = lt-leb _ 10 c.if-code-le10.false
-
 pub returns-then-code-le7 : goal.returns-then-code-le7
 returns-then-code-le7 c =
-    let a = (start c).args in
-    called-change a.code a.lent.now a.a a.b a.c (length a.buffer.now) a.state.now a.buffer.now c.change.result
-    c.clock_of.result (le-leb a.code 7 c.if-code-le7.true) c.clock_of.ensures c.change.ensures
+    called-change c.args.code c.args.lent.now c.args.a c.args.b c.args.c (length c.args.buffer.now) c.args.state.now c.args.buffer.now c.change.result
+    c.clock_of.result (le-leb c.args.code 7 c.if-code-le7.true) c.clock_of.ensures c.change.ensures
 
 pub returns-then-code-eq8 : goal.returns-then-code-eq8
 returns-then-code-eq8 c =
-    let a = (start c).args in
-    called-list a.code a.lent.now a.a a.b a.c (length a.buffer.now) a.state.now a.buffer.now c.list.result
-    (past7 c) (eq-eqb a.code 8 c.if-code-eq8.true) c.list.ensures
+    let past7 : leb c.args.code 7 ≡ false = lt-leb _ 7 c.if-code-le7.false in
+    called-list c.args.code c.args.lent.now c.args.a c.args.b c.args.c (length c.args.buffer.now) c.args.state.now c.args.buffer.now c.list.result
+    past7 (eq-eqb c.args.code 8 c.if-code-eq8.true) c.list.ensures
 
 pub returns-then-code-le10 : goal.returns-then-code-le10
 returns-then-code-le10 c =
-    let a = (start c).args in
-    called_find a.code a.lent.now a.a a.b a.c (length a.buffer.now) a.state.now a.buffer.now c.find.result
-    (past7 c) (not8 c) (le-leb a.code 10 c.if-code-le10.true) c.find.ensures
+    let past7 : leb c.args.code 7 ≡ false = lt-leb _ 7 c.if-code-le7.false in
+    let not8 : eqb c.args.code 8 ≡ false = ne_eqb _ 8 c.if-code-eq8.false in
+    called_find c.args.code c.args.lent.now c.args.a c.args.b c.args.c (length c.args.buffer.now) c.args.state.now c.args.buffer.now c.find.result
+    past7 not8 (le-leb c.args.code 10 c.if-code-le10.true) c.find.ensures
 
 pub returns-then-code-le14 : goal.returns-then-code-le14
 returns-then-code-le14 c =
-    let a = (start c).args in
-    called_ask a.code a.lent.now a.a a.b a.c (length a.buffer.now) a.state.now a.buffer.now c.ask.result
-    (past7 c) (not8 c) (past10 c)
-    (le-leb a.code 14 c.if-code-le14.true) c.ask.ensures
+    let past7 : leb c.args.code 7 ≡ false = lt-leb _ 7 c.if-code-le7.false in
+    let not8 : eqb c.args.code 8 ≡ false = ne_eqb _ 8 c.if-code-eq8.false in
+    let past10 : leb c.args.code 10 ≡ false = lt-leb _ 10 c.if-code-le10.false in
+    called_ask c.args.code c.args.lent.now c.args.a c.args.b c.args.c (length c.args.buffer.now) c.args.state.now c.args.buffer.now c.ask.result
+    past7 not8 past10
+    (le-leb c.args.code 14 c.if-code-le14.true) c.ask.ensures
 
 pub returns : goal.returns
 returns c =
-    let a = (start c).args in
-    called-left a.code a.lent.now a.a a.b a.c (length a.buffer.now) a.state.now a.buffer.now c.remaining.result
-    (past7 c) (not8 c) (past10 c) (row-address·reply_of c.left.result)
-    c.clock_of-2.result (lt-leb a.code 14 c.if-code-le14.false) c.left.ensures.result_value c.clock_of-2.ensures c.remaining.ensures
+    let past7 : leb c.args.code 7 ≡ false = lt-leb _ 7 c.if-code-le7.false in
+    let not8 : eqb c.args.code 8 ≡ false = ne_eqb _ 8 c.if-code-eq8.false in
+    let past10 : leb c.args.code 10 ≡ false = lt-leb _ 10 c.if-code-le10.false in
+    called-left c.args.code c.args.lent.now c.args.a c.args.b c.args.c (length c.args.buffer.now) c.args.state.now c.args.buffer.now c.remaining.result
+    past7 not8 past10 (row-address·reply_of c.left.result)
+    c.clock_of-2.result (lt-leb c.args.code 14 c.if-code-le14.false) c.left.ensures.result_value c.clock_of-2.ensures c.remaining.ensures

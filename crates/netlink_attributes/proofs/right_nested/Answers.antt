@@ -8,12 +8,6 @@ use Rattle.netlink_attributes.specs.Steps.{right_nested}
 use Rattle.netlink_attributes.specs.StepLaws.{At, found, over, nested-more, nested-end}
 use Rattle.netlink_attributes.proofs.right_nested.Goals as goal
 
-stands : (c : goal.In-Attribute)
-    → At c.args.l.now c.loop-code.cursor.at
-    c.in-Attribute.code c.in-Attribute.size c.in-Attribute.next
-stands c =
-    found c.args.l.now c.loop-code.cursor.at _ _ _ c.attribute.result c.loop-code.invariant.0 c.attribute.ensures c.in-Attribute.is
-
 pub loop-code-init : goal.loop-code-init
 loop-code-init c = rw c.start-cursor.ensures (omega arith, refl)
 
@@ -22,31 +16,52 @@ returns-in_default c =
     sym (c.loop-code.invariant.1 ∙ nested-end c.args.l.now c.loop-code.cursor.at (over c.args.l.now c.loop-code.cursor.at c.attribute.result c.attribute.ensures c.in_default.is))
 
 pub overflow_add-from : goal.overflow_add-from
-overflow_add-from c = omega (arith, (stands c).payload-inside)
+overflow_add-from c =
+    let stands : At c.args.l.now c.loop-code.cursor.at
+    c.in-Attribute.code c.in-Attribute.size c.in-Attribute.next = found c.args.l.now c.loop-code.cursor.at _ _ _ c.attribute.result c.loop-code.invariant.0 c.attribute.ensures c.in-Attribute.is in
+    omega (arith, stands.payload-inside)
 
 pub overflow_add-to : goal.overflow_add-to
-overflow_add-to c = omega (arith, (stands c).payload-inside)
+overflow_add-to c =
+    let stands : At c.args.l.now c.loop-code.cursor.at
+    c.in-Attribute.code c.in-Attribute.size c.in-Attribute.next = found c.args.l.now c.loop-code.cursor.at _ _ _ c.attribute.result c.loop-code.invariant.0 c.attribute.ensures c.in-Attribute.is in
+    omega (arith, stands.payload-inside)
 
 pub slice_bounds-nested-count : goal.slice_bounds-nested-count
-slice_bounds-nested-count c = omega (arith, (stands c).payload-inside)
+slice_bounds-nested-count c =
+    let stands : At c.args.l.now c.loop-code.cursor.at
+    c.in-Attribute.code c.in-Attribute.size c.in-Attribute.next = found c.args.l.now c.loop-code.cursor.at _ _ _ c.attribute.result c.loop-code.invariant.0 c.attribute.ensures c.in-Attribute.is in
+    omega (arith, stands.payload-inside)
 
 pub slice_bounds-nested-end : goal.slice_bounds-nested-end
-slice_bounds-nested-end c = omega (arith, (stands c).payload-inside)
+slice_bounds-nested-end c =
+    let stands : At c.args.l.now c.loop-code.cursor.at
+    c.in-Attribute.code c.in-Attribute.size c.in-Attribute.next = found c.args.l.now c.loop-code.cursor.at _ _ _ c.attribute.result c.loop-code.invariant.0 c.attribute.ensures c.in-Attribute.is in
+    omega (arith, stands.payload-inside)
 
 pub returns-then-not-nested : goal.returns-then-not-nested
 returns-then-not-nested c =
-    sym (c.loop-code.invariant.1 ∙ nested-more _ _ _ _ _ _ (stands c) c.nested.ensures ∙ rw c.if-not-nested.true)
+    let stands : At c.args.l.now c.loop-code.cursor.at
+    c.in-Attribute.code c.in-Attribute.size c.in-Attribute.next = found c.args.l.now c.loop-code.cursor.at _ _ _ c.attribute.result c.loop-code.invariant.0 c.attribute.ensures c.in-Attribute.is in
+    sym (c.loop-code.invariant.1 ∙ nested-more _ _ _ _ _ _ stands c.nested.ensures ∙ rw c.if-not-nested.true)
 
 pub past-cursor-requires : goal.past-cursor-requires
-past-cursor-requires c = omega (arith, (stands c).inside)
+past-cursor-requires c =
+    let stands : At c.args.l.now c.loop-code.cursor.at
+    c.in-Attribute.code c.in-Attribute.size c.in-Attribute.next = found c.args.l.now c.loop-code.cursor.at _ _ _ c.attribute.result c.loop-code.invariant.0 c.attribute.ensures c.in-Attribute.is in
+    omega (arith, stands.inside)
 
 pub loop-code-smaller : goal.loop-code-smaller
 loop-code-smaller c =
-    omega (arith, (stands c).inside, (stands c).ahead)
+    let stands : At c.args.l.now c.loop-code.cursor.at
+    c.in-Attribute.code c.in-Attribute.size c.in-Attribute.next = found c.args.l.now c.loop-code.cursor.at _ _ _ c.attribute.result c.loop-code.invariant.0 c.attribute.ensures c.in-Attribute.is in
+    omega (arith, stands.inside, stands.ahead)
 
 pub loop-code-preserved : goal.loop-code-preserved
 loop-code-preserved c =
+    let stands : At c.args.l.now c.loop-code.cursor.at
+    c.in-Attribute.code c.in-Attribute.size c.in-Attribute.next = found c.args.l.now c.loop-code.cursor.at _ _ _ c.attribute.result c.loop-code.invariant.0 c.attribute.ensures c.in-Attribute.is in
     rw c.past-cursor.ensures (
-      (stands c).inside,
-      c.loop-code.invariant.1 ∙ nested-more _ _ _ _ _ _ (stands c) c.nested.ensures ∙ rw c.if-not-nested.false,
+      stands.inside,
+      c.loop-code.invariant.1 ∙ nested-more _ _ _ _ _ _ stands c.nested.ensures ∙ rw c.if-not-nested.false,
     )

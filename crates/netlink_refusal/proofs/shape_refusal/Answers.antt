@@ -5,7 +5,6 @@ use Rattle.netlink.specs.Exactly.{Headed}
 use Rattle.netlink.specs.Reader.{is_address, is_route}
 use Rattle.netlink_refusal.specs.Shape.{address_refusal, route_refusal}
 use Rattle.netlink_refusal.specs.RefusalLaws.{unheaded, of_address, of_route, of_other}
-use Rattle.netlink_refusal.proofs.shape_refusal.Invariants.{header}
 use Rattle.netlink_refusal.proofs.shape_refusal.Goals as goal
 
 pub returns-then-long-lt-HEADER : goal.returns-then-long-lt-HEADER
@@ -21,24 +20,35 @@ returns-then-long-n c =
 
 pub returns-then-either : goal.returns-then-either
 returns-then-either c =
-    let m = (at-start c).args.m.now in
-    let size = (at-header c).before.before.message-length.ensures in
+    let header : Headed c.args.m.now = record {
+  long = omega (arith, c.if-long-lt-HEADER.false);
+  covers = omega (arith, c.message_length-n.ensures, c.if-n-lt-HEADER.false);
+  ends = omega (arith, c.message_length-n.ensures, c.if-long-n.false);
+} in
     c.address_refusal.ensures
-    ∙ ap (address_refusal m) size
-    ∙ of_address m (header c) (ap is_address (sym c.message_type-t.ensures) ∙ sym c.either.ensures ∙ c.if-either.true)
+    ∙ ap (address_refusal c.args.m.now) c.message_length-n.ensures
+    ∙ of_address c.args.m.now header (ap is_address (sym c.message_type-t.ensures) ∙ sym c.either.ensures ∙ c.if-either.true)
 
 pub returns-then-either-2 : goal.returns-then-either-2
 returns-then-either-2 c =
-    let m = (at-start c).args.m.now in
-    let size = (at-header c).before.before.message-length.ensures in
+    let header : Headed c.args.m.now = record {
+  long = omega (arith, c.if-long-lt-HEADER.false);
+  covers = omega (arith, c.message_length-n.ensures, c.if-n-lt-HEADER.false);
+  ends = omega (arith, c.message_length-n.ensures, c.if-long-n.false);
+} in
     c.route_refusal.ensures
-    ∙ ap (route_refusal m) size
-    ∙ of_route m (header c)
+    ∙ ap (route_refusal c.args.m.now) c.message_length-n.ensures
+    ∙ of_route c.args.m.now header
     (ap is_address (sym c.message_type-t.ensures) ∙ sym c.either.ensures ∙ c.if-either.false)
     (ap is_route (sym c.message_type-t.ensures) ∙ sym c.either-2.ensures ∙ c.if-either-2.true)
 
 pub returns : goal.returns
 returns c =
-    of_other (at-start c).args.m.now (header c)
+    let header : Headed c.args.m.now = record {
+  long = omega (arith, c.if-long-lt-HEADER.false);
+  covers = omega (arith, c.message_length-n.ensures, c.if-n-lt-HEADER.false);
+  ends = omega (arith, c.message_length-n.ensures, c.if-long-n.false);
+} in
+    of_other c.args.m.now header
     (ap is_address (sym c.message_type-t.ensures) ∙ sym c.either.ensures ∙ c.if-either.false)
     (ap is_route (sym c.message_type-t.ensures) ∙ sym c.either-2.ensures ∙ c.if-either-2.false)

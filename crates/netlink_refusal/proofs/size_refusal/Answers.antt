@@ -8,23 +8,23 @@ use Rattle.netlink.specs.Reader.{sized_in}
 use Rattle.netlink_refusal.specs.RefusalLaws.{wrongly_sized, sized_but_local}
 use Rattle.netlink_refusal.proofs.size_refusal.Goals as goal
 
-all-sized : (c : goal.Else-not-sizes) → all (sized_in (at-start c).args.t) (attributes (at-start c).args.l.now) ≡ true
-all-sized c = sym c.sizes.ensures ∙ not-false c.sizes.result c.if-not-sizes.false
-
 pub returns-then-not-sizes : goal.returns-then-not-sizes
 returns-then-not-sizes c =
     wrongly_sized c.args.t (attributes c.args.l.now) (sym c.sizes.ensures ∙ c.if-not-sizes.true)
 
 pub returns-then-t-ne-RTM_NEWADDR : goal.returns-then-t-ne-RTM_NEWADDR
 returns-then-t-ne-RTM_NEWADDR c =
-    sized_but_local (at-start c).args.t _ true (all-sized c) (rw (ne_eqb (at-start c).args.t 20 c.if-t-ne-RTM_NEWADDR.true))
+    let all-sized : all (sized_in c.args.t) (attributes c.args.l.now) ≡ true = sym c.sizes.ensures ∙ not-false c.sizes.result c.if-not-sizes.false in
+    sized_but_local c.args.t _ true all-sized (rw (ne_eqb c.args.t 20 c.if-t-ne-RTM_NEWADDR.true))
 
 pub returns-then-has : goal.returns-then-has
 returns-then-has c =
-    let new = eq-eqb (at-start c).args.t 20 c.if-t-ne-RTM_NEWADDR.false in
-    sized_but_local (at-start c).args.t _ true (all-sized c) (rw new (sym c.has.ensures ∙ c.if-has.true))
+    let all-sized : all (sized_in c.args.t) (attributes c.args.l.now) ≡ true = sym c.sizes.ensures ∙ not-false c.sizes.result c.if-not-sizes.false in
+    let new = eq-eqb c.args.t 20 c.if-t-ne-RTM_NEWADDR.false in
+    sized_but_local c.args.t _ true all-sized (rw new (sym c.has.ensures ∙ c.if-has.true))
 
 pub returns : goal.returns
 returns c =
-    let new = eq-eqb (at-start c).args.t 20 c.if-t-ne-RTM_NEWADDR.false in
-    sized_but_local (at-start c).args.t _ false (all-sized c) (rw new (sym c.has.ensures ∙ c.if-has.false))
+    let all-sized : all (sized_in c.args.t) (attributes c.args.l.now) ≡ true = sym c.sizes.ensures ∙ not-false c.sizes.result c.if-not-sizes.false in
+    let new = eq-eqb c.args.t 20 c.if-t-ne-RTM_NEWADDR.false in
+    sized_but_local c.args.t _ false all-sized (rw new (sym c.has.ensures ∙ c.if-has.false))

@@ -7,11 +7,6 @@ use Rattle.netlink_request.specs.Laws.{missing, present, part-below, label-withi
 use borrow.Author.Rules.{rules}
 use Rattle.netlink_request.proofs.label_at.Goals as goal
 
-within : (c : goal.After-label_length)
-    → c.label_length.result ≤ get_or c.args.sizes.now c.args.k 0
-within c =
-    label-within c.args.l.now (get_or c.args.starts.now c.args.k 0) (get_or c.args.sizes.now c.args.k 0) c.label_length.result c.label_length.ensures.1
-
 pub returns-then-start-eq0 : goal.returns-then-start-eq0
 returns-then-start-eq0 c =
     rw (missing c.args.l.now c.args.starts.now c.args.sizes.now c.requires.0 c.args.k c.requires.1 c.if-start-eq0.true) c.label_words.ensures
@@ -26,11 +21,13 @@ slice_bounds-label_length-end c =
 
 pub overflow_add-stop : goal.overflow_add-stop
 overflow_add-stop c =
-    omega (arith, within c, c.requires.0.inside c.args.k)
+    let within : c.label_length.result ≤ get_or c.args.sizes.now c.args.k 0 = label-within c.args.l.now (get_or c.args.starts.now c.args.k 0) (get_or c.args.sizes.now c.args.k 0) c.label_length.result c.label_length.ensures.1 in
+    omega (arith, within, c.requires.0.inside c.args.k)
 
 pub slice_bounds-label_words-end : goal.slice_bounds-label_words-end
 slice_bounds-label_words-end c =
-    omega (arith, within c, c.requires.0.inside c.args.k)
+    let within : c.label_length.result ≤ get_or c.args.sizes.now c.args.k 0 = label-within c.args.l.now (get_or c.args.starts.now c.args.k 0) (get_or c.args.sizes.now c.args.k 0) c.label_length.result c.label_length.ensures.1 in
+    omega (arith, within, c.requires.0.inside c.args.k)
 
 pub label_words-requires-2 : goal.label_words-requires-2
 label_words-requires-2 c =
@@ -39,5 +36,6 @@ label_words-requires-2 c =
 
 pub returns : goal.returns
 returns c =
-    let front = label-front c.args.l.now (get_or c.args.starts.now c.args.k 0) (get_or c.args.sizes.now c.args.k 0) c.label_length.result c.label_length.ensures.0 (within c) in
+    let within : c.label_length.result ≤ get_or c.args.sizes.now c.args.k 0 = label-within c.args.l.now (get_or c.args.starts.now c.args.k 0) (get_or c.args.sizes.now c.args.k 0) c.label_length.result c.label_length.ensures.1 in
+    let front = label-front c.args.l.now (get_or c.args.starts.now c.args.k 0) (get_or c.args.sizes.now c.args.k 0) c.label_length.result c.label_length.ensures.0 within in
     rw (present c.args.l.now c.args.starts.now c.args.sizes.now c.requires.0 c.args.k c.requires.1 c.if-start-eq0.false) (c.label_words-2.ensures ∙ ap label_words front)

@@ -4,4 +4,4 @@ use Rattle.std.proofs.Common.{sym, arith, length-take-le, rules}
 use Rattle.replay.proofs.replay.Goals as goal
 
 pub slice_bounds-check-end : goal.slice_bounds-check-end
-slice_bounds-check-end c = sym (length-take-le 4 c.read_words.new.out.0 (omega arith))
+slice_bounds-check-end c = sym (length-take-le 4 c.read_words.new.out (omega arith))

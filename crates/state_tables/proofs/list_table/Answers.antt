@@ -17,12 +17,12 @@ returns-then-t-ne-TABLE_LOCAL c = λ st h.
 
 pub add_table-requires-2 : goal.add_table-requires-2
 add_table-requires-2 c =
-    (c.requires.represents_some, main_first c.args.t (tables_of c.args.s.now) c.if-t-ne-TABLE_LOCAL.false c.requires.s_len_bound)
+    record { represents_some = c.requires.represents_some; s_len_bound = main_first c.args.t (tables_of c.args.s.now) c.if-t-ne-TABLE_LOCAL.false c.requires.s_len_bound }
 
 pub add_table-requires-3 : goal.add_table-requires-3
 add_table-requires-3 c =
     let k = c.add_table-2.ensures c.requires.represents_some.state c.requires.represents_some.holds in
-    (record { state = with_tables (add_table 254 c.requires.represents_some.state.tables) c.requires.represents_some.state; holds = k }, local-next c.args.t c.requires.represents_some.holds k c.if-t-ne-TABLE_LOCAL.false c.requires.s_len_bound)
+    record { represents_some = record { state = with_tables (add_table 254 c.requires.represents_some.state.tables) c.requires.represents_some.state; holds = k }; s_len_bound = local-next c.args.t c.requires.represents_some.holds k c.if-t-ne-TABLE_LOCAL.false c.requires.s_len_bound }
 
 pub returns : goal.returns
 returns c = λ st h.

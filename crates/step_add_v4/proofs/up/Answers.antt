@@ -39,7 +39,7 @@ slice_bounds-install_all-start c =
 
 pub install_all-rest-requires : goal.install_all-rest-requires
 install_all-rest-requires c =
-    let five = rows_are 5 c.step_of-first.result c.in-Rows.k c.in-Rows.is (step-few 5 c.add_v4.result c.step_of-first.result c.step_of-first.ensures c.add_v4.ensures.result_bound) in record { represents_fit = up-sound c.args.clock.0 (λ st h g. added-step (add_v4 loopback c.args.clock.0 st) c.add_v4.result c.step_of-first.result c.step_of-first.ensures (c.add_v4.ensures.comes st h g)) c.in-Rows.k c.in-Rows.is c.requires.represents_fit; in_bounds = rest-room c.in-Rows.k 11016 c.add_v4.new.ev.0 (omega (arith, five, c.requires.event_room_in_bounds, up-length c.args.clock.0 (λ st h g. added-step (add_v4 loopback c.args.clock.0 st) c.add_v4.result c.step_of-first.result c.step_of-first.ensures (c.add_v4.ensures.comes st h g)) c.in-Rows.k c.in-Rows.is c.requires.represents_fit)) }
+    let five = rows_are 5 c.step_of-first.result c.in-Rows.k c.in-Rows.is (step-few 5 c.add_v4.result c.step_of-first.result c.step_of-first.ensures c.add_v4.ensures.result_bound) in record { represents_fit = up-sound c.args.clock.0 (λ st h g. added-step (add_v4 loopback c.args.clock.0 st) c.add_v4.result c.step_of-first.result c.step_of-first.ensures (c.add_v4.ensures.comes st h g)) c.in-Rows.k c.in-Rows.is c.requires.represents_fit; in_bounds = rest-room c.in-Rows.k 11016 c.add_v4.new.ev (omega (arith, five, c.requires.event_room_in_bounds, up-length c.args.clock.0 (λ st h g. added-step (add_v4 loopback c.args.clock.0 st) c.add_v4.result c.step_of-first.result c.step_of-first.ensures (c.add_v4.ensures.comes st h g)) c.in-Rows.k c.in-Rows.is c.requires.represents_fit)) }
 
 pub joined-requires : goal.joined-requires
 joined-requires c =

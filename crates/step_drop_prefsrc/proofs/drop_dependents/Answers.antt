@@ -27,7 +27,7 @@ dependent_iteration-j-requires c =
 
 pub loop-i-preserved : goal.loop-i-preserved
 loop-i-preserved c =
-    let k = sweeping_iteration c.loop-i.invariant.6 (omega (arith, c.loop-i-test.true)) (omega (arith, c.loop-i-test.true)) c.dependent_iteration-j.auto.s c.dependent_iteration-j.auto.ev.0 c.dependent_iteration-j.ensures in
+    let k = sweeping_iteration c.loop-i.invariant.6 (omega (arith, c.loop-i-test.true)) (omega (arith, c.loop-i-test.true)) c.dependent_iteration-j.auto.s c.dependent_iteration-j.auto.ev c.dependent_iteration-j.ensures in
     (omega (arith, c.loop-i-test.true), keeping_few k.kept, c.loop-i.invariant.2, omega (arith, k.long), k.kept.long, k.long, k)
 
 pub shape_of-s : goal.shape_of-s

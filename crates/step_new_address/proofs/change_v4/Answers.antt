@@ -93,7 +93,7 @@ pub new_addr4-requires : goal.new_addr4-requires
 new_addr4-requires c =
     let fit = old-fit c.args.i c.requires.i_bound _ refl c.store.ensures c.requires.represents_fit in
     let two = rows_are 2 c.moved-came.result c.in-Rows.k c.in-Rows.is c.moved-came.ensures.result_bound in
-    (rest-room c.in-Rows.k 34 c.moved-came.new.ev.0 (omega (arith, two, c.requires.in_bounds)), length-address c.changed_to.new.out.1.1.0 (changed-fit c.args.q.now c.args.clock.0 c.store.new.s c.requires.q_len.1 fit _ refl c.changed_to.ensures))
+    (rest-room c.in-Rows.k 34 c.moved-came.new.ev (omega (arith, two, c.requires.in_bounds)), length-address c.changed_to.new.out (changed-fit c.args.q.now c.args.clock.0 c.store.new.s c.requires.q_len.1 fit _ refl c.changed_to.ensures))
 
 pub overflow_add-result : goal.overflow_add-result
 overflow_add-result c =
@@ -105,5 +105,5 @@ pub returns : goal.returns
 returns c =
     let fit = old-fit c.args.i c.requires.i_bound _ refl c.store.ensures c.requires.represents_fit in
     let two = rows_are 2 c.moved-came.result c.in-Rows.k c.in-Rows.is c.moved-came.ensures.result_bound in
-    let room = rest-room c.in-Rows.k 34 c.moved-came.new.ev.0 (omega (arith, two, c.requires.in_bounds)) in record { result_bound = omega (arith, two); comes = λ st hs g at. change-done c.args.q.now c.args.clock.0 c.store.new.s c.requires.q_len.1 fit _ refl c.changed_to.ensures c.moved-came.ensures.adds_from c.in-Rows.k c.in-Rows.is c.args.i
+    let room = rest-room c.in-Rows.k 34 c.moved-came.new.ev (omega (arith, two, c.requires.in_bounds)) in record { result_bound = omega (arith, two); comes = λ st hs g at. change-done c.args.q.now c.args.clock.0 c.store.new.s c.requires.q_len.1 fit _ refl c.changed_to.ensures c.moved-came.ensures.adds_from c.in-Rows.k c.in-Rows.is c.args.i
           c.replace_address.ensures room c.new_addr4.ensures st hs g at (get_or st.addresses c.args.i []) (old_row c.args.i c.requires.i_bound _ refl c.store.ensures st hs) }

@@ -24,7 +24,7 @@ prefix_route4-requires c =
 
 pub prefix_route4-requires-2 : goal.prefix_route4-requires-2
 prefix_route4-requires-2 c =
-    (omega arith, fit-short c.args.old.now c.requires.value)
+    record { at_in_bounds = omega arith; a_len = fit-short c.args.old.now c.requires.value }
 
 pub kernel_add4-came-requires : goal.kernel_add4-came-requires
 kernel_add4-came-requires c =
@@ -60,7 +60,7 @@ slice_bounds-kernel_del4-start c =
 pub kernel_del4-went-requires : goal.kernel_del4-went-requires
 kernel_del4-went-requires c =
     let one = rows_are 1 c.kernel_add4-came.result c.in-Rows.k c.in-Rows.is c.kernel_add4-came.ensures.result_bound in
-    record { represents_some = c.kernel_add4-came.ensures.represents_some_2; p_len = row-wide c.args.old.now c.requires.value (get_or c.args.old.now 13 0) (get_or c.args.old.now 0 0) _ refl c.prefix_route4-2.ensures; in_bounds = λ b. rest-room c.in-Rows.k 34 c.kernel_add4-came.new.ev.0 (omega (arith, one, c.requires.in_bounds)) }
+    record { represents_some = c.kernel_add4-came.ensures.represents_some_2; p_len = row-wide c.args.old.now c.requires.value (get_or c.args.old.now 13 0) (get_or c.args.old.now 0 0) _ refl c.prefix_route4-2.ensures; in_bounds = λ b. rest-room c.in-Rows.k 34 c.kernel_add4-came.new.ev (omega (arith, one, c.requires.in_bounds)) }
 
 pub overflow_add-result : goal.overflow_add-result
 overflow_add-result c =

@@ -7,5 +7,5 @@ use Rattle.text.proofs.render.Goals as goal
 
 pub returns : goal.returns
 returns c =
-     let both = (omega arith, render-wrote c.args.n c.count_line-next.result c.lines.result c.args.rows.now c.args.out.now _ _ c.count_line-next.ensures.value c.count_line-next.ensures.out_after c.lines.ensures.value c.lines.ensures.out_after (omega arith) (omega arith)) in
-    record { upper_bound = both.0; value = both.1.0; out_after = both.1.1 }
+    let rest = render-wrote c.args.n c.count_line-next.result c.lines.result c.args.rows.now c.args.out.now _ _ c.count_line-next.ensures.value c.count_line-next.ensures.out_after c.lines.ensures.value c.lines.ensures.out_after (omega arith) (omega arith) in
+    record { upper_bound = omega arith; value = rest.0; out_after = rest.1 }

@@ -18,15 +18,13 @@ returns-then-request-ne-ADD_V4_BYTES c =
 pub returns-then-n-ne0 : goal.returns-then-n-ne0
 unfolding add_v4_mask_call
 returns-then-n-ne0 c =
-    let a = (start c).args in
-    bad_on (add_v4_asking a.clock) a.request.now a.state.now a.events.now c.if-request-ne-ADD_V4_BYTES.false (λ i. (c.slice_known-1.given i).fits)
-    (words-whole add_v4_size a.request.now _ _ c.if-request-ne-ADD_V4_BYTES.false refl c.words_of.ensures) c.to_prefix-n.ensures.value c.if-n-ne0.true
+    bad_on (add_v4_asking c.args.clock) c.args.request.now c.args.state.now c.args.events.now c.if-request-ne-ADD_V4_BYTES.false (λ i. (c.slice_known-1.given i).fits)
+    (words-whole add_v4_size c.args.request.now _ _ c.if-request-ne-ADD_V4_BYTES.false refl c.words_of.ensures) c.to_prefix-n.ensures.value c.if-n-ne0.true
     (ap numbers_in c.refuse.ensures)
 
 pub returns : goal.returns
 unfolding add_v4_mask_call
 returns c =
-    let a = (start c).args in
-    good-on (add_v4_asking a.clock) a.request.now a.state.now a.events.now c.if-request-ne-ADD_V4_BYTES.false
-    (words-whole add_v4_size a.request.now _ _ c.if-request-ne-ADD_V4_BYTES.false refl c.words_of.ensures) c.to_prefix-n.ensures.value c.if-n-ne0.false
+    good-on (add_v4_asking c.args.clock) c.args.request.now c.args.state.now c.args.events.now c.if-request-ne-ADD_V4_BYTES.false
+    (words-whole add_v4_size c.args.request.now _ _ c.if-request-ne-ADD_V4_BYTES.false refl c.words_of.ensures) c.to_prefix-n.ensures.value c.if-n-ne0.false
     c.to_prefix-n.ensures.q_after c.as_bytes.ensures (search rules) c.interface4_add_v4.ensures

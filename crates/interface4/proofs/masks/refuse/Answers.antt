@@ -21,9 +21,6 @@ use Rattle.interface4.proofs.masks.refuse.Goals as goal
 abbrev number : ℕ → List ℕ → ℕ
 number n w = checked (record { buffers = true; row = true; request = n }) w
 
-fit : (c : goal.Else-not-state-room) → with (start c).args.state.now (4 * event_room) (start c).args.room ≡ true
-fit c = not-false _ c.if-not-state-room.false
-
 pub returns-then-not-state-room : goal.returns-then-not-state-room
 returns-then-not-state-room c =
     c.refused.ensures
@@ -31,13 +28,13 @@ returns-then-not-state-room c =
 
 pub words_of-requires : goal.words_of-requires
 words_of-requires c =
-    omega (arith, state-long (start c).args.state.now (start c).args.room (fit c))
+    let fit : with c.args.state.now (4 * event_room) c.args.room ≡ true = not-false _ c.if-not-state-room.false in
+    omega (arith, state-long c.args.state.now c.args.room fit)
 
 pub returns : goal.returns
 returns c =
-    let a = (start c).args in
-    let s = a.state.now in
-    let words = words-whole state_size s _ _ (state-long s a.room (fit c)) refl c.words_of.ensures in
-    let said = c.checked.ensures ∙ ap (number a.number) words in
+    let fit : with c.args.state.now (4 * event_room) c.args.room ≡ true = not-false _ c.if-not-state-room.false in
+    let words = words-whole state_size c.args.state.now _ _ (state-long c.args.state.now c.args.room fit) refl c.words_of.ensures in
+    let said = c.checked.ensures ∙ ap (number c.args.number) words in
     c.refused-2.ensures ∙ ap (λ (n : ℕ). reply_of (refusal n)) said
-    ∙ ap reply_of (sym (cond-true (with s (4 * event_room) a.room) (refusal (number a.number (words_of s))) (refusal 200) (fit c)))
+    ∙ ap reply_of (sym (cond-true (with c.args.state.now (4 * event_room) c.args.room) (refusal (number c.args.number (words_of c.args.state.now))) (refusal 200) fit))

@@ -13,24 +13,18 @@ use Rattle.interface4.specs.Message.{unread, unread-rows, on-words, on-words-row
 use borrow.Author.Rules.{rules}
 use Rattle.interface4.proofs.messages.interface4_read.Goals as goal
 
--- the call on words: as many words as the reply says, and they are few
-few : (c : goal.After-interface4w_read-answer) → c.interface4w_read-answer.result.second ≤ del_route4_size
-few c =
-    let a = (start c).args in
-    omega (arith, ap (λ (r : Reply). r.second) c.interface4w_read-answer.ensures.value, (counted del_route4_size a.up a.message.now).few)
-
 pub returns-then-request-lt-REQUEST_BYTES : goal.returns-then-request-lt-REQUEST_BYTES
 returns-then-request-lt-REQUEST_BYTES c =
     record { value = c.refused.ensures ∙ ap reply_of (sym (unread (length c.args.request.now) c.args.up c.args.message.now c.if-request-lt-REQUEST_BYTES.true)); request_after = unread-rows (length c.args.request.now) c.args.up c.args.message.now c.if-request-lt-REQUEST_BYTES.true c.args.request.now }
 
 pub give_rows-requires : goal.give_rows-requires
 give_rows-requires c =
-    (omega (arith, few c), omega (arith, few c, c.if-request-lt-REQUEST_BYTES.false))
+    let few : c.interface4w_read-answer.result.second ≤ del_route4_size = omega (arith, ap (λ (r : Reply). r.second) c.interface4w_read-answer.ensures.value, (counted del_route4_size c.args.up c.args.message.now).few) in
+    (omega (arith, few), omega (arith, few, c.if-request-lt-REQUEST_BYTES.false))
 
 pub returns : goal.returns
 returns c =
-    let a = (start c).args in
-    let room : 4 * del_route4_size ≤ length a.request.now = omega (arith, c.if-request-lt-REQUEST_BYTES.false) in
-    let on-words-reply = ap reply_of (sym (on-words (length a.request.now) a.up a.message.now room)) in
-    record { value = c.interface4w_read-answer.ensures.value ∙ on-words-reply; request_after = on-words-rows (length a.request.now) a.up a.message.now room _ _ a.request.now _ _ (ap (λ (r : Reply). r.second) c.interface4w_read-answer.ensures.value) c.interface4w_read-answer.ensures.request_after
+    let room : 4 * del_route4_size ≤ length c.args.request.now = omega (arith, c.if-request-lt-REQUEST_BYTES.false) in
+    let on-words-reply = ap reply_of (sym (on-words (length c.args.request.now) c.args.up c.args.message.now room)) in
+    record { value = c.interface4w_read-answer.ensures.value ∙ on-words-reply; request_after = on-words-rows (length c.args.request.now) c.args.up c.args.message.now room _ _ c.args.request.now _ _ (ap (λ (r : Reply). r.second) c.interface4w_read-answer.ensures.value) c.interface4w_read-answer.ensures.request_after
           c.give_rows.ensures.out_after }

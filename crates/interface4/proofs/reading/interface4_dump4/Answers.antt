@@ -13,7 +13,6 @@ use Rattle.call_reply.specs.Answer.{numbers_in}
 use Rattle.definition.specs.Step.{listing_room}
 use Rattle.interface4.specs.Reading.{EnoughRoom, fits, listed-no, listing-room, listed-yes}
 use borrow.Author.Rules.{rules}
-use Rattle.interface4.proofs.reading.interface4_dump4.Invariants.{fit, there}
 use Rattle.interface4.proofs.reading.interface4_dump4.Goals as goal
 
 pub returns-then-not-state-listing : goal.returns-then-not-state-listing
@@ -21,18 +20,23 @@ returns-then-not-state-listing c =
     listed-no c.args.state.now c.args.listing.now c.if-not-state-listing.true (ap numbers_in c.refused.ensures)
 
 pub words_of-requires : goal.words_of-requires
-words_of-requires c = omega (arith, (there c).state)
+words_of-requires c =
+    let fit : with c.args.state.now (4 * listing_room) (length c.args.listing.now) ≡ true = not-false _ c.if-not-state-listing.false in
+    let there : EnoughRoom (4 * listing_room) c.args.state.now c.args.listing.now = fits _ _ _ fit in
+    omega (arith, there.state)
 
 pub give_rows-requires : goal.give_rows-requires
 give_rows-requires c =
-    let a = (start c).args in
-    let words = words-whole state_size a.state.now _ _ (there c).state refl c.words_of.ensures in
-    let room = listing-room a.state.now a.listing.now words refl c.list-answer.ensures in
-    (omega (arith, room), omega (arith, room, (there c).room))
+    let fit : with c.args.state.now (4 * listing_room) (length c.args.listing.now) ≡ true = not-false _ c.if-not-state-listing.false in
+    let there : EnoughRoom (4 * listing_room) c.args.state.now c.args.listing.now = fits _ _ _ fit in
+    let words = words-whole state_size c.args.state.now _ _ there.state refl c.words_of.ensures in
+    let room = listing-room c.args.state.now c.args.listing.now words refl c.list-answer.ensures in
+    (omega (arith, room), omega (arith, room, there.room))
 
 pub returns : goal.returns
 returns c =
-    let a = (start c).args in
-    let words = words-whole state_size a.state.now _ _ (there c).state refl c.words_of.ensures in
-    listed-yes a.state.now a.listing.now words refl c.list-answer.ensures (fit c)
+    let fit : with c.args.state.now (4 * listing_room) (length c.args.listing.now) ≡ true = not-false _ c.if-not-state-listing.false in
+    let there : EnoughRoom (4 * listing_room) c.args.state.now c.args.listing.now = fits _ _ _ fit in
+    let words = words-whole state_size c.args.state.now _ _ there.state refl c.words_of.ensures in
+    listed-yes c.args.state.now c.args.listing.now words refl c.list-answer.ensures fit
     (λ i. (c.shared_slice_known-1.given i).fits) c.give_rows.ensures.out_after c.give_rows.ensures.below
