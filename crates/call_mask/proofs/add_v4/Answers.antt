@@ -24,7 +24,7 @@ pub returns-then-n-ne0 : goal.returns-then-n-ne0
 unfolding add_v4_mask_call
 returns-then-n-ne0 c =
     let number : c.to_prefix-n.result ≡ unless (good (mask_at add_v4_mask c.args.q.now)) bad_mask = subst (λ (q : Row). c.to_prefix-n.result ≡ unless (good (mask_at add_v4_mask q)) bad_mask) c.copy.ensures c.to_prefix-n.ensures.value in
-    let n-is = bad_mask_lem add_v4_size add_v4_mask c.args.q.now (length c.args.events.now) (add_v4_refusal (prefixed add_v4_mask c.args.q.now)) c.args.state.now c.if-q-ne-ADD_V4_WORDS.left number c.if-n-ne0.true c.checked.ensures in
+    let n-is = bad_mask_lem add_v4_size add_v4_mask c.args.q.now (length c.args.events.now) (add_v4_refusal (prefixed add_v4_mask c.args.q.now)) c.args.state.now c.if-q-ne-ADD_V4_WORDS.false number c.if-n-ne0.true c.checked.ensures in
     answers-refused (add_v4_masked c.args.q.now (length c.args.events.now) c.args.clock) c.args.state.now c.args.events.now n-is (bad_some (length c.args.events.now) c.args.state.now c.if-n-ne0.true c.checked.ensures)
 
 pub returns : goal.returns

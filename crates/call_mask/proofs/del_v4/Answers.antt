@@ -24,7 +24,7 @@ pub returns-then-n-ne0 : goal.returns-then-n-ne0
 unfolding del_v4_mask_call
 returns-then-n-ne0 c =
     let number : c.to_prefix-n.result ≡ unless (good (mask_at del_v4_mask c.args.q.now)) bad_mask = subst (λ (q : Row). c.to_prefix-n.result ≡ unless (good (mask_at del_v4_mask q)) bad_mask) c.copy.ensures c.to_prefix-n.ensures.value in
-    let n-is = bad_mask_lem del_v4_size del_v4_mask c.args.q.now (length c.args.events.now) (unless (fit_del_v4 (prefixed del_v4_mask c.args.q.now)) 202) c.args.state.now c.if-q-ne-DEL_V4_WORDS.left number c.if-n-ne0.true c.checked.ensures in
+    let n-is = bad_mask_lem del_v4_size del_v4_mask c.args.q.now (length c.args.events.now) (unless (fit_del_v4 (prefixed del_v4_mask c.args.q.now)) 202) c.args.state.now c.if-q-ne-DEL_V4_WORDS.false number c.if-n-ne0.true c.checked.ensures in
     answers-refused (del_v4_masked c.args.q.now (length c.args.events.now)) c.args.state.now c.args.events.now n-is (bad_some (length c.args.events.now) c.args.state.now c.if-n-ne0.true c.checked.ensures)
 
 pub returns : goal.returns

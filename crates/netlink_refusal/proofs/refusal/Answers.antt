@@ -42,4 +42,4 @@ returns c =
     let starts : c.attributes_at-at.result ≡ attributes_at (message_type c.args.m.now) = c.attributes_at-at.ensures ∙ ap attributes_at c.message_type-t.ensures in
     c.size_refusal.ensures
     ∙ by_size c.args.m.now _ _ _ c.message_type-t.ensures starts c.message_length-n.ensures
-    (sym c.shape_refusal-shape.ensures ∙ c.if-shape-ne0.left)
+    (sym c.shape_refusal-shape.ensures ∙ c.if-shape-ne0.false)

@@ -14,17 +14,17 @@ returns-then-not-sizes c =
 
 pub returns-then-t-ne-RTM_NEWADDR : goal.returns-then-t-ne-RTM_NEWADDR
 returns-then-t-ne-RTM_NEWADDR c =
-    let all-sized : all (sized_in c.args.t) (attributes c.args.l.now) ≡ true = sym c.sizes.ensures ∙ not-false c.sizes.result c.if-not-sizes.false in
+    let all-sized : all (sized_in c.args.t) (attributes c.args.l.now) ≡ true = sym c.sizes.ensures ∙ c.if-not-sizes.false in
     sized_but_local c.args.t _ true all-sized (rw (ne_eqb c.args.t 20 c.if-t-ne-RTM_NEWADDR.true))
 
 pub returns-then-has : goal.returns-then-has
 returns-then-has c =
-    let all-sized : all (sized_in c.args.t) (attributes c.args.l.now) ≡ true = sym c.sizes.ensures ∙ not-false c.sizes.result c.if-not-sizes.false in
+    let all-sized : all (sized_in c.args.t) (attributes c.args.l.now) ≡ true = sym c.sizes.ensures ∙ c.if-not-sizes.false in
     let new = eq-eqb c.args.t 20 c.if-t-ne-RTM_NEWADDR.false in
     sized_but_local c.args.t _ true all-sized (rw new (sym c.has.ensures ∙ c.if-has.true))
 
 pub returns : goal.returns
 returns c =
-    let all-sized : all (sized_in c.args.t) (attributes c.args.l.now) ≡ true = sym c.sizes.ensures ∙ not-false c.sizes.result c.if-not-sizes.false in
+    let all-sized : all (sized_in c.args.t) (attributes c.args.l.now) ≡ true = sym c.sizes.ensures ∙ c.if-not-sizes.false in
     let new = eq-eqb c.args.t 20 c.if-t-ne-RTM_NEWADDR.false in
     sized_but_local c.args.t _ false all-sized (rw new (sym c.has.ensures ∙ c.if-has.false))

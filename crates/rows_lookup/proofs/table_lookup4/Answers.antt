@@ -16,6 +16,7 @@ use mathlib.Core.Path.{sym, ◌∙◌}
 use borrow.Author.Rules.{rules}
 use Rattle.rows_lookup.proofs.table_lookup4.Invariants.{passing}
 use Rattle.rows_lookup.proofs.table_lookup4.Goals as goal
+use Rattle.rows_lookup.proofs.table_lookup4.Goals.{then-better, else-better}
 
 pub loop-i-init : goal.loop-i-init
 loop-i-init c =
@@ -36,12 +37,10 @@ loop-i-preserved c =
       omega arith,
       λ l h.
           let sofar = c.loop-i.invariant.1 l h in
-          ⊎_elim
-          (λ w.
-          rw (w.2, w.3) (pass_taken c.args.rows.now c.args.n c.requires.0 (passing c.args.set c.args.f) l h c.loop-i.i c.loop-i.best c.loop-i.least c.loop-i-test.true sofar (sym c.better.ensures ∙ w.0.taken)))
-          (λ w.
-          rw (w.1, w.2) (pass-stays c.args.rows.now c.args.n c.requires.0 (passing c.args.set c.args.f) l h c.loop-i.i c.loop-i.best c.loop-i.least c.loop-i-test.true sofar (sym c.better.ensures ∙ w.0.left)))
-          c.if-better.branch,
+          elim c.if-better.branch [
+            then-better w ↦ rw (w.best-is, w.least-is) (pass_taken c.args.rows.now c.args.n c.requires.0 (passing c.args.set c.args.f) l h c.loop-i.i c.loop-i.best c.loop-i.least c.loop-i-test.true sofar (sym c.better.ensures ∙ w.if-better.true))
+            | else-better w ↦ rw (w.best-is, w.least-is) (pass-stays c.args.rows.now c.args.n c.requires.0 (passing c.args.set c.args.f) l h c.loop-i.i c.loop-i.best c.loop-i.least c.loop-i-test.true sofar (sym c.better.ensures ∙ w.if-better.false))
+          ],
     )
 
 pub returns : goal.returns

@@ -17,19 +17,19 @@ returns-then-not-request-size c =
 
 pub words_of-requires : goal.words_of-requires
 words_of-requires c =
-    let fit : change_fits c.args.size c.args.request.now c.args.state.now c.args.events.now ≡ true = not-false _ c.if-not-request-size.false in
+    let fit : change_fits c.args.size c.args.request.now c.args.state.now c.args.events.now ≡ true = c.if-not-request-size.false in
     let there : EnoughBytes c.args.size c.args.request.now c.args.state.now c.args.events.now = fits _ _ _ _ fit in
     omega (arith, there.request, c.requires.few)
 
 pub words_of-requires-2 : goal.words_of-requires-2
 words_of-requires-2 c =
-    let fit : change_fits c.args.size c.args.request.now c.args.state.now c.args.events.now ≡ true = not-false _ c.if-not-request-size.false in
+    let fit : change_fits c.args.size c.args.request.now c.args.state.now c.args.events.now ≡ true = c.if-not-request-size.false in
     let there : EnoughBytes c.args.size c.args.request.now c.args.state.now c.args.events.now = fits _ _ _ _ fit in
     omega (arith, there.state)
 
 pub give_back-requires : goal.give_back-requires
 give_back-requires c =
-    let fit : change_fits c.args.size c.args.request.now c.args.state.now c.args.events.now ≡ true = not-false _ c.if-not-request-size.false in
+    let fit : change_fits c.args.size c.args.request.now c.args.state.now c.args.events.now ≡ true = c.if-not-request-size.false in
     let there : EnoughBytes c.args.size c.args.request.now c.args.state.now c.args.events.now = fits _ _ _ _ fit in
     let kept = still c.args.code c.args.size c.args.request.now c.args.state.now c.args.events.now c.args.clock c.requires fit _ _
     c.words_of.ensures c.words_of-2.ensures refl (made_gave c.change-answer.ensures)
@@ -38,7 +38,7 @@ give_back-requires c =
 
 pub give_rows-requires : goal.give_rows-requires
 give_rows-requires c =
-    let fit : change_fits c.args.size c.args.request.now c.args.state.now c.args.events.now ≡ true = not-false _ c.if-not-request-size.false in
+    let fit : change_fits c.args.size c.args.request.now c.args.state.now c.args.events.now ≡ true = c.if-not-request-size.false in
     let there : EnoughBytes c.args.size c.args.request.now c.args.state.now c.args.events.now = fits _ _ _ _ fit in
     let room = emitted-room c.args.code c.args.size c.args.request.now c.args.state.now c.args.events.now c.args.clock c.requires fit _ _
     c.words_of.ensures c.words_of-2.ensures refl (made_gave c.change-answer.ensures) in
@@ -46,7 +46,7 @@ give_rows-requires c =
 
 pub returns : goal.returns
 returns c =
-    let fit : change_fits c.args.size c.args.request.now c.args.state.now c.args.events.now ≡ true = not-false _ c.if-not-request-size.false in
+    let fit : change_fits c.args.size c.args.request.now c.args.state.now c.args.events.now ≡ true = c.if-not-request-size.false in
     changed-yes c.args.code c.args.size c.args.request.now c.args.state.now c.args.events.now c.args.clock c.requires fit _ _
     c.words_of.ensures c.words_of-2.ensures refl (made_gave c.change-answer.ensures)
     c.give_back.ensures.state_after c.give_rows.ensures.out_after c.give_back.ensures.below c.give_rows.ensures.below

@@ -16,13 +16,13 @@ returns-then-not-request-size c =
 
 pub words_of-requires : goal.words_of-requires
 words_of-requires c =
-    let fit : change_fits c.args.size c.args.request.now c.args.state.now c.args.events.now ≡ true = not-false _ c.if-not-request-size.false in
+    let fit : change_fits c.args.size c.args.request.now c.args.state.now c.args.events.now ≡ true = c.if-not-request-size.false in
     let there : EnoughBytes c.args.size c.args.request.now c.args.state.now c.args.events.now = fits _ _ _ _ fit in
     omega (arith, there.request, c.requires.asks.few)
 
 pub words_of-requires-2 : goal.words_of-requires-2
 words_of-requires-2 c =
-    let fit : change_fits c.args.size c.args.request.now c.args.state.now c.args.events.now ≡ true = not-false _ c.if-not-request-size.false in
+    let fit : change_fits c.args.size c.args.request.now c.args.state.now c.args.events.now ≡ true = c.if-not-request-size.false in
     let there : EnoughBytes c.args.size c.args.request.now c.args.state.now c.args.events.now = fits _ _ _ _ fit in
     omega (arith, there.state)
 
@@ -31,7 +31,7 @@ change_one-answer-requires c = λ h. omega arith
 
 pub give_back-requires : goal.give_back-requires
 give_back-requires c =
-    let fit : change_fits c.args.size c.args.request.now c.args.state.now c.args.events.now ≡ true = not-false _ c.if-not-request-size.false in
+    let fit : change_fits c.args.size c.args.request.now c.args.state.now c.args.events.now ≡ true = c.if-not-request-size.false in
     let there : EnoughBytes c.args.size c.args.request.now c.args.state.now c.args.events.now = fits _ _ _ _ fit in
     let kept = still c.args.code c.args.size c.args.request.now c.args.state.now c.args.events.now 0 c.requires.asks fit _ _
     c.words_of.ensures c.words_of-2.ensures refl
@@ -41,7 +41,7 @@ give_back-requires c =
 
 pub give_rows-requires : goal.give_rows-requires
 give_rows-requires c =
-    let fit : change_fits c.args.size c.args.request.now c.args.state.now c.args.events.now ≡ true = not-false _ c.if-not-request-size.false in
+    let fit : change_fits c.args.size c.args.request.now c.args.state.now c.args.events.now ≡ true = c.if-not-request-size.false in
     let there : EnoughBytes c.args.size c.args.request.now c.args.state.now c.args.events.now = fits _ _ _ _ fit in
     let room = emitted-room c.args.code c.args.size c.args.request.now c.args.state.now c.args.events.now 0 c.requires.asks fit _ _
     c.words_of.ensures c.words_of-2.ensures refl
@@ -50,7 +50,7 @@ give_rows-requires c =
 
 pub returns : goal.returns
 returns c =
-    let fit : change_fits c.args.size c.args.request.now c.args.state.now c.args.events.now ≡ true = not-false _ c.if-not-request-size.false in
+    let fit : change_fits c.args.size c.args.request.now c.args.state.now c.args.events.now ≡ true = c.if-not-request-size.false in
     changed-yes c.args.code c.args.size c.args.request.now c.args.state.now c.args.events.now 0 c.requires.asks fit _ _
     c.words_of.ensures c.words_of-2.ensures refl
     (one_gave c.args.code _ _ _ c.change_one-answer.result c.requires.code_value c.change_one-answer.ensures)

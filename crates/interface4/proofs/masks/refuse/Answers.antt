@@ -28,12 +28,12 @@ returns-then-not-state-room c =
 
 pub words_of-requires : goal.words_of-requires
 words_of-requires c =
-    let fit : with c.args.state.now (4 * event_room) c.args.room ≡ true = not-false _ c.if-not-state-room.false in
+    let fit : with c.args.state.now (4 * event_room) c.args.room ≡ true = c.if-not-state-room.false in
     omega (arith, state-long c.args.state.now c.args.room fit)
 
 pub returns : goal.returns
 returns c =
-    let fit : with c.args.state.now (4 * event_room) c.args.room ≡ true = not-false _ c.if-not-state-room.false in
+    let fit : with c.args.state.now (4 * event_room) c.args.room ≡ true = c.if-not-state-room.false in
     let words = words-whole state_size c.args.state.now _ _ (state-long c.args.state.now c.args.room fit) refl c.words_of.ensures in
     let said = c.checked.ensures ∙ ap (number c.args.number) words in
     c.refused-2.ensures ∙ ap (λ (n : ℕ). reply_of (refusal n)) said

@@ -22,20 +22,20 @@ returns-then-not-state-row c =
 
 pub words_of-requires : goal.words_of-requires
 words_of-requires c =
-    let fit : with c.args.state.now (4 * Route.size) (length c.args.row.now) ≡ true = not-false _ c.if-not-state-row.false in
+    let fit : with c.args.state.now (4 * Route.size) (length c.args.row.now) ≡ true = c.if-not-state-row.false in
     let there : EnoughRoom (4 * Route.size) c.args.state.now c.args.row.now = fits _ _ _ fit in
     omega (arith, there.state)
 
 pub give_rows-requires : goal.give_rows-requires
 give_rows-requires c =
-    let fit : with c.args.state.now (4 * Route.size) (length c.args.row.now) ≡ true = not-false _ c.if-not-state-row.false in
+    let fit : with c.args.state.now (4 * Route.size) (length c.args.row.now) ≡ true = c.if-not-state-row.false in
     let there : EnoughRoom (4 * Route.size) c.args.state.now c.args.row.now = fits _ _ _ fit in
     let few = one (eqb c.find-answer.result.number 0) in
     (omega (arith, few), omega (arith, few, there.room))
 
 pub returns : goal.returns
 returns c =
-    let fit : with c.args.state.now (4 * Route.size) (length c.args.row.now) ≡ true = not-false _ c.if-not-state-row.false in
+    let fit : with c.args.state.now (4 * Route.size) (length c.args.row.now) ≡ true = c.if-not-state-row.false in
     let there : EnoughRoom (4 * Route.size) c.args.state.now c.args.row.now = fits _ _ _ fit in
     let words = words-whole state_size c.args.state.now _ _ there.state refl c.words_of.ensures in
     found-yes c.args.code c.args.a c.args.b c.args.c c.args.state.now c.args.row.now words refl c.find-answer.ensures fit

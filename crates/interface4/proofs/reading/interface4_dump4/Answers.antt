@@ -21,13 +21,13 @@ returns-then-not-state-listing c =
 
 pub words_of-requires : goal.words_of-requires
 words_of-requires c =
-    let fit : with c.args.state.now (4 * listing_room) (length c.args.listing.now) ≡ true = not-false _ c.if-not-state-listing.false in
+    let fit : with c.args.state.now (4 * listing_room) (length c.args.listing.now) ≡ true = c.if-not-state-listing.false in
     let there : EnoughRoom (4 * listing_room) c.args.state.now c.args.listing.now = fits _ _ _ fit in
     omega (arith, there.state)
 
 pub give_rows-requires : goal.give_rows-requires
 give_rows-requires c =
-    let fit : with c.args.state.now (4 * listing_room) (length c.args.listing.now) ≡ true = not-false _ c.if-not-state-listing.false in
+    let fit : with c.args.state.now (4 * listing_room) (length c.args.listing.now) ≡ true = c.if-not-state-listing.false in
     let there : EnoughRoom (4 * listing_room) c.args.state.now c.args.listing.now = fits _ _ _ fit in
     let words = words-whole state_size c.args.state.now _ _ there.state refl c.words_of.ensures in
     let room = listing-room c.args.state.now c.args.listing.now words refl c.list-answer.ensures in
@@ -35,7 +35,7 @@ give_rows-requires c =
 
 pub returns : goal.returns
 returns c =
-    let fit : with c.args.state.now (4 * listing_room) (length c.args.listing.now) ≡ true = not-false _ c.if-not-state-listing.false in
+    let fit : with c.args.state.now (4 * listing_room) (length c.args.listing.now) ≡ true = c.if-not-state-listing.false in
     let there : EnoughRoom (4 * listing_room) c.args.state.now c.args.listing.now = fits _ _ _ fit in
     let words = words-whole state_size c.args.state.now _ _ there.state refl c.words_of.ensures in
     listed-yes c.args.state.now c.args.listing.now words refl c.list-answer.ensures fit
