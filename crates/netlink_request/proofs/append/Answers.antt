@@ -10,7 +10,7 @@ use Rattle.netlink_request.proofs.append.Goals as goal
 
 pub returns-then-start-eq0 : goal.returns-then-start-eq0
 returns-then-start-eq0 c =
-    rw (missing c.args.l.now c.args.starts.now c.args.sizes.now c.requires.0 c.args.k c.requires.2 c.if-start-eq0.true) (omega arith, put-none c.args.at c.args.words.now)
+    rw (missing c.args.l.now c.args.starts.now c.args.sizes.now c.requires.0 c.args.k c.requires.2 c.if-start-eq0.true) record { value = omega arith; words_after = put-none c.args.at c.args.words.now }
 
 pub overflow_add-end : goal.overflow_add-end
 overflow_add-end c =
@@ -23,4 +23,4 @@ slice_bounds-word-end c =
 pub returns : goal.returns
 returns c =
     rw (present c.args.l.now c.args.starts.now c.args.sizes.now c.requires.0 c.args.k c.requires.2 c.if-start-eq0.false)
-    (omega arith, c.store.ensures ∙ ap (λ v. put c.args.at ((c.args.k - 1) ∷ v ∷ []) c.args.words.now) c.word-value.ensures)
+    record { value = omega arith; words_after = c.store.ensures ∙ ap (λ v. put c.args.at ((c.args.k - 1) ∷ v ∷ []) c.args.words.now) c.word-value.ensures }

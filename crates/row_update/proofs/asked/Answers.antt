@@ -16,4 +16,4 @@ returns c =
     c.rewritten.ensures
     ∙ ap (λ (v : List ℕ). put 0 v c.args.out.now)
     (asked-row c.args.q.now c.args.clock.0 c.as_primary.result c.life_flags-flags.result c.set-new.result c.requires.q_len c.as_primary.ensures c.life_flags-flags.ensures
-    (set_life_lem c.set-new.result _ _ c.args.clock.0 _ _ c.set-new.ensures c.lifetimes.ensures c.begun.ensures))
+    (set_life_lem c.set-new.result _ _ c.args.clock.0 _ _ c.set-new.ensures c.lifetimes-2.ensures c.begun.ensures))

@@ -16,4 +16,4 @@ returns c =
     c.rewritten.ensures
     ∙ ap (λ (v : List ℕ). put 0 v c.args.out.now)
     (changed_row c.args.old.now c.requires.len (omega (arith, c.shared_slice_known-2-1.given 16)) c.args.q.now c.args.clock.0 c.life_flags-flags.result c.set-new.result c.life_flags-flags.ensures
-    (set_life_lem c.set-new.result _ _ c.args.clock.0 _ _ c.set-new.ensures c.lifetimes.ensures c.life_of.ensures))
+    (set_life_lem c.set-new.result _ _ c.args.clock.0 _ _ c.set-new.ensures c.lifetimes-2.ensures c.life_of.ensures))

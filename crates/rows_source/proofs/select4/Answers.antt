@@ -11,6 +11,7 @@ use Rattle.rows_source.specs.Selected.{wanted}
 use Rattle.rows_source.specs.Pass.{LoopInvariant, part-fits, select_start, select_found, select_kept, select_stays, select_none, select_end}
 use borrow.Author.Rules.{rules}
 use Rattle.rows_source.proofs.select4.Goals as goal
+use Rattle.rows_source.proofs.select4.Goals.{then-fit-kept, else-fit-kept}
 
 pub loop-i-init : goal.loop-i-init
 loop-i-init c =
@@ -27,7 +28,7 @@ reaches-near-requires c =
 pub returns-then-fit-near : goal.returns-then-fit-near
 returns-then-fit-near c =
     λ l h.
-    select_found c.args.addresses.now c.args.n c.requires.0 (wanted c.args.dst_present c.args.dst) c.args.scope l h c.loop-i.i c.loop-i.auto
+    select_found c.args.addresses.now c.args.n c.requires.0 (wanted c.args.dst_present c.args.dst) c.args.scope l h c.loop-i.i c.loop-i.kept
     c.loop-i-test.true (c.loop-i.invariant.2 c.requires.0 l h)
     c.eligible-fit.result c.reaches-near.result c.eligible-fit.ensures c.reaches-near.ensures c.if-fit-near.true
 
@@ -35,30 +36,28 @@ pub loop-i-preserved : goal.loop-i-preserved
 loop-i-preserved c =
     (
       omega arith,
-      ⊎_elim (λ w. omega (arith, w.1)) (λ w. omega (arith, w.1)) c.if-fit-kept.branch,
+      elim c.if-fit-kept.branch [ then-fit-kept w ↦ omega (arith, w.kept-is) | else-fit-kept w ↦ omega (arith, w.kept-is) ],
       λ long l h.
-          ⊎_elim
-          (λ w.
-          rw w.1
-          (select_kept c.args.addresses.now c.args.n long (wanted c.args.dst_present c.args.dst) c.args.scope l h c.loop-i.i c.loop-i.auto
+          elim c.if-fit-kept.branch [
+          then-fit-kept w ↦ rw w.kept-is
+          (select_kept c.args.addresses.now c.args.n long (wanted c.args.dst_present c.args.dst) c.args.scope l h c.loop-i.i c.loop-i.kept
           c.loop-i-test.true (c.loop-i.invariant.2 long l h)
-          c.eligible-fit.result c.reaches-near.result c.eligible-fit.ensures c.reaches-near.ensures c.if-fit-near.false w.0.taken))
-          (λ w.
-          rw w.1
-          (select_stays c.args.addresses.now c.args.n long (wanted c.args.dst_present c.args.dst) c.args.scope l h c.loop-i.i c.loop-i.auto
+          c.eligible-fit.result c.reaches-near.result c.eligible-fit.ensures c.reaches-near.ensures c.if-fit-near.false w.if-fit-kept.true)
+          | else-fit-kept w ↦ rw w.kept-is
+          (select_stays c.args.addresses.now c.args.n long (wanted c.args.dst_present c.args.dst) c.args.scope l h c.loop-i.i c.loop-i.kept
           c.loop-i-test.true (c.loop-i.invariant.2 long l h)
-          c.eligible-fit.result c.reaches-near.result c.eligible-fit.ensures c.reaches-near.ensures c.if-fit-near.false c.loop-i.invariant.1 w.0.left))
-          c.if-fit-kept.branch,
+          c.eligible-fit.result c.reaches-near.result c.eligible-fit.ensures c.reaches-near.ensures c.if-fit-near.false c.loop-i.invariant.1 w.if-fit-kept.false)
+          ],
     )
 
 pub returns-then-n-kept : goal.returns-then-n-kept
 returns-then-n-kept c =
     λ l h.
-    select_none c.args.addresses.now c.args.n c.requires.0 (wanted c.args.dst_present c.args.dst) c.args.scope l h c.loop-i.i c.loop-i.auto
+    select_none c.args.addresses.now c.args.n c.requires.0 (wanted c.args.dst_present c.args.dst) c.args.scope l h c.loop-i.i c.loop-i.kept
     c.loop-i-test.false (c.loop-i.invariant.2 c.requires.0 l h) c.if-n-kept.true
 
 pub returns : goal.returns
 returns c =
     λ l h.
-    select_end c.args.addresses.now c.args.n c.requires.0 (wanted c.args.dst_present c.args.dst) c.args.scope l h c.loop-i.i c.loop-i.auto
+    select_end c.args.addresses.now c.args.n c.requires.0 (wanted c.args.dst_present c.args.dst) c.args.scope l h c.loop-i.i c.loop-i.kept
     c.loop-i-test.false (c.loop-i.invariant.2 c.requires.0 l h) c.if-n-kept.false

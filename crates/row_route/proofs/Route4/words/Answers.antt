@@ -12,19 +12,15 @@ use Rattle.row_route.proofs.Route4.TheLaws as T'
 use borrow.Author.Rules.{rules}
 use Rattle.row_route.proofs.Route4.words.Goals as goal
 
--- its metrics are the fourteenth field
-long : (r : Route4) → Is T.the_row r (LL.vals T.the_type T'.the_laws r) → length r.metrics ≡ 17
-long r is = sym (length-map r.metrics (λ (x : ℕ). x)) ∙ is.1.1.1.1.1.1.1.1.1.1.1.1.1.1.1.0.1.0.1
-
 pub store-requires-2 : goal.store-requires-2
 store-requires-2 c =
     head-room c.args.self c.code.result c.mark.result c.value.result c.mark-2.result c.value-2.result c.bit.result c.bit-2.result c.bit-3.result
-    (replicate 32 0) c.store.new.s c.store.new.s refl (long c.args.self c.well-formed.0) c.store.ensures
+    (replicate 32 0) c.store.new.s c.store.new.s refl (search rules) c.store.ensures
 
 pub returns : goal.returns
 returns c =
      let both = written c.args.self c.code.result c.mark.result c.value.result c.mark-2.result c.value-2.result c.bit.result c.bit-2.result c.bit-3.result
-    (replicate 32 0) c.store.new.s c.store-2.new.s refl (long c.args.self c.well-formed.0)
+    (replicate 32 0) c.store.new.s c.store-2.new.s refl (search rules)
     c.code.ensures c.mark.ensures c.value.ensures c.mark-2.ensures c.value-2.ensures c.bit.ensures c.bit-2.ensures c.bit-3.ensures
     c.store.ensures c.store-2.ensures in
     record { value = both.0; result_value = both.1 }
