@@ -26,13 +26,13 @@ slice_bounds-show_listing-end c =
 
 pub show_listing-requires : goal.show_listing-requires
 show_listing-requires c =
-    (base-long c.args.s.now c.requires.0, sym c.well-formed-2.ensures ∙ c.if-well_formed.true, c.requires.1)
+    (base-long c.args.s.now c.requires.0, sym c.well_formed-2.ensures ∙ c.if-well_formed.true, c.requires.1)
 
 pub returns-then-well_formed : goal.returns-then-well_formed
 returns-then-well_formed c =
-    let e = sym (shown-well c.args.s.now (sym c.well-formed-2.ensures ∙ c.if-well_formed.true)) in
+    let e = sym (shown-well c.args.s.now (sym c.well_formed-2.ensures ∙ c.if-well_formed.true)) in
     record { upper_bound = c.show_listing.ensures.upper_bound; value = c.show_listing.ensures.value ∙ ap (λ (x : List ℕ). length x) e; out_after = c.show_listing.ensures.out_after ∙ ap (λ (x : List ℕ). put 0 x c.args.out.now) e }
 
 pub returns : goal.returns
 returns c =
-    let e = sym (shown_ill c.args.s.now (sym c.well-formed-2.ensures ∙ c.if-well_formed.false)) in record { upper_bound = omega (arith, c.refused_line.ensures.upper_bound); value = c.refused_line.ensures.value ∙ zero-add _ ∙ ap (λ (x : List ℕ). length x) e; out_after = c.refused_line.ensures.out_after ∙ ap (λ (x : List ℕ). put 0 x c.args.out.now) e }
+    let e = sym (shown_ill c.args.s.now (sym c.well_formed-2.ensures ∙ c.if-well_formed.false)) in record { upper_bound = omega (arith, c.refused_line.ensures.upper_bound); value = c.refused_line.ensures.value ∙ zero-add _ ∙ ap (λ (x : List ℕ). length x) e; out_after = c.refused_line.ensures.out_after ∙ ap (λ (x : List ℕ). put 0 x c.args.out.now) e }

@@ -26,9 +26,9 @@ well_formed-requires c =
 pub returns-then-not-well_formed-handed : goal.returns-then-not-well_formed-handed
 returns-then-not-well_formed-handed c =
     unfit-state (record { buffers = c.args.buffers; row = c.args.handed; request = c.args.request }) c.args.s.now c.if-not-s-buffers.false
-    (ap (λ (b : Bool). b && c.args.handed) (sym c.well-formed-2.ensures) ∙ c.if-not-well_formed-handed.true)
+    (ap (λ (b : Bool). b && c.args.handed) (sym c.well_formed-2.ensures) ∙ c.if-not-well_formed-handed.true)
 
 pub returns : goal.returns
 returns c =
     fit_so_far (record { buffers = c.args.buffers; row = c.args.handed; request = c.args.request }) c.args.s.now c.if-not-s-buffers.false
-    (ap (λ (b : Bool). b && c.args.handed) (sym c.well-formed-2.ensures) ∙ c.if-not-well_formed-handed.false)
+    (ap (λ (b : Bool). b && c.args.handed) (sym c.well_formed-2.ensures) ∙ c.if-not-well_formed-handed.false)

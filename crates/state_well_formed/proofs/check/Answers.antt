@@ -22,8 +22,8 @@ well_formed-requires c =
 
 pub returns-then-well_formed : goal.returns-then-well_formed
 returns-then-well_formed c =
-    sym (rw (eq-eqb (length c.args.s.now) state_size c.if-s-ne-STATE_WORDS.false, sym c.well-formed-2.ensures ∙ c.if-well_formed.true))
+    sym (rw (eq-eqb (length c.args.s.now) state_size c.if-s-ne-STATE_WORDS.false, sym c.well_formed-2.ensures ∙ c.if-well_formed.true))
 
 pub returns : goal.returns
 returns c =
-    sym (rw (eq-eqb (length c.args.s.now) state_size c.if-s-ne-STATE_WORDS.false, sym c.well-formed-2.ensures ∙ c.if-well_formed.false))
+    sym (rw (eq-eqb (length c.args.s.now) state_size c.if-s-ne-STATE_WORDS.false, sym c.well_formed-2.ensures ∙ c.if-well_formed.false))

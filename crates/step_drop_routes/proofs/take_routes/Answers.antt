@@ -9,8 +9,7 @@ use borrow.Author.Rules.{rules}
 use Rattle.step_drop_routes.proofs.take_routes.Goals as goal
 
 pub delete_unwanted-k-requires : goal.delete_unwanted-k-requires
-delete_unwanted-k-requires c =  let both = c.requires in
-    record { some_room = both.0; rows_len = both.1 }
+delete_unwanted-k-requires c =  record { some_room = c.requires.some_room; rows_len = c.requires.rows_len }
 
 pub loses-lost-requires : goal.loses-lost-requires
 loses-lost-requires c =

@@ -32,10 +32,10 @@ returns-then-goes_with c =
     let z = address-end c.requires.some_room c.args.i c.requires.i_bound in
     let q = c.store.ensures ∙ put-row (address_row c.args.s.now c.args.i) _ z.3 refl in
     λ st f.
-    secondary-goes c.args.a.now c.store.new.s c.args.i c.requires.i_bound f q (sym c.Goes-with.ensures ∙ c.if-goes_with.true) (λ t. c.remove_one.ensures st f t)
+    secondary-goes c.args.a.now c.store.new.s c.args.i c.requires.i_bound f q (sym c.goes_with.ensures ∙ c.if-goes_with.true) (λ t. c.remove_one.ensures st f t)
 
 pub returns : goal.returns
 returns c =
     let z = address-end c.requires.some_room c.args.i c.requires.i_bound in
     let q = c.store.ensures ∙ put-row (address_row c.args.s.now c.args.i) _ z.3 refl in
-    λ st f. other-stays c.args.a.now c.store.new.s c.args.i c.requires.i_bound f q (sym c.Goes-with.ensures ∙ c.if-goes_with.false)
+    λ st f. other-stays c.args.a.now c.store.new.s c.args.i c.requires.i_bound f q (sym c.goes_with.ensures ∙ c.if-goes_with.false)
