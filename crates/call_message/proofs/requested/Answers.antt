@@ -27,8 +27,9 @@ pub returns-then-t-eq-RTM_NEWADDR : goal.returns-then-t-eq-RTM_NEWADDR
 returns-then-t-eq-RTM_NEWADDR c =
     let long = covers c.args.message.now c.message_type-t.result c.message_length-end.result 20 c.requires.0
     c.message_type-t.ensures c.message_length-end.ensures c.if-t-eq-RTM_NEWADDR.true in
-    new_addr-answered c.args.up c.args.message.now c.message_type-t.result c.message_length-end.result
-    c.message_type-t.ensures c.message_length-end.ensures _ _ c.if-t-eq-RTM_NEWADDR.true long c.new_addr.ensures
+    let both = new_addr-answered c.args.up c.args.message.now c.message_type-t.result c.message_length-end.result
+    c.message_type-t.ensures c.message_length-end.ensures _ _ c.if-t-eq-RTM_NEWADDR.true long c.new_addr.ensures in
+    record { value = both.0; request_after = both.1 }
 
 pub slice_bounds-del_addr-end : goal.slice_bounds-del_addr-end
 slice_bounds-del_addr-end c =
@@ -54,8 +55,9 @@ pub returns-then-t-eq-RTM_DELADDR : goal.returns-then-t-eq-RTM_DELADDR
 returns-then-t-eq-RTM_DELADDR c =
     let long = covers c.args.message.now c.message_type-t.result c.message_length-end.result 21 c.requires.0
     c.message_type-t.ensures c.message_length-end.ensures c.if-t-eq-RTM_DELADDR.true in
-    del_addr-answered c.args.up c.args.message.now c.message_type-t.result c.message_length-end.result
-    c.message_type-t.ensures c.message_length-end.ensures _ _ c.if-t-eq-RTM_DELADDR.true long c.del_addr.ensures
+    let both = del_addr-answered c.args.up c.args.message.now c.message_type-t.result c.message_length-end.result
+    c.message_type-t.ensures c.message_length-end.ensures _ _ c.if-t-eq-RTM_DELADDR.true long c.del_addr.ensures in
+    record { value = both.0; request_after = both.1 }
 
 pub slice_bounds-new_route-end : goal.slice_bounds-new_route-end
 slice_bounds-new_route-end c =
@@ -77,8 +79,9 @@ pub returns-then-t-eq-RTM_NEWROUTE : goal.returns-then-t-eq-RTM_NEWROUTE
 returns-then-t-eq-RTM_NEWROUTE c =
     let long = covers c.args.message.now c.message_type-t.result c.message_length-end.result 24 c.requires.0
     c.message_type-t.ensures c.message_length-end.ensures c.if-t-eq-RTM_NEWROUTE.true in
-    new_route-answered c.args.up c.args.message.now c.message_type-t.result c.message_length-end.result
-    c.message_type-t.ensures c.message_length-end.ensures _ _ c.if-t-eq-RTM_NEWROUTE.true long c.new_route.ensures
+    let both = new_route-answered c.args.up c.args.message.now c.message_type-t.result c.message_length-end.result
+    c.message_type-t.ensures c.message_length-end.ensures _ _ c.if-t-eq-RTM_NEWROUTE.true long c.new_route.ensures in
+    record { value = both.0; request_after = both.1 }
 
 pub slice_bounds-del_route-end : goal.slice_bounds-del_route-end
 slice_bounds-del_route-end c =
@@ -106,5 +109,6 @@ returns c =
     c.if-t-eq-RTM_NEWADDR.false c.if-t-eq-RTM_DELADDR.false c.if-t-eq-RTM_NEWROUTE.false in
     let long = covers c.args.message.now c.message_type-t.result c.message_length-end.result 25 c.requires.0
     c.message_type-t.ensures c.message_length-end.ensures kind in
-    del_route-answered c.args.up c.args.message.now c.message_type-t.result c.message_length-end.result
-    c.message_type-t.ensures c.message_length-end.ensures _ _ kind long c.del_route.ensures
+    let both = del_route-answered c.args.up c.args.message.now c.message_type-t.result c.message_length-end.result
+    c.message_type-t.ensures c.message_length-end.ensures _ _ kind long c.del_route.ensures in
+    record { value = both.0; request_after = both.1 }

@@ -3,11 +3,12 @@ use native.Mathlib.Omega.{arith}
 use Rattle.step_events.specs.Comes.{not_first}
 use Rattle.step_add_v4_atomic.specs.Copy.{take-room, few-rows, whole_back, whole-left}
 use borrow.Author.Rules.{rules}
+use borrow.Enum.Refused.{opened}
 use Rattle.step_add_v4_atomic.proofs.copy_back.Goals as goal
 
 pub returns-in_default : goal.returns-in_default
 returns-in_default c =
-    record { result_bound = omega arith; comes_whole = λ st u z h l m. whole-left st u c.args.came c.args.ev.now (λ k e. not_first (rw e at c.in_default.in_default-own.keys2)) h l m }
+    record { result_bound = omega arith; comes_whole = λ st u z h l m. whole-left st u c.args.came c.args.ev.now (λ k e. not_first (rw e at (opened c.in_default.in_default-own.keys2))) h l m }
 
 pub store-requires : goal.store-requires
 store-requires c =

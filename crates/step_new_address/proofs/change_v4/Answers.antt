@@ -9,6 +9,7 @@ use Rattle.step_new_address.specs.Change.{old_row, old-fit, old-long, row_room, 
 use Rattle.definition.specs.Preservation.Fit.{length-address}
 use Rattle.step_events.specs.Comes.{not_first}
 use borrow.Author.Rules.{rules}
+use borrow.Enum.Refused.{opened}
 use Rattle.step_new_address.proofs.change_v4.Goals as goal
 
 pub overflow_mul-at : goal.overflow_mul-at
@@ -55,7 +56,7 @@ moved-came-requires c =
 pub returns-in_default : goal.returns-in_default
 returns-in_default c =
     let fit = old-fit c.args.i c.requires.i_bound _ refl c.store.ensures c.requires.represents_fit in
-    record { result_bound = omega (arith, c.moved-came.ensures.result_bound); comes = λ st hs g at. change-other c.args.q.now c.args.clock.0 c.store.new.s c.requires.q_len.1 fit _ refl c.changed_to.ensures c.moved-came.ensures.adds_from (λ k e. not_first (rw e at c.in_default.in_default-own.keys2)) st hs g (get_or st.addresses c.args.i []) (old_row c.args.i c.requires.i_bound _ refl c.store.ensures st hs) }
+    record { result_bound = omega (arith, c.moved-came.ensures.result_bound); comes = λ st hs g at. change-other c.args.q.now c.args.clock.0 c.store.new.s c.requires.q_len.1 fit _ refl c.changed_to.ensures c.moved-came.ensures.adds_from (λ k e. not_first (rw e at (opened c.in_default.in_default-own.keys2))) st hs g (get_or st.addresses c.args.i []) (old_row c.args.i c.requires.i_bound _ refl c.store.ensures st hs) }
 
 pub replace_address-requires : goal.replace_address-requires
 replace_address-requires c =

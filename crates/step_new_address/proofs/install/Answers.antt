@@ -9,6 +9,7 @@ use native.Mathlib.Omega.{arith}
 use lib.ListN.{length}
 use Rattle.step_new_address.specs.Install.{LoopInvariant, sofar-start, sofar-sound, sofar-valid, sofar-length, sofar-next, sofar-other, sofar-end}
 use borrow.Author.Rules.{rules}
+use borrow.Enum.Refused.{opened}
 use Rattle.step_new_address.proofs.install.Goals as goal
 
 pub loop-i-init : goal.loop-i-init
@@ -29,7 +30,7 @@ kernel_add4-came-requires c =
 
 pub returns-in_default : goal.returns-in_default
 returns-in_default c =
-    record { result_bound = omega (arith, c.loop-i-test.true, c.kernel_add4-came.ensures.result_bound); adds_from = λ rows h. sofar-other c.loop-i.invariant.1.1.1.1 c.args.k c.requires.block_len.0 c.loop-i-test.true c.kernel_add4-came.ensures.comes (λ c e. not_first (rw e at c.in_default.in_default-own.keys2)) rows h }
+    record { result_bound = omega (arith, c.loop-i-test.true, c.kernel_add4-came.ensures.result_bound); adds_from = λ rows h. sofar-other c.loop-i.invariant.1.1.1.1 c.args.k c.requires.block_len.0 c.loop-i-test.true c.kernel_add4-came.ensures.comes (λ k e. not_first (rw e at (opened c.in_default.in_default-own.keys2))) rows h }
 
 pub overflow_add-emitted : goal.overflow_add-emitted
 overflow_add-emitted c =

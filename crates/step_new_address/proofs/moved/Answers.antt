@@ -8,6 +8,7 @@ use Rattle.state.specs.Represents.{fit-some}
 use Rattle.step_new_address.specs.Adding.{rest-room, rows_are}
 use Rattle.step_new_address.specs.Change.{moved_none, moved_other, moved-both, route-row, row_fits, row-wide}
 use borrow.Author.Rules.{rules}
+use borrow.Enum.Refused.{opened}
 use Rattle.step_new_address.proofs.moved.Goals as goal
 
 pub reroutes-requires : goal.reroutes-requires
@@ -35,7 +36,7 @@ returns-in_default c =
     record { result_bound = omega (arith, c.kernel_add4-came.ensures.result_bound); adds_from = moved_other c.args.q.now c.args.old.now (sym c.reroutes.ensures ∙ c.if-not-reroutes.false) c.requires.value
           (route-row c.args.old.now c.requires.value (get_or c.args.q.now 13 0) (get_or c.args.old.now 0 0) _ refl c.prefix_route4.ensures)
           (route-row c.args.old.now c.requires.value (get_or c.args.old.now 13 0) (get_or c.args.old.now 0 0) _ refl c.prefix_route4-2.ensures)
-          c.kernel_add4-came.ensures.comes (λ k e. not_first (rw e at c.in_default.in_default-own.keys2)) }
+          c.kernel_add4-came.ensures.comes (λ k e. not_first (rw e at (opened c.in_default.in_default-own.keys2))) }
 
 pub overflow_mul-from : goal.overflow_mul-from
 overflow_mul-from c =
