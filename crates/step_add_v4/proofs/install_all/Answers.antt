@@ -7,6 +7,7 @@ use Rattle.step_new_address.specs.Adding.{rest-room, rows_are}
 use Rattle.step_add_v4.specs.Every.{LoopInvariant, sofar-start, sofar-sound, sofar-few, sofar-length, sofar-count, sofar-next, sofar-other, sofar-end}
 use Rattle.step_events.specs.Comes.{not_first}
 use borrow.Author.Rules.{rules}
+use borrow.Enum.Refused.{opened}
 use Rattle.step_add_v4.proofs.install_all.Goals as goal
 
 pub address_count-n-requires : goal.address_count-n-requires
@@ -31,7 +32,7 @@ install_at-came-requires c =
 
 pub returns-in_default : goal.returns-in_default
 returns-in_default c =
-    record { result_bound = omega (arith, c.install_at-came.ensures.result_bound); adds_from = sofar-other c.loop-i.invariant.1.1.1.1 (omega (arith, c.address_count-n.ensures, c.loop-i-test.true)) c.install_at-came.ensures.adds_from (λ c e. not_first (rw e at c.in_default.in_default-own.keys2)) }
+    record { result_bound = omega (arith, c.install_at-came.ensures.result_bound); adds_from = sofar-other c.loop-i.invariant.1.1.1.1 (omega (arith, c.address_count-n.ensures, c.loop-i-test.true)) c.install_at-came.ensures.adds_from (λ k e. not_first (rw e at (opened c.in_default.in_default-own.keys2))) }
 
 pub overflow_add-emitted : goal.overflow_add-emitted
 overflow_add-emitted c =

@@ -7,6 +7,7 @@ use Rattle.step_events.specs.Comes.{not_first}
 use Rattle.step_add_v4.specs.Added.{step-few, added-step}
 use Rattle.step_add_v4.specs.Every.{up-other, up-sound, up-length, up_done}
 use borrow.Author.Rules.{rules}
+use borrow.Enum.Refused.{opened}
 use Rattle.step_add_v4.proofs.up.Goals as goal
 
 pub add_v4-requires : goal.add_v4-requires
@@ -15,7 +16,7 @@ add_v4-requires c =
 
 pub returns-in_default : goal.returns-in_default
 returns-in_default c =
-    record { result_bound = omega (arith, step-few 5 c.add_v4.result c.step_of-first.result c.step_of-first.ensures c.add_v4.ensures.result_bound); adds_from = up-other c.args.clock.0 (λ st h g. added-step (add_v4 loopback c.args.clock.0 st) c.add_v4.result c.step_of-first.result c.step_of-first.ensures (c.add_v4.ensures.comes st h g)) (λ k e. not_first (rw e at c.in_default.in_default-own.keys2)) }
+    record { result_bound = omega (arith, step-few 5 c.add_v4.result c.step_of-first.result c.step_of-first.ensures c.add_v4.ensures.result_bound); adds_from = up-other c.args.clock.0 (λ st h g. added-step (add_v4 loopback c.args.clock.0 st) c.add_v4.result c.step_of-first.result c.step_of-first.ensures (c.add_v4.ensures.comes st h g)) (λ k e. not_first (rw e at (opened c.in_default.in_default-own.keys2))) }
 
 pub overflow_mul-from : goal.overflow_mul-from
 overflow_mul-from c =
