@@ -120,7 +120,7 @@ pub fn primary_of(addresses: &[V4], a: V4) -> u32
     primary(best, a)
 }
 
-// The first n of 64 records, lent: whoever calls this needs no walk by hand.
+// The first n of 64 records, lent.
 pub fn lend_select4(
     rows: [V4; ADDRESS_LIMIT],
     n: usize,

@@ -1,2 +1,0 @@
-pub mod Addresses
-pub mod Lent
