@@ -8,7 +8,7 @@ use Rattle.lists.specs.Rows.{sized, length-flat, length-put, chop-flat}
 use Rattle.definition.specs.Words.{base_size, state_size, decode, well_formed, state_of, formed}
 use Rattle.definition.specs.Reference.Source.{dump4}
 use Rattle.definition.specs.Preservation.Encode.{good-decode}
-use Rattle.definition.specs.Preservation.Reading.{dump4-listing}
+use Rattle.definition.proofs.Preservation.Reading.{dump4-listing}
 use Rattle.endian.specs.Endian.{words_of}
 use Rattle.text.specs.Print.{render, refused_line}
 use Rattle.app_show.specs.Show.{shown_words, shown}

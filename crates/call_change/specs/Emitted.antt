@@ -13,7 +13,7 @@ use Rattle.definition.specs.Call as Call
 use Rattle.definition.specs.Call.{Reply, refusal, written}
 use Rattle.definition.specs.Step.{Result, Action, changes, replies, lists, alters, semantics, outcome, step, up_call, down_call, add_v4_call, del_v4_call, expire_call, add_route4_call, del_route4_call}
 use Rattle.definition.specs.Reference.Addresses.{Outcome}
-use Rattle.definition.specs.Preservation.Step.{acted, perform-case, emitted-bound}
+use Rattle.definition.proofs.Preservation.Step.{acted, perform-case, emitted-bound}
 use Rattle.call_read.specs.Answer.{Numbers, numbers}
 use Rattle.call_change.specs.Answer.{done_by, done_of}
 use Rattle.call_change.specs.declared.Done.{Done}

@@ -10,7 +10,7 @@ use Rattle.definition.specs.Words.{base_size, state_size, encode, base, state_of
 use Rattle.definition.specs.Call.{numbers}
 use Rattle.definition.specs.Step.{Result, refuses, Checks, Semantics, checked, answered, result, roomy, outcome, perform, request_is, events_fit, event_room}
 use Rattle.definition.specs.Reference.Addresses.{Outcome, goes, refused}
-use Rattle.definition.specs.Preservation.Step.{acted}
+use Rattle.definition.proofs.Preservation.Step.{acted}
 use Rattle.state.specs.Represents.{RepresentsFit}
 use Rattle.call_read.specs.Laws.{Passed, call-refused, call-passed}
 use Rattle.call_change.specs.declared.Done.{Done}

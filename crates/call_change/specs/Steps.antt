@@ -10,9 +10,9 @@ use Rattle.definition.specs.Words.{within, base_size, base, state_of}
 use Rattle.definition.specs.Step.{Checks, outcome, roomy, event_room}
 use Rattle.definition.specs.Reference.Addresses.{Outcome, goes, refused, down}
 use Rattle.definition.specs.Preservation.Shrinking.{potential, live}
-use Rattle.definition.specs.Preservation.Peaks.{down-roomy}
+use Rattle.definition.proofs.Preservation.Peaks.{down-roomy}
 use Rattle.definition.specs.Preservation.Encode.{Admissible}
-use Rattle.definition.specs.Preservation.Numbers.{Numbered}
+use Rattle.definition.proofs.Preservation.Numbers.{Numbered}
 use Rattle.state.specs.Represents.{Represents}
 use Rattle.step_events.specs.EmitsWithin.{RoomFor, EmitsWithin}
 use Rattle.step_events.specs.Comes.{Comes, ComesWhole, made}

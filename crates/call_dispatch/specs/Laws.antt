@@ -10,9 +10,9 @@ use Rattle.lists.specs.Put.{put-no-rows}
 use Rattle.layout.specs.Address.{fit_address}
 use Rattle.definition.specs.Call.{Call, Reply, Numbers, numbers}
 use Rattle.definition.specs.Step.{Result, Buffer, unlent, for_events, for_listing, for_row, alters, semantics, step, del_route4_call, left_call}
-use Rattle.definition.specs.Preservation.Step.{perform-reads}
+use Rattle.definition.proofs.Preservation.Step.{perform-reads}
 use Rattle.definition.specs.Noninterference.Public.{Lent, Made, many}
-use Rattle.definition.specs.Noninterference.ReadBack.{shaped}
+use Rattle.definition.proofs.Noninterference.ReadBack.{shaped}
 use Rattle.call_change.specs.Answer.{Answers, done_by}
 use Rattle.call_change.specs.Emitted.{emitted, small}
 use Rattle.call_change.specs.declared.Done.{Done}

@@ -19,7 +19,7 @@ use Rattle.definition.specs.Words.{state_size, formed}
 use Rattle.definition.specs.Call as Call
 use Rattle.definition.specs.Call.{refusal}
 use Rattle.definition.specs.Step.{Result, Semantics, semantics, perform, step, Checks, checks, checked, refuses, unless, events_fit, request_is, add_v4_call, del_v4_call}
-use Rattle.definition.specs.Preservation.Step.{perform-case}
+use Rattle.definition.proofs.Preservation.Step.{perform-case}
 use Rattle.call_read.specs.Laws.{call-refused}
 use Rattle.call_change.specs.Answer.{Answers}
 use Rattle.call_change.specs.Emitted.{EmittedRows, add_v4-emitted, del_v4-emitted}

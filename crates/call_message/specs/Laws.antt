@@ -12,7 +12,8 @@ use Rattle.lists.specs.At.{flat-one}
 use Rattle.lists.specs.Rows.{length-pad}
 use Rattle.lists.specs.Bools.{fails, cond-case}
 use Rattle.netlink.specs.Codes.{rtm_new_addr, rtm_del_addr, rtm_new_route, rtm_del_route}
-use Rattle.netlink.specs.Exactly.{Shaped, four-types}
+use Rattle.netlink.specs.Exactly.{Shaped}
+use Rattle.netlink.proofs.Exactly.{four-types}
 use Rattle.netlink.specs.Attributes.{Attribute, attributes}
 use Rattle.layout.specs.Request.{del_route4_size}
 use Rattle.netlink.specs.Codes.{rtm_new_addr, rtm_del_addr, rtm_new_route}

@@ -15,9 +15,9 @@ use Rattle.definition.specs.Call.{Reply, refusal, valued, written, optionally, f
 use Rattle.definition.specs.Step.{Result, refuses, Checks, Semantics, checked, reading, perform, finding}
 use Rattle.definition.specs.Reference.Lookup as Lookup
 use Rattle.definition.specs.Reference.Lookup.{lookup_in}
-use Rattle.definition.specs.Preservation.Numbers.{OfFound, lookup-number}
+use Rattle.definition.proofs.Preservation.Numbers.{OfFound, lookup-number}
 use Rattle.definition.specs.Preservation.Encode.{Admissible}
-use Rattle.definition.specs.Preservation.Step.{base-long, good-held, checked-held, checked-passes, acted, perform-case}
+use Rattle.definition.proofs.Preservation.Step.{base-long, good-held, checked-held, checked-passes, acted, perform-case}
 use Rattle.rows_lookup.specs.declared.Looked as Looked
 use Rattle.rows_lookup.specs.Answer.{found_by as rows-lookup·found_by}
 use Rattle.rows_source.specs.declared.Selected as Selected

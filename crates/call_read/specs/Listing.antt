@@ -8,7 +8,7 @@ use Rattle.definition.specs.Words.{state_of}
 use Rattle.definition.specs.Call.{Reply, refusal, written}
 use Rattle.definition.specs.Step.{listing, dump4_call}
 use Rattle.definition.specs.Reference.Source.{dump4}
-use Rattle.definition.specs.Preservation.Reading.{dump4-listing}
+use Rattle.definition.proofs.Preservation.Reading.{dump4-listing}
 use Rattle.call_read.specs.Answer.{Numbers, numbers, listed_by, listed_of}
 use Rattle.call_read.specs.declared.Listed.{Listed}
 use Rattle.call_read.specs.declared.Listed.TheVariants.{Rows}

@@ -10,11 +10,5 @@ pub mod Removal
 pub mod Requests
 pub mod Growing
 pub mod Shrinking
-pub mod Numbers
 pub mod Emitted
 pub mod Refused
-pub mod Reading
-pub mod Shape
-pub mod Change
-pub mod Step
-pub mod Peaks

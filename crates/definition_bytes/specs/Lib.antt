@@ -1,4 +1,2 @@
 pub mod Bytes
-pub mod AsWords
-pub mod Theorem
 pub mod Laws

@@ -15,10 +15,10 @@ use Rattle.endian.specs.Laws.{Below, length-bytes_of, bytes-words, words-whole}
 use Rattle.definition.specs.Words.{state_size}
 use Rattle.definition.specs.Call.{Call, Numbers, numbers, refusal}
 use Rattle.definition.specs.Step.{Result, Buffer, for_events, alters, semantics, step, event_room}
-use Rattle.definition.specs.Laws.Refusals.{unfit-stays, others_leave}
-use Rattle.definition.specs.Preservation.Shape.{Shaped}
+use Rattle.definition.proofs.Laws.Refusals.{unfit-stays, others_leave}
+use Rattle.definition.proofs.Preservation.Shape.{Shaped}
 use Rattle.definition.specs.Noninterference.Public.{Lent}
-use Rattle.definition.specs.Noninterference.ReadBack.{shaped}
+use Rattle.definition.proofs.Noninterference.ReadBack.{shaped}
 use Rattle.definition_bytes.specs.Bytes.{state_fits, with, suffices, inner, Made}
 use Rattle.call_reply.specs.declared.Reply.{Reply}
 use Rattle.call_reply.specs.Answer.{numbers_in}

@@ -10,7 +10,7 @@ use Rattle.endian.specs.Endian.{words_of, bytes_of}
 use Rattle.endian.specs.Laws.{Below, length-words_of, bytes-none}
 use Rattle.definition.specs.Call.{Call, Reply, Numbers, numbers, refusal}
 use Rattle.definition.specs.Step.{Buffer, alters, semantics, step}
-use Rattle.definition.specs.Preservation.Shape.{Shaped}
+use Rattle.definition.proofs.Preservation.Shape.{Shaped}
 use Rattle.definition.specs.Noninterference.Public as Words
 use Rattle.definition.specs.Noninterference.Public.{Lent, room_of, width, many}
 use Rattle.definition_bytes.specs.Bytes.{on_bytes, state_on, suffices, inner, Made}

@@ -11,7 +11,7 @@ use Rattle.definition.specs.Step.{Result, roomy, outcome, semantics, step}
 use Rattle.definition.specs.Reference.Addresses.{goes}
 use Rattle.definition.specs.Reference.Removal.{expire}
 use Rattle.definition.specs.Laws.Expire.{expire-quiet}
-use Rattle.definition.specs.Preservation.Step.{perform-case, checked-held, leaves-decode}
+use Rattle.definition.proofs.Preservation.Step.{perform-case, checked-held, leaves-decode}
 
 abbrev Quiet : List ℕ → Result → Type 0
 Quiet w r = r.reply.value ≡ 0 → r.words ≡ w

@@ -13,10 +13,10 @@ use Rattle.endian.specs.Laws.{Below, words-below, bytes-none}
 use Rattle.definition.specs.Words.{state_size}
 use Rattle.definition.specs.Call.{Call, Reply, Numbers, numbers, refusal}
 use Rattle.definition.specs.Step.{Buffer, unlent, for_listing, for_row, alters, semantics, step, listing_room}
-use Rattle.definition.specs.Preservation.Shape.{Shaped}
+use Rattle.definition.proofs.Preservation.Shape.{Shaped}
 use Rattle.definition.specs.Noninterference.Public as Words
 use Rattle.definition.specs.Noninterference.Public.{Lent, width, many}
-use Rattle.definition.specs.Noninterference.ReadBack.{shaped}
+use Rattle.definition.proofs.Noninterference.ReadBack.{shaped}
 use Rattle.definition_bytes.specs.Bytes.{state_fits, row_words, with, suffices, inner, Made}
 use Rattle.call_dispatch.specs.Numbered.{find_at, ask_at}
 use Rattle.call_dispatch.specs.Laws.{Reads, find_is, ask_is}

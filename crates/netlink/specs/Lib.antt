@@ -3,5 +3,4 @@ pub mod Attributes
 pub mod Reader
 pub mod Laws
 pub mod Exactly
-pub mod Order
 pub mod Cases

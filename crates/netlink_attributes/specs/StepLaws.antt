@@ -9,7 +9,7 @@ use Rattle.netlink_attributes.specs.declared.First as F
 use Rattle.netlink_attributes.specs.declared.First.TheVariants as Is
 use Rattle.netlink.specs.Attributes.{Attribute, Parsed, u16, padded, whole, first, more, parsed, attributes, right}
 use Rattle.netlink.specs.Laws.{four, within, is_whole, parsed-more, parsed-end}
-use Rattle.netlink.specs.Order.{and_swap}
+use Rattle.netlink.proofs.Order.{and_swap}
 use Rattle.netlink.specs.Reader.{nested_right}
 use Rattle.netlink_attributes.specs.Steps.{first_of, right_nested}
 

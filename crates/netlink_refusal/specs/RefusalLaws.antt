@@ -11,7 +11,7 @@ use borrow.Author.Tests.{le-leb, eq-eqb, ne_eqb}
 use Rattle.lists.specs.Lists.{all}
 use Rattle.lists.specs.Bools.{fails}
 use Rattle.netlink.specs.Attributes.{Attribute, u16, right, attributes, last}
-use Rattle.netlink.specs.Exactly.{Headed, headed-is}
+use Rattle.netlink.proofs.Exactly.{Headed, headed-is}
 use Rattle.netlink.specs.Reader.{u32, is_address, is_route, attributes_at, headed, body, nested_right, lengths, shape_refusal}
 use Rattle.netlink.specs.Reader.{message_length, message_type, sized_in, given, sizes, refusal}
 use Rattle.netlink.specs.Codes.{rtm_new_addr, ifa_local}

@@ -7,7 +7,7 @@ use Rattle.lists.specs.Lists.{put, flat}
 use Rattle.lists.specs.Put.{put_whole}
 use Rattle.definition.specs.State.{State, Out}
 use Rattle.definition.specs.Reference.Addresses.{Outcome, goes, refused, out_of}
-use Rattle.definition.specs.Laws.Refusals.{Leaves}
+use Rattle.definition.specs.Preservation.Refused.{Leaves}
 use Rattle.state.specs.Represents.{Represents, RepresentsFit}
 use Rattle.step_events.specs.Emits.{Emits, does-none}
 use Rattle.step_events.specs.Comes.{Comes, ComesWhole, NoRows, rows_of, comes-rows, comes-roomy, full-past, other-past, refused_full, whole-made, whole-full}

@@ -23,8 +23,8 @@ use Rattle.definition.specs.Reference.Insert as Insert
 use Rattle.definition.specs.Reference.Insert.{add_table, list_table, create4, insert4, inserted, kernel_add4, kernel_del4}
 use Rattle.definition.specs.Reference.Addresses.{Outcome, out_of, only, kernel_route, local_route, prefix_route, up_routes, candidates, primary_of, install, place4, new_address, changed_to, reroutes, moved, change_v4, added_over, add_v4, same_address, loopback, up, names_broadcast, own_network}
 use Rattle.definition.specs.Preservation.Growing.{Grows, insert_grows, no-replacing, length-place4}
-use Rattle.definition.specs.Preservation.Peaks.{kernel_add4_rises, new_address_rises, up_rises, rises_within, kernel_del4-under}
-use Rattle.definition.specs.Preservation.Step.{covered}
+use Rattle.definition.proofs.Preservation.Peaks.{kernel_add4_rises, new_address_rises, up_rises, rises_within, kernel_del4-under}
+use Rattle.definition.proofs.Preservation.Step.{covered}
 use Rattle.definition.specs.Step.{roomy}
 use Rattle.step_events.specs.Comes.{within-also}
 use Rattle.step_add_v4.specs.Every.{iteration, every}

@@ -5,7 +5,7 @@ ghost use Rattle.std.specs.Prelude.{◌≡◌, true, List, ℕ, ◌+◌, ◌*◌
 ghost use Rattle.layout.specs.Request.{fit_add_v4};
 ghost use Rattle.definition.specs.State.{State};
 ghost use Rattle.definition.specs.Words.{fit_state, route_count, base_size};
-ghost use Rattle.definition.specs.Laws.Refusals.{Leaves};
+ghost use Rattle.definition.specs.Preservation.Refused.{Leaves};
 ghost use Rattle.definition.specs.Reference.Addresses.{Outcome, goes, add_v4, up};
 ghost use Rattle.state.specs.Represents.{Represents, RepresentsFit};
 ghost use Rattle.step_events.specs.Comes.{Comes, ComesWhole, rows_of};

@@ -15,8 +15,8 @@ use Rattle.definition.specs.Words.{address_count}
 use Rattle.definition.specs.Reference.Addresses.{covers}
 use Rattle.definition.specs.Reference.Removal.{deletes, del_v4, remove_v4}
 use Rattle.definition.specs.Preservation.Shrinking.{potential}
-use Rattle.definition.specs.Preservation.Peaks.{remove_v4-under}
-use Rattle.definition.specs.Preservation.Step.{covered}
+use Rattle.definition.proofs.Preservation.Peaks.{remove_v4-under}
+use Rattle.definition.proofs.Preservation.Step.{covered}
 use Rattle.state.specs.Represents.{count-addresses}
 use Rattle.step_events.specs.EmitsWithin.{RoomFor, EmitsWithin, step-does}
 use Rattle.step_events.specs.Comes.{ComesWhole, holds-within, goes-made, refused-made, whole-made}

@@ -1,2 +1,1 @@
 pub mod Iteration
-pub mod Loop

@@ -18,7 +18,7 @@ use Rattle.layout.specs.Route.{before, alike}
 use Rattle.definition.specs.Words.{ordered}
 use Rattle.definition.specs.Reference.Insert.{ahead, behind}
 use Rattle.definition.specs.Preservation.Order.{before-never, alike-before, before-alike, alike-sym, alike_refl, level-alike}
-use Rattle.definition.specs.Noninterference.Struck.{before-between, split-ahead, split-behind}
+use Rattle.definition.proofs.Noninterference.Struck.{before-between, split-ahead, split-behind}
 
 -- the first i rows looked at: how many are before the new one, none after it, whether it is among them
 pub record LoopInvariant (new : Row) (l : List Row) (i start : ℕ) (there : Bool) : Type 0 where

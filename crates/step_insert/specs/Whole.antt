@@ -22,7 +22,7 @@ use Rattle.lists.specs.Pass.{part, laid-rows}
 use Rattle.layout.specs.Route.{before, alike, table, dst, len, fit_route}
 use Rattle.definition.specs.Words.{ordered}
 use Rattle.definition.specs.Preservation.Order.{level-alike}
-use Rattle.definition.specs.Noninterference.Struck.{before-between}
+use Rattle.definition.proofs.Noninterference.Struck.{before-between}
 use Rattle.step_insert.specs.Search.{key, in_front, in_run, leading, run_start, run_end}
 use Rattle.step_insert.specs.Pass.{part-row}
 use Rattle.step_insert.specs.Find.{Found}

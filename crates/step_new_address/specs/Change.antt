@@ -24,8 +24,8 @@ use Rattle.definition.specs.Preservation.Fit.{length-address, length-route, fiel
 use Rattle.definition.specs.Preservation.Rows.{subnet_fit, changed_to-fit}
 use Rattle.definition.specs.Preservation.Addresses.{moved_keeps}
 use Rattle.definition.specs.Preservation.Shrinking.{kernel_del4_away}
-use Rattle.definition.specs.Preservation.Peaks.{kernel_del4-under}
-use Rattle.definition.specs.Preservation.Step.{covered}
+use Rattle.definition.proofs.Preservation.Peaks.{kernel_del4-under}
+use Rattle.definition.proofs.Preservation.Step.{covered}
 use Rattle.row_candidates.specs.Rows.{subnet_route}
 use Rattle.state.specs.Represents.{Represents, count-addresses, RepresentsFit}
 use Rattle.state.specs.Change.{address-at}

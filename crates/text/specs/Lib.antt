@@ -1,5 +1,4 @@
 pub mod Print
 pub mod Digits
 pub mod Wrote
-pub mod Pieces
 pub mod Lines

@@ -7,7 +7,7 @@ use native.Mathlib.Nat.{zero-add}
 use native.Mathlib.Omega.{arith}
 use lib.ListN.{length}
 use Rattle.lists.specs.Lists.{put}
-use Rattle.definition.specs.Preservation.Step.{base-long}
+use Rattle.definition.proofs.Preservation.Step.{base-long}
 use Rattle.app_show.specs.Laws.{shown-well, shown_ill}
 use borrow.Author.Rules.{rules}
 use Rattle.app_show.proofs.show_words.Goals as goal

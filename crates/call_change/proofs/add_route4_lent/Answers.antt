@@ -7,9 +7,9 @@ use Rattle.definition.specs.Call as Call
 use Rattle.definition.specs.Words.{state_of}
 use Rattle.definition.specs.Step.{unless, events_fit, semantics, add_route4_call}
 use Rattle.definition.specs.Reference.Routes.{add_route4}
-use Rattle.definition.specs.Preservation.Change.{unless-passed}
+use Rattle.definition.proofs.Preservation.Change.{unless-passed}
 use Rattle.definition.specs.Reference.Insert.{insert4}
-use Rattle.definition.specs.Preservation.Numbers.{insert_number, added-number}
+use Rattle.definition.proofs.Preservation.Numbers.{insert_number, added-number}
 use Rattle.call_read.specs.Laws.{passed, lent}
 use Rattle.call_change.specs.Laws.{request-checked, sizes, sound, answers-refused, answers-passed}
 use Rattle.call_change.specs.Steps.{whole-answers}

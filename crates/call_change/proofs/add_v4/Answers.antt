@@ -8,8 +8,8 @@ use Rattle.definition.specs.Call as Call
 use Rattle.definition.specs.Words.{state_of}
 use Rattle.definition.specs.Step.{add_v4_refusal, events_fit, semantics, add_v4_call}
 use Rattle.definition.specs.Reference.Addresses.{add_v4}
-use Rattle.definition.specs.Preservation.Change.{add_v4-refusal-passed}
-use Rattle.definition.specs.Preservation.Numbers.{add_v4-number}
+use Rattle.definition.proofs.Preservation.Change.{add_v4-refusal-passed}
+use Rattle.definition.proofs.Preservation.Numbers.{add_v4-number}
 use Rattle.call_read.specs.Laws.{passed, lent}
 use Rattle.call_change.specs.Laws.{request-checked, sizes, sound, answers-refused, answers-passed}
 use Rattle.call_change.specs.Steps.{whole-answers}

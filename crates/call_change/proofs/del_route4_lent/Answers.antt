@@ -7,8 +7,8 @@ use Rattle.definition.specs.Call as Call
 use Rattle.definition.specs.Words.{state_of}
 use Rattle.definition.specs.Step.{unless, events_fit, semantics, del_route4_call}
 use Rattle.definition.specs.Reference.Routes.{del_route4_request}
-use Rattle.definition.specs.Preservation.Change.{unless-passed}
-use Rattle.definition.specs.Preservation.Numbers.{del_route4-number}
+use Rattle.definition.proofs.Preservation.Change.{unless-passed}
+use Rattle.definition.proofs.Preservation.Numbers.{del_route4-number}
 use Rattle.state.specs.Represents.{fit-some}
 use Rattle.call_read.specs.Laws.{passed, lent}
 use Rattle.call_change.specs.Laws.{request-checked, sizes, sound, answers-refused, answers-passed}

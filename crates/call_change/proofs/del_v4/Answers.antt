@@ -8,7 +8,7 @@ use Rattle.definition.specs.Call as Call
 use Rattle.definition.specs.Words.{state_of}
 use Rattle.definition.specs.Step.{unless, events_fit, semantics, del_v4_call}
 use Rattle.definition.specs.Reference.Removal.{del_v4}
-use Rattle.definition.specs.Preservation.Numbers.{del_v4-number}
+use Rattle.definition.proofs.Preservation.Numbers.{del_v4-number}
 use Rattle.call_read.specs.Laws.{passed, lent}
 use Rattle.call_change.specs.Laws.{request-checked, sizes, answers-refused, answers-passed}
 use Rattle.call_change.specs.Steps.{fitting, whole-answers}

@@ -9,7 +9,7 @@ use Rattle.definition.specs.Call as Call
 use Rattle.definition.specs.Words.{state_of}
 use Rattle.definition.specs.Step.{event_room, semantics, expire_call}
 use Rattle.definition.specs.Reference.Removal.{expire}
-use Rattle.definition.specs.Preservation.Peaks.{expire-roomy}
+use Rattle.definition.proofs.Preservation.Peaks.{expire-roomy}
 use Rattle.call_read.specs.Laws.{checked_as, passed, lent}
 use Rattle.call_change.specs.Laws.{answers-refused, answers-passed}
 use Rattle.call_change.specs.Steps.{fitting, within-answers}

@@ -1,7 +1,7 @@
 use native.Mathlib.Omega.{arith}
 use mathlib.Core.Path.{sym, ◌∙◌}
 use lib.ListN.{length}
-use Rattle.netlink.specs.Exactly.{unrefused}
+use Rattle.netlink.proofs.Exactly.{unrefused}
 use Rattle.call_message.specs.Laws.{no_room, not-read, is_read}
 use borrow.Author.Rules.{rules}
 use Rattle.call_message.proofs.read.Goals as goal

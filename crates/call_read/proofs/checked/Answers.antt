@@ -7,7 +7,7 @@ use lib.ListN.{length}
 use borrow.Author.Tests.{not-true, not-false, eqb-true}
 use Rattle.lists.specs.Bools.{and_left}
 use Rattle.definition.specs.Words.{state_size}
-use Rattle.definition.specs.Preservation.Step.{base-long}
+use Rattle.definition.proofs.Preservation.Step.{base-long}
 use Rattle.call_read.specs.Laws.{unfit-lengths, unfit-state, fit_so_far}
 use Rattle.call_read.proofs.checked.Goals as goal
 

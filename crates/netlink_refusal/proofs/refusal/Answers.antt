@@ -2,7 +2,8 @@ use borrow.Author.Rules.{rules}
 use mathlib.Core.Path.{◌≡◌, sym, ap, ◌∙◌}
 use native.Mathlib.Omega.{arith}
 use Rattle.netlink.specs.Reader.{message_type, attributes_at}
-use Rattle.netlink.specs.Exactly.{Shaped, shaped}
+use Rattle.netlink.specs.Exactly.{Shaped}
+use Rattle.netlink.proofs.Exactly.{shaped}
 use Rattle.netlink_refusal.specs.RefusalLaws.{misshapen, by_size}
 use Rattle.netlink_refusal.proofs.refusal.Goals as goal
 

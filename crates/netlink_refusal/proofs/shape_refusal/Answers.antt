@@ -1,7 +1,7 @@
 use borrow.Author.Rules.{rules}
 use mathlib.Core.Path.{sym, ap, ◌∙◌}
 use native.Mathlib.Omega.{arith}
-use Rattle.netlink.specs.Exactly.{Headed}
+use Rattle.netlink.proofs.Exactly.{Headed}
 use Rattle.netlink.specs.Reader.{is_address, is_route}
 use Rattle.netlink_refusal.specs.Shape.{address_refusal, route_refusal}
 use Rattle.netlink_refusal.specs.RefusalLaws.{unheaded, of_address, of_route, of_other}

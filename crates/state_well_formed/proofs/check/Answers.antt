@@ -4,7 +4,7 @@ use mathlib.Core.Path.{sym, ◌∙◌}
 use lib.ListN.{length}
 use borrow.Author.Tests.{eq-eqb, ne_eqb}
 use Rattle.definition.specs.Words.{state_size}
-use Rattle.definition.specs.Preservation.Step.{base-long}
+use Rattle.definition.proofs.Preservation.Step.{base-long}
 use borrow.Author.Rules.{rules}
 use Rattle.state_well_formed.proofs.check.Goals as goal
 

@@ -1,7 +1,7 @@
 use mathlib.Core.Path.{sym}
 use native.Mathlib.Omega.{arith}
 use Rattle.definition.specs.Reference.Addresses.{add_v4}
-use Rattle.definition.specs.Laws.Refusals.{add_v4-leaves}
+use Rattle.definition.proofs.Laws.Refusals.{add_v4-leaves}
 use Rattle.state.specs.Represents.{sound-long}
 use Rattle.step_add_v4_atomic.specs.Copy.{copy_sound, copy_holds}
 use borrow.Author.Rules.{rules}

@@ -1,4 +1,4 @@
-use Rattle.step_expire.specs.Loop.{due-is}
+use Rattle.step_expire.proofs.Loop.{due-is}
 use Rattle.life.specs.declared.Life.{Life}
 use Rattle.life.specs.Life.{reached}
 use mathlib.Core.Path.{ap, ◌∙◌}

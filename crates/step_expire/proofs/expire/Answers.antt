@@ -1,4 +1,4 @@
-use Rattle.step_expire.specs.Loop.{Expiring, next-less, expiring_start, expiring_facts, expiring_next, expiring_end, expiring_fewer}
+use Rattle.step_expire.proofs.Loop.{Expiring, next-less, expiring_start, expiring_facts, expiring_next, expiring_end, expiring_fewer}
 use Rattle.step_drop_routes.specs.Iterations.{step-facts}
 use Rattle.step_drop_prefsrc.specs.Delete.{ready_valid}
 use Rattle.step_events.specs.Iterations.{going_ready, going-fits}

@@ -1,4 +1,4 @@
-use Rattle.step_expire.specs.Loop.{some-room, iteration-there, iteration-due, iteration-stays, iteration-deprecates}
+use Rattle.step_expire.proofs.Loop.{some-room, iteration-there, iteration-due, iteration-stays, iteration-deprecates}
 use Rattle.step_remove_v4.specs.One.{address_row, address-end, put-row, row-present}
 use Rattle.step_drop_prefsrc.specs.Delete.{ready_valid}
 use Rattle.layout.specs.Address.{fit_address}

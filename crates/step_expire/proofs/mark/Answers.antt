@@ -1,4 +1,4 @@
-use Rattle.step_expire.specs.Loop.{marked_row, marked-fits}
+use Rattle.step_expire.proofs.Loop.{marked_row, marked-fits}
 use mathlib.Core.Path.{subst}
 use Rattle.state.specs.Represents.{Represents}
 use Rattle.definition.specs.Preservation.Fit.{length-address}

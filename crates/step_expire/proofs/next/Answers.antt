@@ -1,4 +1,4 @@
-use Rattle.step_expire.specs.Loop.{next-again, next-on}
+use Rattle.step_expire.proofs.Loop.{next-again, next-on}
 use borrow.Author.Rules.{rules}
 use Rattle.step_expire.proofs.next.Goals as goal
 

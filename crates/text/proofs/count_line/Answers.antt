@@ -2,8 +2,8 @@
 -- Assumes nothing.
 use Prim.Native.Nat.{◌-◌}
 use native.Mathlib.Omega.{arith}
-use Rattle.text.specs.Digits.{count_word}
-use Rattle.text.specs.Pieces.{length-count, count-wrote}
+use Rattle.text.proofs.Digits.{count_word}
+use Rattle.text.proofs.Pieces.{length-count, count-wrote}
 use borrow.Author.Rules.{rules}
 use Rattle.text.proofs.count_line.Goals as goal
 

@@ -1,8 +1,8 @@
 -- `text::destination` meets its contract.
 -- Assumes nothing.
 use native.Mathlib.Omega.{arith}
-use Rattle.text.specs.Digits.{count_word}
-use Rattle.text.specs.Pieces.{length-dotted, bracketed-wrote}
+use Rattle.text.proofs.Digits.{count_word}
+use Rattle.text.proofs.Pieces.{length-dotted, bracketed-wrote}
 use borrow.Author.Rules.{rules}
 use Rattle.text.proofs.destination.Goals as goal
 

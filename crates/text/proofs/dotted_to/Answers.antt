@@ -7,8 +7,8 @@ use native.Mathlib.Nat.{add_assoc}
 use native.Mathlib.Omega.{arith}
 use lib.ListN.{length, length-append}
 use Rattle.text.specs.Print.{dotted}
-use Rattle.text.specs.Digits.{count-byte}
-use Rattle.text.specs.Pieces.{dotted-wrote}
+use Rattle.text.proofs.Digits.{count-byte}
+use Rattle.text.proofs.Pieces.{dotted-wrote}
 use borrow.Author.Rules.{rules}
 use Rattle.text.proofs.dotted_to.Goals as goal
 

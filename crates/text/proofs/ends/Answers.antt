@@ -1,7 +1,7 @@
 -- `text::ends` meets its contract.
 -- Assumes nothing.
 use native.Mathlib.Omega.{arith}
-use Rattle.text.specs.Pieces.{ending-wrote}
+use Rattle.text.proofs.Pieces.{ending-wrote}
 use borrow.Author.Rules.{rules}
 use Rattle.text.proofs.ends.Goals as goal
 

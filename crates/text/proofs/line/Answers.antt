@@ -3,8 +3,8 @@
 use Prim.Native.Nat.{ℕ, ◌-◌, ◌<◌}
 use native.Mathlib.Omega.{arith}
 use lib.ListN.{get_or}
-use Rattle.text.specs.Digits.{count_word}
-use Rattle.text.specs.Pieces.{length-dotted, length-line, line_wrote}
+use Rattle.text.proofs.Digits.{count_word}
+use Rattle.text.proofs.Pieces.{length-dotted, length-line, line_wrote}
 use borrow.Author.Rules.{rules}
 use Rattle.text.proofs.line.Goals as goal
 

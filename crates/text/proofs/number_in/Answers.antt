@@ -1,7 +1,7 @@
 -- `text::number_in` meets its contract.
 -- Assumes nothing.
 use native.Mathlib.Omega.{arith}
-use Rattle.text.specs.Pieces.{between-wrote}
+use Rattle.text.proofs.Pieces.{between-wrote}
 use borrow.Author.Rules.{rules}
 use Rattle.text.proofs.number_in.Goals as goal
 

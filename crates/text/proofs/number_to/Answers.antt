@@ -1,7 +1,7 @@
 -- `text::number_to` meets its contract: a character behind the digits.
 -- Assumes nothing.
 use native.Mathlib.Omega.{arith}
-use Rattle.text.specs.Pieces.{number-then}
+use Rattle.text.proofs.Pieces.{number-then}
 use borrow.Author.Rules.{rules}
 use Rattle.text.proofs.number_to.Goals as goal
 

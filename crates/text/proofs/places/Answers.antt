@@ -5,7 +5,7 @@ use mathlib.Core.Path.{◌≡◌}
 use native.Mathlib.Omega.{arith}
 use lib.ListN.{length}
 use Rattle.text.specs.Print.{digits}
-use Rattle.text.specs.Digits.{count_word, count-one, count-more}
+use Rattle.text.proofs.Digits.{count_word, count-one, count-more}
 use borrow.Author.Rules.{rules}
 use Rattle.text.proofs.places.Goals as goal
 

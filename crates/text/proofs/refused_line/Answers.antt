@@ -2,8 +2,8 @@
 -- Assumes nothing.
 use Prim.Native.Nat.{◌-◌}
 use native.Mathlib.Omega.{arith}
-use Rattle.text.specs.Digits.{count_word}
-use Rattle.text.specs.Pieces.{length-refused, refused-wrote}
+use Rattle.text.proofs.Digits.{count_word}
+use Rattle.text.proofs.Pieces.{length-refused, refused-wrote}
 use borrow.Author.Rules.{rules}
 use Rattle.text.proofs.refused_line.Goals as goal
 

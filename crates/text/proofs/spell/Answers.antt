@@ -9,7 +9,8 @@ use lib.Seq.{take_all}
 use Rattle.lists.specs.Lists.{put}
 use native.Mathlib.Nat.{add-zero}
 use Rattle.lists.specs.Put.{put-none, put-drop}
-use Rattle.text.specs.Digits.{lasts, length-lasts, last-digit}
+use Rattle.text.specs.Digits.{lasts}
+use Rattle.text.proofs.Digits.{length-lasts, last-digit}
 use borrow.Author.Rules.{rules}
 use Rattle.text.proofs.spell.Goals as goal
 

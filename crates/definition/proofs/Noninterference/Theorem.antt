@@ -9,11 +9,11 @@ use Rattle.definition.specs.Words.{state_of}
 use Rattle.definition.specs.Call.{Call, Reply}
 use Rattle.definition.specs.Step.{semantics, step}
 use Rattle.definition.specs.Preservation.Fit.{fit-state}
-use Rattle.definition.specs.Preservation.Step.{Held, held-empty, good-held}
+use Rattle.definition.proofs.Preservation.Step.{Held, held-empty, good-held}
 use Rattle.definition.specs.Noninterference.Statement.{Choice, struck, unstruck, empty_words, after, spacious, compared, observed, View, TwoRuns}
 use Rattle.definition.specs.Noninterference.Projection.{without}
-use Rattle.definition.specs.Noninterference.Calls.{freely, spaced, step_follows, bounded-freely}
-use Rattle.definition.specs.Noninterference.Unwinding.{step-consistent, locally_respects}
+use Rattle.definition.proofs.Noninterference.Calls.{freely, spaced, step_follows, bounded-freely}
+use Rattle.definition.proofs.Noninterference.Unwinding.{step-consistent, locally_respects}
 
 -- ---- a run without limits, on states
 ideal : (ℕ → Bool) → List Call → State → List Reply

@@ -21,7 +21,7 @@ use Rattle.definition.specs.Preservation.Encode.{Admissible}
 use Rattle.definition.specs.Preservation.Keeps.{Covers}
 use Rattle.definition.specs.Preservation.Removal.{option_case}
 use Rattle.definition.specs.Preservation.Growing.{Grows, insert_grows, no-replacing, length-place4}
-use Rattle.definition.specs.Preservation.Step.{covered}
+use Rattle.definition.proofs.Preservation.Step.{covered}
 use Rattle.definition.specs.Step.{roomy}
 
 covers-refl : (s : Sizes) → Covers s s

@@ -22,11 +22,11 @@ use Rattle.definition.specs.Reference.Source.{dump4, source_for, or_value, sourc
 use Rattle.definition.specs.Step.{Checks, Action, changes, replies, lists, alters, answered, Semantics, semantics}
 use Rattle.definition.specs.Noninterference.Statement.{Choice, struck, outside, comparing}
 use Rattle.definition.specs.Noninterference.Projection.{without, result, StepConsistent, Tandem, both_go, both-refuse}
-use Rattle.definition.specs.Noninterference.Tables.{lookup_in-consistent, local4-consistent, insert4-consistent}
-use Rattle.definition.specs.Noninterference.Addresses.{add_v4-consistent, up-consistent, down-consistent, del_v4-consistent, expire-consistent}
-use Rattle.definition.specs.Noninterference.Routes.{del_route4_request-consistent, dump4-consistent, InsertsConsistent, added-consistent}
-use Rattle.definition.specs.Noninterference.Struck.{LocallyRespects, del_route4_request-unseen, InsertsUnseen, insert4-unseen, added-unseen}
-use Rattle.definition.specs.Noninterference.Calls.{passing, doing, freely}
+use Rattle.definition.proofs.Noninterference.Tables.{lookup_in-consistent, local4-consistent, insert4-consistent}
+use Rattle.definition.proofs.Noninterference.Addresses.{add_v4-consistent, up-consistent, down-consistent, del_v4-consistent, expire-consistent}
+use Rattle.definition.proofs.Noninterference.Routes.{del_route4_request-consistent, dump4-consistent, InsertsConsistent, added-consistent}
+use Rattle.definition.proofs.Noninterference.Struck.{LocallyRespects, del_route4_request-unseen, InsertsUnseen, insert4-unseen, added-unseen}
+use Rattle.definition.proofs.Noninterference.Calls.{passing, doing, freely}
 
 module _ (chosen : ℕ → Bool) (choice : Choice chosen) where
   -- ---- what each call has to show, by what it does and the tables that it names

@@ -5,7 +5,8 @@ use Rattle.std.proofs.Common.{ap, ◌∙◌, append_assoc, arith, length-append}
 use Rattle.lists.specs.Lists.{Row, put}
 use Rattle.layout.specs.Route.{table, dst, len, tos, priority, kind}
 use Rattle.text.specs.Print.{digits, dotted, between, bracketed, ending, line, count_line, refused_line, point, space, opens, closes, line_end, routes_word, refused_word}
-use Rattle.text.specs.Digits.{lasts, digits-lasts, count-byte, count_word}
+use Rattle.text.specs.Digits.{lasts}
+use Rattle.text.proofs.Digits.{digits-lasts, count-byte, count_word}
 use Rattle.text.specs.Wrote.{Wrote, wrote, then, same}
 
 -- ---- lengths

@@ -15,8 +15,8 @@ use Rattle.definition.specs.Reference.Addresses.{Outcome, goes, refused}
 use Rattle.definition.specs.Reference.Routes.{table_named}
 use Rattle.definition.specs.Step.{Result, Checks, Action, changes, replies, lists, Semantics, checks, checked, unless, unfit, result, roomy, outcome, semantics, step}
 pub use Rattle.definition.specs.Preservation.Refused.{Leaves, add_v4-leaves, del_v4-leaves, del_route4-leaves, added-leaves}
-use Rattle.definition.specs.Preservation.Change.{Preserving, Acts, lawful}
-use Rattle.definition.specs.Preservation.Step.{acted, perform-case, checked-held, checked-sound, leaves-decode}
+use Rattle.definition.proofs.Preservation.Change.{Preserving, Acts, lawful}
+use Rattle.definition.proofs.Preservation.Step.{acted, perform-case, checked-held, checked-sound, leaves-decode}
 
 -- ---- its number and nothing else
 abbrev Alone : Reply → Type 0

@@ -16,9 +16,9 @@ use Rattle.definition.specs.Reference.Lookup.{answer, flow_to}
 use Rattle.definition.specs.Reference.Source.{dump4}
 use Rattle.definition.specs.Computing.{computing}
 use Rattle.definition.specs.Noninterference.Statement.{Choice, unstruck, Agree, Alike, empty_words, after, observed}
-use Rattle.definition.specs.Noninterference.Calls.{freely, bounded}
-use Rattle.definition.specs.Noninterference.Theorem.{two_runs}
-use Rattle.definition.specs.Noninterference.Computed.{ending, ample, answers, run-ending, run-ample, run-answers}
+use Rattle.definition.proofs.Noninterference.Calls.{freely, bounded}
+use Rattle.definition.proofs.Noninterference.Theorem.{two_runs}
+use Rattle.definition.proofs.Noninterference.Computed.{ending, ample, answers, run-ending, run-ample, run-answers}
 use Rattle.definition.specs.Step.{event_room}
 
 abbrev private : ℕ → Bool

@@ -22,7 +22,7 @@ use Rattle.definition.specs.Reference.Addresses.{only, kernel_route, local_route
 use Rattle.definition.specs.Reference.Removal.{any_priority, of_kind, leaving, unwanted, wanted, dependent_on, fall, disable, remove_one, gone_with, remove_v4, deletes, deleted_at, del_v4, due, deprecate_due, passes, expire}
 use Rattle.definition.specs.Noninterference.Statement.{Choice, outside}
 use Rattle.definition.specs.Noninterference.Projection.{without, unchosen_as, Mirrors, StepConsistent, Tandem, both_go, both-refuse, mirrors_also, mirrors_cond, consistent-through, consistent-all, tandem_cond}
-use Rattle.definition.specs.Noninterference.Tables.{local_open, main_open, listed-consistent, local4-consistent, kernel_add4-consistent, kernel_del4-consistent}
+use Rattle.definition.proofs.Noninterference.Tables.{local_open, main_open, listed-consistent, local4-consistent, kernel_add4-consistent, kernel_del4-consistent}
 
 module _ (chosen : ℕ → Bool) (choice : Choice chosen) where
   -- ---- the routes of an address are in the local table

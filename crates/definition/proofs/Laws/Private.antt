@@ -13,10 +13,10 @@ use Rattle.definition.specs.Reference.Addresses.{Outcome, goes, refused}
 use Rattle.definition.specs.Reference.Routes.{table_named, add_route4, del_route4_request}
 use Rattle.definition.specs.Noninterference.Statement.{Choice}
 use Rattle.definition.specs.Noninterference.Projection.{without, result, Tandem, both_go, both-refuse}
-use Rattle.definition.specs.Noninterference.Tables.{insert4-consistent}
+use Rattle.definition.proofs.Noninterference.Tables.{insert4-consistent}
 use Rattle.definition.specs.Reference.Insert.{insert4}
-use Rattle.definition.specs.Noninterference.Routes.{del_route4_request-consistent, added-consistent}
-use Rattle.definition.specs.Noninterference.Struck.{del_route4_request-respects, insert4-unseen, added-respects}
+use Rattle.definition.proofs.Noninterference.Routes.{del_route4_request-consistent, added-consistent}
+use Rattle.definition.proofs.Noninterference.Struck.{del_route4_request-respects, insert4-unseen, added-respects}
 
 -- the tables that a request may use: the reference's own, and the one that it names
 abbrev pub used : Row → ℕ → Bool

@@ -15,8 +15,8 @@ use Rattle.definition.specs.Reference.Source.{dump4}
 use Rattle.definition.specs.Step.{Buffer, unlent, for_events, for_listing, for_row, listing_room}
 use Rattle.definition.specs.Preservation.Fit.{fit-state, length-route}
 use Rattle.definition.specs.Preservation.Encode.{Admissible}
-use Rattle.definition.specs.Preservation.Numbers.{OfFound, lookup-number}
-use Rattle.definition.specs.Preservation.Reading.{dump4-listing, FoundIn, lookup-fit}
+use Rattle.definition.proofs.Preservation.Numbers.{OfFound, lookup-number}
+use Rattle.definition.proofs.Preservation.Reading.{dump4-listing, FoundIn, lookup-fit}
 use Rattle.definition.specs.Noninterference.Public.{room_of, width, many}
 
 pub record Shaped (k : Buffer) (r : Reply) : Type 0 where

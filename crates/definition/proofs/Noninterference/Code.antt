@@ -10,9 +10,9 @@ use Rattle.definition.specs.Words.{state_of}
 use Rattle.definition.specs.Call.{Call, Reply}
 use Rattle.definition.specs.Step.{step}
 use Rattle.definition.specs.Noninterference.Statement.{Choice, struck, Agree, empty_words, after, spacious, compared, observed, View, view}
-use Rattle.definition.specs.Noninterference.Theorem.{two_runs}
+use Rattle.definition.proofs.Noninterference.Theorem.{two_runs}
 use Rattle.definition.specs.Noninterference.Public.{Made, Seen, Ran, read_back, answers, spared, Equal, CodeRuns}
-use Rattle.definition.specs.Noninterference.ReadBack.{read_back_lem}
+use Rattle.definition.proofs.Noninterference.ReadBack.{read_back_lem}
 
 -- ---- what is seen, read back, is what `step` gives
 pub record Shows (c : Call) (w : List ℕ) (s : Seen) (w' : List ℕ) : Type 0 where

@@ -14,7 +14,7 @@ use Rattle.definition.specs.Step.{Result, refuses, Checks, Action, changes, repl
 use Rattle.definition.specs.Preservation.Fit.{state-fit}
 use Rattle.definition.specs.Preservation.Encode.{Admissible, length-encode, well_formed-encode, decode-encode, encode-decode, good-decode, good-empty, encode-empty}
 use Rattle.definition.specs.Preservation.Keeps.{Covers, Kept, KeptOutcome}
-use Rattle.definition.specs.Preservation.Change.{Passes, Preserving, Changes, Acts, Lawful, lawful}
+use Rattle.definition.proofs.Preservation.Change.{Passes, Preserving, Changes, Acts, Lawful, lawful}
 
 -- ---- well-formed words
 pub record Held (w : List ℕ) : Type 0 where

@@ -19,7 +19,7 @@ use Rattle.definition.specs.Reference.Routes.{Reached, by, unreached, table_name
 use Rattle.definition.specs.Reference.Source.{below, table_order, dump4}
 use Rattle.definition.specs.Noninterference.Statement.{Choice, outside}
 use Rattle.definition.specs.Noninterference.Projection.{unchosen, without, unchosen_as, Tandem, both_go, both-refuse, tandem_cond}
-use Rattle.definition.specs.Noninterference.Tables.{local_open, main_open, answer-consistent, together_open, lookup_in-consistent, addr_type4-consistent, listed-consistent, create4-consistent, kept_in, insert4-consistent, removal_consistent}
+use Rattle.definition.proofs.Noninterference.Tables.{local_open, main_open, answer-consistent, together_open, lookup_in-consistent, addr_type4-consistent, listed-consistent, create4-consistent, kept_in, insert4-consistent, removal_consistent}
 
 module _ (chosen : ℕ → Bool) (choice : Choice chosen) where
   -- table 0 is 254

@@ -8,8 +8,8 @@ use Rattle.definition.specs.Words.{state_size, state_of, formed}
 use Rattle.definition.specs.Call.{Call, Reply, refusal, written}
 use Rattle.definition.specs.Reference.Addresses.{Outcome}
 use Rattle.definition.specs.Step.{Result, Checks, Action, changes, replies, lists, Semantics, checks, checked, answered, result, roomy, changing, reading, act, semantics, step}
-use Rattle.definition.specs.Preservation.Change.{Passes, Acts, lawful}
-use Rattle.definition.specs.Preservation.Step.{Held, held-leaves, decode-leaves, good-held, good-result, checks-zero}
+use Rattle.definition.proofs.Preservation.Change.{Passes, Acts, lawful}
+use Rattle.definition.proofs.Preservation.Step.{Held, held-leaves, decode-leaves, good-held, good-result, checks-zero}
 
 -- ---- without limits
 -- a reply, and the state afterwards

@@ -15,13 +15,13 @@ use Rattle.endian.specs.Laws.{Below, length-bytes_of, words-bytes, words_of-put}
 use Rattle.definition.specs.Words.{state_size}
 use Rattle.definition.specs.Call.{Call, Reply, Numbers, numbers, refusal}
 use Rattle.definition.specs.Step.{Result, refuses, alters, semantics, step}
-use Rattle.definition.specs.Preservation.Step.{Held, held-empty, step-held, perform-reads}
+use Rattle.definition.proofs.Preservation.Step.{Held, held-empty, step-held, perform-reads}
 use Rattle.definition.specs.Noninterference.Statement.{struck, empty_words}
 use Rattle.definition.specs.Noninterference.Public.{Seen, spared}
-use Rattle.definition.specs.Noninterference.ReadBack.{whole-reply}
-use Rattle.definition.specs.Noninterference.Code.{Shows, Showed, showed_equal}
+use Rattle.definition.proofs.Noninterference.ReadBack.{whole-reply}
+use Rattle.definition.proofs.Noninterference.Code.{Shows, Showed, showed_equal}
 use Rattle.definition_bytes.specs.Bytes.{on_bytes, state_on, suffices, inner, Made, Ran, as_words, in_words, empty_bytes, ByteRuns}
-use Rattle.definition_bytes.specs.AsWords.{lacking, Is, is}
+use Rattle.definition_bytes.proofs.AsWords.{lacking, Is, is}
 
 -- ---- one call
 -- rows written as bytes, read as words

@@ -25,10 +25,10 @@ use Rattle.definition.specs.Preservation.Keeps.{Keeps, KeptOutcome}
 use Rattle.definition.specs.Preservation.Addresses.{add_v4_keeps, up_keeps, down_keeps}
 use Rattle.definition.specs.Preservation.Removal.{del_v4_keeps, expire_keeps}
 use Rattle.definition.specs.Preservation.Requests.{del_route4_keeps, InsertsFit, added_keeps}
-use Rattle.definition.specs.Preservation.Numbers.{Numbered, OfFound, lookup-number, add_v4-number, del_v4-number, del_route4-number, Numbers, insert_number, added-number}
+use Rattle.definition.proofs.Preservation.Numbers.{Numbered, OfFound, lookup-number, add_v4-number, del_v4-number, del_route4-number, Numbers, insert_number, added-number}
 use Rattle.definition.specs.Preservation.Refused.{Leaves, add_v4-leaves, del_v4-leaves, del_route4-leaves, added-leaves}
 use Rattle.definition.specs.Preservation.Emitted.{EventBound, EventBoundOutcome, up-event_bound, down-event_bound, add_v4-event_bound, del_v4-event_bound, expire-event_bound, del_route4-event_bound, added-event_bound}
-use Rattle.definition.specs.Preservation.Shape.{Shaped, listing-shaped, lookup-shaped, valued-shaped, optionally-shaped}
+use Rattle.definition.proofs.Preservation.Shape.{Shaped, listing-shaped, lookup-shaped, valued-shaped, optionally-shaped}
 
 -- the checks are passed
 pub record Passes (k : Checks) : Type 0 where

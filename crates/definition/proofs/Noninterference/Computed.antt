@@ -5,9 +5,9 @@ use Rattle.definition.specs.State.{State, empty}
 use Rattle.definition.specs.Words.{state_of}
 use Rattle.definition.specs.Call.{Call, Reply}
 use Rattle.definition.specs.Step.{semantics, step}
-use Rattle.definition.specs.Preservation.Step.{Held, held-empty, decode-empty}
+use Rattle.definition.proofs.Preservation.Step.{Held, held-empty, decode-empty}
 use Rattle.definition.specs.Noninterference.Statement.{struck, empty_words, after, spacious, compared, observed}
-use Rattle.definition.specs.Noninterference.Calls.{bounded, spaced, step_follows}
+use Rattle.definition.proofs.Noninterference.Calls.{bounded, spaced, step_follows}
 
 unfoldable pub ending : List Call → State → State
 ending [] st = st

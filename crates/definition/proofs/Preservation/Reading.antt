@@ -13,7 +13,7 @@ use Rattle.kind.specs.Kind.{error_of}
 use Rattle.layout.specs.Route.{fit_route, table, len, kind}
 use Rattle.definition.specs.State.{State}
 use Rattle.definition.specs.Words.{none_twice, well_formed, decode}
-use Rattle.definition.specs.Preservation.Numbers.{OfFound}
+use Rattle.definition.proofs.Preservation.Numbers.{OfFound}
 use Rattle.definition.specs.Reference.Source.{below, table_order, dump4, select4, source4, present}
 use Rattle.definition.specs.Preservation.Fit.{Invariant, fit-state, sized-routes}
 use Rattle.definition.specs.Preservation.Encode.{Admissible}

@@ -13,9 +13,9 @@ use Rattle.definition.specs.Call.{Call, Reply, Numbers, numbers, replied, refusa
 use Rattle.definition.specs.Reference.Addresses.{Outcome, goes, refused}
 use Rattle.definition.specs.Step.{Result, Checks, Action, changes, replies, lists, Buffer, unlent, for_events, for_listing, for_row, event_room, outcome, semantics, step}
 use Rattle.definition.specs.Preservation.Encode.{Admissible}
-use Rattle.definition.specs.Preservation.Shape.{Shaped, refusal-shaped}
-use Rattle.definition.specs.Preservation.Change.{Passes, Preserving, Acts, events_in, Shapes, lawful}
-use Rattle.definition.specs.Preservation.Step.{acted, perform-case, checked-held, checked-passes, good-held, outcome-events}
+use Rattle.definition.proofs.Preservation.Shape.{Shaped, refusal-shaped}
+use Rattle.definition.proofs.Preservation.Change.{Passes, Preserving, Acts, events_in, Shapes, lawful}
+use Rattle.definition.proofs.Preservation.Step.{acted, perform-case, checked-held, checked-passes, good-held, outcome-events}
 use Rattle.definition.specs.Noninterference.Public.{Lent, Made, room_of, width, rows_read, read_back}
 
 -- ---- a change emits as many rows as its value says

@@ -1,0 +1,3 @@
+pub mod Laws
+pub mod Noninterference
+pub mod Preservation

@@ -1,0 +1,2 @@
+pub mod AsWords
+pub mod Theorem

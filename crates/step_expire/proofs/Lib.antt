@@ -1,0 +1,2 @@
+pub mod Iteration
+pub mod Loop
