@@ -1,6 +1,6 @@
 -- A call with a good mask is the base's call with its prefix, whole; one with another is refused by 207, after 200 and 201.
 -- Assumes nothing.
-use Rattle.std.specs.Prelude.{ℕ, ◌≤◌, ◌<◌, ◌≡◌, Bool, cond, ◌&&◌, List, eqb, length, set}
+use Rattle.std.specs.Prelude.{ℕ, ◌≡◌, Bool, cond, ◌&&◌, List, eqb, length, set}
 use Rattle.std.proofs.Common.{arith, sym, ap, subst, ◌∙◌}
 use Rattle.std.proofs.Math.Path.{refl}
 use Rattle.std.proofs.Math.Bool.{true, false, and-false}
@@ -10,7 +10,6 @@ use borrow.Author.Tests.{ne_eqb, eq-eqb, eqb-true}
 use Rattle.lists.specs.Lists.{Row}
 use Rattle.lists.specs.Bools.{test-case, cond-true, cond-false}
 use Rattle.layout.specs.Request.{add_v4_size, del_v4_size}
-use Rattle.prefix.specs.Mask.{mask}
 use Rattle.netmask.specs.declared.Prefix.TheVariants.{Length}
 use Rattle.netmask.specs.declared.Prefix.TheVariants.{Refused as PrefixRefused}
 use Rattle.netmask.specs.Netmask.{good, bad_mask, prefix_of}
@@ -18,13 +17,13 @@ use Rattle.netmask.specs.Laws.{MaskOf, its_ones, good-mask, prefix-good, prefix_
 use Rattle.definition.specs.Words.{state_size, formed}
 use Rattle.definition.specs.Call as Call
 use Rattle.definition.specs.Call.{refusal}
-use Rattle.definition.specs.Step.{Result, Semantics, semantics, perform, step, Checks, checks, checked, refuses, unless, events_fit, request_is, add_v4_call, del_v4_call}
+use Rattle.definition.specs.Step.{Result, Semantics, semantics, perform, Checks, checks, checked, refuses, unless, events_fit, request_is, add_v4_call, del_v4_call}
 use Rattle.definition.proofs.Preservation.Step.{perform-case}
 use Rattle.call_read.specs.Laws.{call-refused}
 use Rattle.call_change.specs.Answer.{Answers}
 use Rattle.call_change.specs.Emitted.{EmittedRows, add_v4-emitted, del_v4-emitted}
 use Rattle.call_change.specs.declared.Done.{Done}
-use Rattle.call_mask.specs.Masked.{add_v4_mask, del_v4_mask, mask_at, prefixed, masked, add_v4_masked, del_v4_masked, add_v4_mask_call, del_v4_mask_call}
+use Rattle.call_mask.specs.Masked.{add_v4_mask, del_v4_mask, mask_at, prefixed, masked, add_v4_mask_call, del_v4_mask_call}
 
 -- ---- a good mask: the base's call
 pub good-is : (s : Semantics) (b : Bool) (w : List ℕ) → b ≡ true → perform (masked b s) w ≡ perform s w

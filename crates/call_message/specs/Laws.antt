@@ -1,6 +1,6 @@
 -- What a message comes to as an answer, and that its headers lie within it.
 -- Assumes nothing.
-use Rattle.std.specs.Prelude.{ℕ, suc, ◌-◌, ◌≤◌, ◌<◌, ◌≡◌, Bool, true, false, cond, eqb, leb, length, get_or, take, drop}
+use Rattle.std.specs.Prelude.{ℕ, suc, ◌-◌, ◌≤◌, ◌<◌, ◌≡◌, eqb, leb, length, get_or, take, drop}
 use Rattle.std.proofs.Math.Path.{refl, ap}
 use Rattle.std.proofs.Common.{sym, ◌∙◌, arith, length-take, get_or-take, length-take-le}
 use mathlib.Core.List.{List, [], ◌∷◌}
@@ -26,7 +26,7 @@ use Rattle.definition.specs.Call.{refusal as refusing}
 use Rattle.call_read.specs.Answer.{Writes}
 use Rattle.call_message.specs.declared.Asked.{Asked}
 use Rattle.call_message.specs.declared.Asked.TheVariants.{Refused, Request}
-use Rattle.call_message.specs.Message.{requested, replied, read_call}
+use Rattle.call_message.specs.Message.{replied, read_call}
 use Rattle.call_message.specs.Answer.{asked_by, asked_of}
 
 -- ---- the headers lie within the message

@@ -1,6 +1,6 @@
 -- A message read on bytes is one read on words, whose request is given back as bytes.
 -- Assumes nothing.
-use Rattle.std.specs.Prelude.{ℕ, ◌*◌, ◌≤◌, ◌<◌, ◌≡◌, true, false, List, leb, length, take}
+use Rattle.std.specs.Prelude.{ℕ, ◌*◌, ◌≤◌, ◌<◌, ◌≡◌, List, leb, length, take}
 use Rattle.std.proofs.Common.{arith, sym, ap, ◌∙◌, leb-true, le-leb}
 use Rattle.lists.specs.Lists.{flat, put}
 use Rattle.lists.specs.Bools.{cond-true, cond-false, fails}

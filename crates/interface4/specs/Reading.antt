@@ -5,13 +5,13 @@ use Rattle.std.proofs.Common.{arith, sym, ◌∙◌, take_all, eqb-true, leb-tru
 use Rattle.std.proofs.Math.Path.{refl, ap, subst}
 use mathlib.Core.List.{List, []}
 use mir.Val.{bool_byte}
-use Rattle.lists.specs.Lists.{Row, flat, put}
+use Rattle.lists.specs.Lists.{Row, put}
 use Rattle.lists.specs.Bools.{and_left, and_right, test-case, cond-true, cond-false}
 use Rattle.layout.specs.Route as Route
 use Rattle.endian.specs.Endian.{words_of, bytes_of}
 use Rattle.endian.specs.Laws.{Below, words-below, bytes-none}
 use Rattle.definition.specs.Words.{state_size}
-use Rattle.definition.specs.Call.{Call, Reply, Numbers, numbers, refusal}
+use Rattle.definition.specs.Call.{Call, Numbers, numbers, refusal}
 use Rattle.definition.specs.Step.{Buffer, unlent, for_listing, for_row, alters, semantics, step, listing_room}
 use Rattle.definition.proofs.Preservation.Shape.{Shaped}
 use Rattle.definition.specs.Noninterference.Public as Words
@@ -19,7 +19,7 @@ use Rattle.definition.specs.Noninterference.Public.{Lent, width, many}
 use Rattle.definition.proofs.Noninterference.ReadBack.{shaped}
 use Rattle.definition_bytes.specs.Bytes.{state_fits, row_words, with, suffices, inner, Made}
 use Rattle.call_dispatch.specs.Numbered.{find_at, ask_at}
-use Rattle.call_dispatch.specs.Laws.{Reads, find_is, ask_is}
+use Rattle.call_dispatch.specs.Laws.{find_is, ask_is}
 use Rattle.interface4.specs.Made.{Wrote, wrote, part-words, made_gave, made-no, made-yes}
 
 -- ---- as many bytes as there must be

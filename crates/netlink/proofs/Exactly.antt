@@ -1,7 +1,7 @@
 -- Which messages are refused, and with which number: 204 exactly if a length is bad, 205 exactly if none is and the type or the family
 -- is another, 206 exactly if neither and an attribute has a wrong size or a new address no local one; else it is read.
 -- Assumes nothing.
-use Rattle.std.specs.Prelude.{ℕ, zero, suc, ◌≤◌, ◌<◌, ◌≡◌, refl, Bool, true, ◌&&◌, ◌||◌, List, [], ◌∷◌, ◌++◌, ◌↔◌, eqb, length}
+use Rattle.std.specs.Prelude.{ℕ, zero, suc, ◌≤◌, ◌≡◌, refl, Bool, true, ◌&&◌, ◌||◌, List, [], ◌∷◌, ◌++◌, ◌↔◌, eqb, length}
 use Rattle.std.proofs.Common.{sym, ◌∙◌, arith}
 use Rattle.std.proofs.Math.Path.{ap}
 use Rattle.std.proofs.Math.Bool.{false, cond, not}
@@ -12,7 +12,7 @@ use Rattle.lists.specs.Lists.{all}
 use Rattle.lists.specs.Bools.{and_left, and_right, and_both, and_rest, or-false, or_case, or_left, or_right, fails, test-case, true-false, false-not}
 use Rattle.lists.specs.All.{all_head, all_back}
 use Rattle.netlink.specs.Codes.{rtm_new_addr, rtm_del_addr, rtm_new_route, rtm_del_route, inet, ifa_local, rta_metrics}
-use Rattle.netlink.specs.Attributes.{Attribute, u16, whole, parsed_from, parsed, attributes, right, last}
+use Rattle.netlink.specs.Attributes.{u16, whole, parsed_from, attributes, right, last}
 use Rattle.netlink.specs.Reader.{Answer, refused, asked, message_length, message_type, family, is_address, is_route, attributes_at}
 use Rattle.netlink.specs.Reader.{headed, body, nested_right, lengths, sized_in, given, sizes, request, shape_refusal, refusal, read}
 use Rattle.netlink.specs.Exactly.{BadAttribute, below-header, past_end, spare, known, BadLength, short, below, past, family-header, attribute, nested, Other, other-type, other-family, WrongSize, size, no_local, Shaped}

@@ -3,7 +3,7 @@
 use Rattle.std.specs.Prelude.{ℕ, zero, suc, ◌-◌, ◌≤◌, ◌≡◌, refl, true, false, List, [], ◌∷◌, leb, length, drop}
 use Rattle.std.proofs.Common.{ap, ◌∙◌, arith, leb-true, le-leb}
 use Rattle.lists.specs.Bools.{and_left, and_right, and_both}
-use Rattle.netlink.specs.Attributes.{Parsed, u16, padded, whole, first, more, parsed_from, parsed, attributes}
+use Rattle.netlink.specs.Attributes.{Parsed, u16, padded, whole, first, more, parsed_from, parsed}
 
 -- ---- one attribute after the other
 parsed-further : (k : ℕ) (l : List ℕ) → parsed_from k l ≡ parsed (drop k l)

@@ -6,7 +6,7 @@ use Rattle.std.proofs.Math.Path.{ap}
 use Rattle.std.proofs.Math.Option.{Option, none, some}
 use Rattle.std.proofs.lemmas.Bool.{eqb-false}
 use Rattle.lists.specs.Bools.{test-case}
-use Rattle.netlink.specs.Attributes.{Attribute, Parsed, parsed, attributes, last_after, last}
+use Rattle.netlink.specs.Attributes.{Attribute, Parsed, parsed, last_after, last}
 use Rattle.netlink_attributes.specs.Steps.{lowered, slots, placed, Placed}
 use Rattle.netlink_attributes.specs.StepLaws.{At}
 

@@ -1,6 +1,6 @@
 -- Laws of fields: what lies at the place of a code is the last of that code.
 -- Assumes nothing.
-use Rattle.std.specs.Prelude.{ℕ, zero, suc, ◌+◌, ◌-◌, ◌≤◌, ◌<◌, min, ◌≡◌, refl, Bool, true, false, cond, List, [], ◌∷◌, ◌++◌, map, eqb, length, get_or, take, drop, replicate}
+use Rattle.std.specs.Prelude.{ℕ, ◌+◌, ◌-◌, ◌≤◌, ◌<◌, min, ◌≡◌, refl, Bool, cond, List, [], ◌∷◌, ◌++◌, map, eqb, length, get_or, take, drop, replicate}
 use Rattle.std.proofs.Common.{sym, ap, ◌∙◌, append_assoc, arith, length-take, length-drop, length-append, take-take, eqb-true, eq-eqb, ne_eqb}
 use Rattle.std.proofs.Math.Option.{Option, none, some}
 use Rattle.lists.specs.Lists.{put, until, zeros}
@@ -10,7 +10,7 @@ use Rattle.netlink.specs.Codes.{ifa_label}
 use Rattle.netlink.specs.Reader.{label, flag, given, lo, label_or, label_words, new_addr, del_addr}
 use Rattle.netlink.specs.Reader.{u32, message_flags, route_words, unknown_metric, metrics_in, metrics_asked, pairs_asked, new_route, del_route}
 use Rattle.netlink.specs.Attributes.{Attribute, attributes, last_after, last}
-use Rattle.netlink_attributes.specs.Steps.{lowered, slots, placed, Placed}
+use Rattle.netlink_attributes.specs.Steps.{lowered, placed, Placed}
 
 low : (c k : ℕ) → k < 18 → eqb (min c 18) k ≡ eqb c k
 low c k h =

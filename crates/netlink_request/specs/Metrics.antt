@@ -1,16 +1,16 @@
 -- The metrics, one after the other: as words by their types, and as pairs.
 -- Assumes nothing.
 use Rattle.std.specs.Prelude.{ℕ, zero, suc, ◌+◌, ◌-◌, ◌*◌, ◌/◌, ◌≤◌, ◌<◌, min, ◌≡◌, refl, Bool, true, false, cond, ◌||◌, List, [], ◌∷◌, ◌++◌, map, eqb, ltb, length, get_or, set, take, drop, replicate}
-use Rattle.std.proofs.Common.{sym, ap, ◌∙◌, append-nil, zero-add, add-one, arith, length-append, length-take, take_all, take-suc, eqb-true, eq-eqb, ne_eqb, ltb-true, lt-ltb}
+use Rattle.std.proofs.Common.{sym, ap, ◌∙◌, append-nil, zero-add, arith, length-append, length-take, take_all, take-suc, eqb-true, eq-eqb, ne_eqb, ltb-true, lt-ltb}
 use Rattle.std.proofs.Math.Option.{Option, none, some}
 use Rattle.std.proofs.Math.Seq.{drop-nil}
-use Rattle.lists.specs.Lists.{any, each, keep, put, zeros, pad}
+use Rattle.lists.specs.Lists.{each, keep, put, zeros, pad}
 use Rattle.lists.specs.Bools.{same_test}
 use Rattle.lists.specs.Keep.{each_append}
 use Rattle.lists.specs.Rows.{length-put}
 use Rattle.lists.specs.Put.{put-none, put-behind, put-take, put_whole}
 use Rattle.netlink.specs.Attributes.{Attribute, attributes, last_after, last}
-use Rattle.netlink.specs.Reader.{given, number, or_else, types, metric, unknown_metric, metrics_asked, pair, pairs_asked}
+use Rattle.netlink.specs.Reader.{given, types, metric, unknown_metric, metrics_asked, pair, pairs_asked}
 use Rattle.netlink_attributes.specs.Steps.{lowered, placed, Placed}
 
 -- ---- the place that all types above 17 share

@@ -5,7 +5,7 @@ use Rattle.std.proofs.Common.{sym, ◌∙◌, mul-le-mul_left, add-one, arith, l
 use Rattle.std.proofs.Math.Path.{ap}
 use Rattle.std.proofs.Math.Bool.{false, not, and-true, not-not}
 use mathlib.Core.List.{List, [], ◌∷◌, ◌++◌, append-nil}
-use Rattle.lists.specs.Lists.{Row, all, keep, flat, span, put, chop, zeros, pad}
+use Rattle.lists.specs.Lists.{Row, keep, flat, span, put, chop, zeros, pad}
 use Rattle.lists.specs.All.{all_keep}
 use Rattle.lists.specs.Keep.{keep_append, keep_same}
 use Rattle.lists.specs.Count.{length-keep-most}

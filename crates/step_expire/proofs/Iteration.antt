@@ -1,7 +1,7 @@
 -- `expire` address by address: one that is due goes and all begins again, one that fades is marked, and behind a front
 -- of addresses that do neither what is left is `expire` itself.
 -- Assumes nothing.
-use Rattle.std.specs.Prelude.{ℕ, suc, ◌+◌, ◌-◌, ◌*◌, ◌/◌, ◌%◌, ◌^◌, ◌≤◌, ◌<◌, ◌≡◌, Bool, false, cond, not, ◌||◌, eqb, ltb, get_or, take, drop, set}
+use Rattle.std.specs.Prelude.{ℕ, suc, ◌+◌, ◌-◌, ◌*◌, ◌/◌, ◌%◌, ◌^◌, ◌≤◌, ◌<◌, ◌≡◌, Bool, false, not, ◌||◌, eqb, get_or, take, drop, set}
 use Rattle.std.proofs.Math.Path.{refl, ap}
 use Rattle.std.proofs.Common.{sym, ◌∙◌, length-append, take_all, take_at, length-take-le}
 use Rattle.std.proofs.Math.Bool.{true}

@@ -3,9 +3,8 @@
 -- Assumes nothing.
 use Rattle.std.specs.Prelude.{ℕ, ◌+◌, cond, [], ◌∷◌, ltb, get_or, set}
 use Rattle.layout.specs.Event.{new_addr4}
-use Rattle.definition.specs.State.{State, Out, becomes, stays, through, with_addresses}
+use Rattle.definition.specs.State.{State, Out, becomes, stays, with_addresses}
 use Rattle.definition.specs.Reference.Removal.{remove_v4, due, deprecates, deprecate}
-use Rattle.lists.specs.Lists.{keep}
 
 module _ (allowance now : ℕ) where
   -- what comes of the address at i

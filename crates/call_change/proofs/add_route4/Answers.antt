@@ -1,7 +1,6 @@
 -- `call_change::add_route4` meets its contract: all that it is lent is lent on.
 -- Assumes nothing.
 use native.Mathlib.Omega.{arith}
-use borrow.Author.Rules.{rules}
 use Rattle.call_change.proofs.add_route4.Goals as goal
 
 pub add_route4_lent-requires : goal.add_route4_lent-requires

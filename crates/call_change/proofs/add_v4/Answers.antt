@@ -13,7 +13,6 @@ use Rattle.definition.proofs.Preservation.Numbers.{add_v4-number}
 use Rattle.call_read.specs.Laws.{passed, lent}
 use Rattle.call_change.specs.Laws.{request-checked, sizes, sound, answers-refused, answers-passed}
 use Rattle.call_change.specs.Steps.{whole-answers}
-use borrow.Author.Rules.{rules}
 use Rattle.call_change.proofs.add_v4.Goals as goal
 
 pub returns-then-n-ne0 : goal.returns-then-n-ne0

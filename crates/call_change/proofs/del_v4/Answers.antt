@@ -12,7 +12,6 @@ use Rattle.definition.proofs.Preservation.Numbers.{del_v4-number}
 use Rattle.call_read.specs.Laws.{passed, lent}
 use Rattle.call_change.specs.Laws.{request-checked, sizes, answers-refused, answers-passed}
 use Rattle.call_change.specs.Steps.{fitting, whole-answers}
-use borrow.Author.Rules.{rules}
 use Rattle.call_change.proofs.del_v4.Goals as goal
 
 pub returns-then-n-ne0 : goal.returns-then-n-ne0

@@ -9,7 +9,6 @@ use Rattle.definition.specs.Reference.Addresses.{down}
 use Rattle.call_read.specs.Laws.{passed, lent, valid}
 use Rattle.call_change.specs.Laws.{answers-refused, answers-passed}
 use Rattle.call_change.specs.Steps.{down_answers}
-use borrow.Author.Rules.{rules}
 use Rattle.call_change.proofs.down_lent.Goals as goal
 
 pub returns-then-n-ne0 : goal.returns-then-n-ne0

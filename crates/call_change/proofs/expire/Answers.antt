@@ -13,7 +13,6 @@ use Rattle.definition.proofs.Preservation.Peaks.{expire-roomy}
 use Rattle.call_read.specs.Laws.{checked_as, passed, lent}
 use Rattle.call_change.specs.Laws.{answers-refused, answers-passed}
 use Rattle.call_change.specs.Steps.{fitting, within-answers}
-use borrow.Author.Rules.{rules}
 use Rattle.call_change.proofs.expire.Goals as goal
 
 pub returns-then-n-ne0 : goal.returns-then-n-ne0

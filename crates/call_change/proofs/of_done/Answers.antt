@@ -2,7 +2,6 @@
 -- Assumes nothing.
 use mathlib.Core.Path.{sym, ap}
 use Rattle.call_change.specs.Answer.{of_done}
-use borrow.Author.Rules.{rules}
 use Rattle.call_change.proofs.of_done.Goals as goal
 
 pub returns-in-Rows : goal.returns-in-Rows

@@ -11,7 +11,6 @@ use Rattle.definition.specs.Reference.Addresses.{goes, up}
 use Rattle.call_read.specs.Laws.{passed, lent}
 use Rattle.call_change.specs.Laws.{sound, answers-refused, answers-passed}
 use Rattle.call_change.specs.Steps.{whole-answers}
-use borrow.Author.Rules.{rules}
 use Rattle.call_change.proofs.up.Goals as goal
 
 pub returns-then-n-ne0 : goal.returns-then-n-ne0

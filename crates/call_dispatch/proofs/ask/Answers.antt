@@ -7,7 +7,6 @@ use Rattle.definition.specs.Step.{local4_call, source4_call, source_call, select
 use Rattle.call_read.specs.Answer.{local_by, chosen_by, sourced_by}
 use Rattle.call_dispatch.specs.Numbered.{ask_at}
 use Rattle.call_dispatch.specs.Laws.{ask_made, ask_rest}
-use borrow.Author.Rules.{rules}
 use Rattle.call_dispatch.proofs.ask.Goals as goal
 
 pub returns-in-11 : goal.returns-in-11

@@ -7,7 +7,6 @@ use lib.ListN.{length}
 use borrow.Author.Tests.{le-leb, lt-leb, eq-eqb, ne_eqb}
 use Rattle.row_address.specs.Row.{reply_of as row-address·reply_of}
 use Rattle.call_dispatch.specs.Laws.{called-change, called-list, called_find, called_ask, called-left}
-use borrow.Author.Rules.{rules}
 use Rattle.call_dispatch.proofs.call.Goals as goal
 
 pub returns-then-code-le7 : goal.returns-then-code-le7

@@ -5,7 +5,6 @@ use mathlib.Core.Path.{sym, ap}
 use lib.ListN.{length}
 use Rattle.call_dispatch.specs.Numbered.{change_at}
 use Rattle.call_dispatch.specs.Laws.{same-made, change-rest}
-use borrow.Author.Rules.{rules}
 use Rattle.call_dispatch.proofs.change.Goals as goal
 
 pub returns-in-1 : goal.returns-in-1

@@ -2,7 +2,6 @@
 -- Assumes nothing.
 use Rattle.call_dispatch.specs.Numbered.{one_at}
 use Rattle.call_dispatch.specs.Laws.{one-changes, done-small, answers_did}
-use borrow.Author.Rules.{rules}
 use Rattle.call_dispatch.proofs.change_one.Goals as goal
 
 pub done-requires : goal.done-requires

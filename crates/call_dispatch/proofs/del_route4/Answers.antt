@@ -5,7 +5,6 @@ use lib.ListN.{length}
 use Rattle.definition.specs.Call.{Call}
 use Rattle.definition.specs.Step.{del_route4_call}
 use Rattle.call_dispatch.specs.Laws.{done-small, change-made}
-use borrow.Author.Rules.{rules}
 use Rattle.call_dispatch.proofs.del_route4.Goals as goal
 
 pub done-requires : goal.done-requires

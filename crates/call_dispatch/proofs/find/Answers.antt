@@ -8,7 +8,6 @@ use Rattle.definition.specs.Step.{lookup4_call, lookup4_flow_call}
 use Rattle.call_read.specs.Answer.{found_by}
 use Rattle.call_dispatch.specs.Numbered.{find_at}
 use Rattle.call_dispatch.specs.Laws.{find_made, find_rest}
-use borrow.Author.Rules.{rules}
 use Rattle.call_dispatch.proofs.find.Goals as goal
 
 pub returns-in-9 : goal.returns-in-9

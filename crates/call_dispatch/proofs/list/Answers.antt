@@ -7,7 +7,6 @@ use Rattle.definition.specs.Step.{dump4_call}
 use Rattle.call_read.specs.Answer.{listed_by}
 use Rattle.call_read.specs.Listing.{dump4-lists, listed_small}
 use Rattle.call_dispatch.specs.Laws.{read_made, list-is}
-use borrow.Author.Rules.{rules}
 use Rattle.call_dispatch.proofs.list.Goals as goal
 
 pub listed-requires : goal.listed-requires

@@ -5,7 +5,6 @@ use mathlib.Core.Path.{sym, ap}
 use Rattle.definition.specs.Step.{step, down_call, add_route4_call}
 use Rattle.call_dispatch.specs.Numbered.{one_at}
 use Rattle.call_dispatch.specs.Laws.{same-answers, one-rest}
-use borrow.Author.Rules.{rules}
 use Rattle.call_dispatch.proofs.one.Goals as goal
 
 pub returns-in-2 : goal.returns-in-2

@@ -3,7 +3,6 @@
 use native.Mathlib.Omega.{arith}
 use mathlib.Core.Path.{◌≡◌, sym, ap, subst, ◌∙◌}
 use mathlib.Core.Bool.{true}
-use Prim.Native.Nat.{ℕ}
 use lib.ListN.{length}
 use Rattle.lists.specs.Lists.{Row}
 use Rattle.layout.specs.Request.{del_v4_size, fit_del_v4}
@@ -12,7 +11,6 @@ use Rattle.definition.specs.Step.{unless, del_v4_call}
 use Rattle.call_change.specs.Laws.{answers-refused}
 use Rattle.call_mask.specs.Masked.{del_v4_mask, mask_at, prefixed, del_v4_masked, del_v4_mask_call}
 use Rattle.call_mask.specs.Laws.{unsized, bad_mask_lem, bad_some, mask-good, del_v4-good, answers_as}
-use borrow.Author.Rules.{rules}
 use Rattle.call_mask.proofs.del_v4.Goals as goal
 
 pub returns-then-q-ne-DEL_V4_WORDS : goal.returns-then-q-ne-DEL_V4_WORDS

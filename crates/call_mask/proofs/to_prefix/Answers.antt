@@ -7,7 +7,6 @@ use Rattle.lists.specs.Bools.{true-false}
 use Rattle.netmask.specs.Netmask.{good}
 use Rattle.call_mask.specs.Masked.{mask_at}
 use Rattle.call_mask.specs.Laws.{to-prefix_bad, to-prefix-good}
-use borrow.Author.Rules.{rules}
 use Rattle.call_mask.proofs.to_prefix.Goals as goal
 
 pub returns-in-Refused : goal.returns-in-Refused

@@ -3,7 +3,6 @@ use mathlib.Core.Path.{sym, ◌∙◌}
 use lib.ListN.{length}
 use Rattle.netlink.proofs.Exactly.{unrefused}
 use Rattle.call_message.specs.Laws.{no_room, not-read, is_read}
-use borrow.Author.Rules.{rules}
 use Rattle.call_message.proofs.read.Goals as goal
 
 pub returns-then-request-lt-DEL_ROUTE4_WORDS : goal.returns-then-request-lt-DEL_ROUTE4_WORDS

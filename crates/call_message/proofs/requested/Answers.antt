@@ -1,6 +1,5 @@
 use native.Mathlib.Omega.{arith}
 use Rattle.call_message.specs.Laws.{covers, lent, last-type, body_below, new_addr-answered, del_addr-answered, new_route-answered, del_route-answered}
-use borrow.Author.Rules.{rules}
 use Rattle.call_message.proofs.requested.Goals as goal
 
 pub slice_bounds-new_addr-end : goal.slice_bounds-new_addr-end

@@ -2,7 +2,6 @@
 -- Assumes nothing.
 use mathlib.Core.Path.{sym, ap}
 use Rattle.call_read.specs.Answer.{chosen_for}
-use borrow.Author.Rules.{rules}
 use Rattle.call_read.proofs.chosen_for.Goals as goal
 
 pub returns-in-Local : goal.returns-in-Local

@@ -4,7 +4,6 @@ use mathlib.Core.Path.{ap, ◌∙◌}
 use mathlib.Core.List.{List}
 use Rattle.lists.specs.Lists.{put}
 use Rattle.call_read.specs.Laws.{at-end, found_at}
-use borrow.Author.Rules.{rules}
 use Rattle.call_read.proofs.copy_route.Goals as goal
 
 pub overflow_mul-at : goal.overflow_mul-at

@@ -8,7 +8,6 @@ use Rattle.definition.specs.Words.{state_of}
 use Rattle.definition.specs.Step.{listing_room, semantics, dump4_call}
 use Rattle.definition.specs.Reference.Source.{dump4}
 use Rattle.call_read.specs.Laws.{passed, lent, writes_refused, writes_passed, listed-refused, listed_answer}
-use borrow.Author.Rules.{rules}
 use Rattle.call_read.proofs.dump4.Goals as goal
 
 pub returns-then-n-ne0 : goal.returns-then-n-ne0

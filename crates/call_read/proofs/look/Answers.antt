@@ -6,7 +6,6 @@ use Rattle.rows_lookup.specs.Flow.{flow_of}
 use Rattle.rows_lookup.specs.Answer.{found_by, placed}
 use Rattle.definition.specs.Words.{route_count}
 use Rattle.call_read.specs.Laws.{look-row, look-refused}
-use borrow.Author.Rules.{rules}
 use Rattle.call_read.proofs.look.Goals as goal
 
 pub copy_route-requires : goal.copy_route-requires
@@ -15,9 +14,12 @@ copy_route-requires c =
 
 pub returns-in-At : goal.returns-in-At
 returns-in-At c =
-    let b = subst (placed (route_count c.args.s.now)) c.in-At.is c.lookup4_in-looked.ensures.0 in record { value = λ st h. (look-row c.args.s.now st h (flow_of c.args.f) c.in-At.i c.args.row.now (put 0 (get_or st.routes c.in-At.i []) c.args.row.now) (get_or st.routes c.in-At.i []) b
-          (ap (found_by st.routes) (sym c.in-At.is) ∙ c.lookup4_in-looked.ensures.1 st h) refl refl).0; row_after = λ st h. (look-row c.args.s.now st h (flow_of c.args.f) c.in-At.i c.args.row.now _ (get_or st.routes c.in-At.i []) b
-          (ap (found_by st.routes) (sym c.in-At.is) ∙ c.lookup4_in-looked.ensures.1 st h) refl (c.copy_route.ensures st h)).1 }
+    let b = subst (placed (route_count c.args.s.now)) c.in-At.is c.lookup4_in-looked.ensures.0 in record {
+      value = λ st h. (look-row c.args.s.now st h (flow_of c.args.f) c.in-At.i c.args.row.now (put 0 (get_or st.routes c.in-At.i []) c.args.row.now) (get_or st.routes c.in-At.i []) b
+          (ap (found_by st.routes) (sym c.in-At.is) ∙ c.lookup4_in-looked.ensures.1 st h) refl refl).0;
+      row_after = λ st h. (look-row c.args.s.now st h (flow_of c.args.f) c.in-At.i c.args.row.now _ (get_or st.routes c.in-At.i []) b
+          (ap (found_by st.routes) (sym c.in-At.is) ∙ c.lookup4_in-looked.ensures.1 st h) refl (c.copy_route.ensures st h)).1;
+    }
 
 pub returns-in-Refused : goal.returns-in-Refused
 returns-in-Refused c =

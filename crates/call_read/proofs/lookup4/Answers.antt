@@ -7,7 +7,6 @@ use Rattle.definition.specs.Words.{state_of}
 use Rattle.definition.specs.Reference.Lookup.{Flow, lookup4}
 use Rattle.call_read.specs.Laws.{lent, valid, passed, looking, look-no, look-yes}
 use Rattle.definition.specs.Step.{lookup4_call}
-use borrow.Author.Rules.{rules}
 use Rattle.call_read.proofs.lookup4.Goals as goal
 
 pub returns-then-n-ne0 : goal.returns-then-n-ne0

@@ -8,7 +8,6 @@ use Rattle.definition.specs.Words.{state_of}
 use Rattle.definition.specs.Reference.Lookup.{Flow, lookup4_flow}
 use Rattle.call_read.specs.Laws.{checked_as, lent, valid, passed, looking, look-no, look-yes}
 use Rattle.definition.specs.Step.{unless, lookup4_flow_call}
-use borrow.Author.Rules.{rules}
 use Rattle.call_read.proofs.lookup4_flow.Goals as goal
 
 pub returns-then-n-ne0 : goal.returns-then-n-ne0

@@ -5,7 +5,6 @@ use Rattle.definition.specs.Call as Call
 use Rattle.definition.specs.Words.{state_of}
 use Rattle.call_read.specs.Laws.{checked_as, lent, valid, passed, says-refused, says-passed, chosen-refused, chosen-answer}
 use Rattle.definition.specs.Step.{semantics, select4_call}
-use borrow.Author.Rules.{rules}
 use Rattle.call_read.proofs.select4.Goals as goal
 
 pub returns-then-n-ne0 : goal.returns-then-n-ne0

@@ -6,7 +6,6 @@ use Rattle.definition.specs.Words.{state_of}
 use Rattle.definition.specs.Preservation.Fit.{length-route}
 use Rattle.call_read.specs.Laws.{checked_as, lent, valid, passed, says-refused, says-passed, chosen-refused, chosen-answer}
 use Rattle.definition.specs.Step.{semantics, source4_call}
-use borrow.Author.Rules.{rules}
 use Rattle.call_read.proofs.source4.Goals as goal
 
 pub returns-then-n-ne0 : goal.returns-then-n-ne0

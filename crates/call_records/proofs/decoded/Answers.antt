@@ -8,7 +8,6 @@ use Rattle.row_address.specs.Words.{row_of}
 use Rattle.state.specs.Represents.{sizes-valid}
 use Rattle.state_read.specs.Parts.{ready_addresses, of_addresses}
 use Rattle.call_records.specs.Laws.{few}
-use borrow.Author.Rules.{rules}
 use Rattle.call_records.proofs.decoded.Goals as goal
 
 pub address_count-requires : goal.address_count-requires

@@ -1,6 +1,5 @@
 -- `call_records::primary` meets its contract.
 -- Assumes nothing.
-use borrow.Author.Rules.{rules}
 use Rattle.call_records.proofs.primary.Goals as goal
 
 pub returns-then-secondary-best : goal.returns-then-secondary-best

@@ -9,7 +9,6 @@ use Rattle.row_address.specs.Words.{row_of}
 use Rattle.definition.specs.Reference.Addresses.{primary_of}
 use Rattle.state.specs.Represents.{sizes-valid}
 use Rattle.call_records.specs.Laws.{few}
-use borrow.Author.Rules.{rules}
 use Rattle.call_records.proofs.primary_of_in.Goals as goal
 
 pub address_count-requires : goal.address_count-requires

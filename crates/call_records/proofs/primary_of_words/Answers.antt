@@ -4,7 +4,6 @@ use mathlib.Core.Path.{refl, sym}
 use Rattle.definition.specs.Words.{state_of}
 use Rattle.call_read.specs.Laws.{checked_as, lent, valid, passed, says-refused, says-passed, sourced_refused, sourced_answer}
 use Rattle.call_records.specs.Call.{of_primary, primary_of_call}
-use borrow.Author.Rules.{rules}
 use Rattle.call_records.proofs.primary_of_words.Goals as goal
 
 pub returns-then-n-ne0 : goal.returns-then-n-ne0

@@ -1,7 +1,6 @@
 -- `call_records::primary_step` meets its contract.
 -- Assumes nothing.
 use mathlib.Core.Path.{◌∙◌}
-use borrow.Author.Rules.{rules}
 use Rattle.call_records.specs.Laws.{step_primary, step_other}
 use Rattle.call_records.proofs.primary_step.Goals as goal
 

@@ -3,15 +3,12 @@
 use Prim.Native.Nat.{ℕ, ◌-◌, ◌≤◌, ◌<◌, zero-le}
 use native.Mathlib.Omega.{arith}
 use mathlib.Core.Path.{◌≡◌, refl, ap, ◌∙◌}
-use mathlib.Core.List.{List, map}
+use mathlib.Core.List.{map}
 use lib.Dec.{lit<}
 use lib.ListN.{length, take, length-set}
 use lib.Seq.{take_all}
-use borrow.Author.Rules.{rules}
-use Rattle.lists.specs.Lists.{Row}
-use Rattle.lists.specs.Laid.{Laid, laid-part}
+use Rattle.lists.specs.Laid.{laid-part}
 use Rattle.lists.specs.Pass.{part-fit, laid-rows}
-use Rattle.layout.specs.Address.{fit_address}
 use Rattle.row_address.specs.Words.{row_of}
 use Rattle.call_records.specs.Laws.{read_more}
 use Rattle.call_records.proofs.read.Goals as goal

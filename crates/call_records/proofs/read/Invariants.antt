@@ -1,19 +1,13 @@
 -- `call_records::read` meets its contract. The invariant: the rows before place i are read back from the records.
 -- Assumes nothing.
-use Prim.Native.Nat.{ℕ, ◌-◌, ◌≤◌, ◌<◌, zero-le}
-use native.Mathlib.Omega.{arith}
-use mathlib.Core.Path.{◌≡◌, refl, ap, ◌∙◌}
+use Prim.Native.Nat.{◌-◌, ◌≤◌}
+use mathlib.Core.Path.{◌≡◌}
 use mathlib.Core.List.{List, map}
-use lib.Dec.{lit<}
-use lib.ListN.{length, take, length-set}
-use lib.Seq.{take_all}
-use borrow.Author.Rules.{rules}
+use lib.ListN.{length, take}
 use Rattle.lists.specs.Lists.{Row}
-use Rattle.lists.specs.Laid.{Laid, laid-part}
-use Rattle.lists.specs.Pass.{part-fit, laid-rows}
+use Rattle.lists.specs.Laid.{Laid}
 use Rattle.layout.specs.Address.{fit_address}
 use Rattle.row_address.specs.Words.{row_of}
-use Rattle.call_records.specs.Laws.{read_more}
 use Rattle.call_records.proofs.read.Given as goal
 
 abbrev pub invariant-loop-i : goal.invariant-loop-i

@@ -10,7 +10,6 @@ use Rattle.definition.specs.Reference.Source.{select4}
 use Rattle.rows_source.specs.Selected.{wanted}
 use Rattle.state.specs.Represents.{sizes-valid}
 use Rattle.call_records.specs.Laws.{few}
-use borrow.Author.Rules.{rules}
 use Rattle.call_records.proofs.select4_in.Goals as goal
 
 pub address_count-requires : goal.address_count-requires

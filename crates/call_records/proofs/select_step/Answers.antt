@@ -1,7 +1,6 @@
 -- `call_records::select_step` meets its contract.
 -- Assumes nothing.
 use mathlib.Core.Path.{◌∙◌}
-use borrow.Author.Rules.{rules}
 use Rattle.call_records.specs.Laws.{step-near, step-fit, step-unfit}
 use Rattle.call_records.proofs.select_step.Goals as goal
 

@@ -4,7 +4,6 @@ use mathlib.Core.Path.{sym, ap, ◌∙◌}
 use Rattle.call_reply.specs.Answer.{reply_from}
 use Rattle.call_message.specs.Answer.{asked_by}
 use Rattle.call_message.specs.declared.Asked.{Asked}
-use borrow.Author.Rules.{rules}
 use Rattle.call_reply.proofs.asked.Goals as goal
 
 pub returns-in-Refused : goal.returns-in-Refused

@@ -5,7 +5,6 @@ use mathlib.Core.Path.{sym, ap, ◌∙◌}
 use Rattle.call_reply.specs.Answer.{reply_from}
 use Rattle.call_change.specs.Answer.{done_by}
 use Rattle.call_change.specs.declared.Done.{Done}
-use borrow.Author.Rules.{rules}
 use Rattle.call_reply.proofs.done.Goals as goal
 
 pub overflow_cast-n : goal.overflow_cast-n

@@ -5,7 +5,6 @@ use mathlib.Core.Path.{sym, ap, ◌∙◌}
 use Rattle.call_reply.specs.Answer.{reply_from}
 use Rattle.call_read.specs.Answer.{local_by}
 use Rattle.call_read.specs.declared.Local.{Local}
-use borrow.Author.Rules.{rules}
 use Rattle.call_reply.proofs.local.Goals as goal
 
 pub returns-in-Refused : goal.returns-in-Refused

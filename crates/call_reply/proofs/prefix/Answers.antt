@@ -3,7 +3,6 @@
 use mathlib.Core.Path.{sym, ap, ◌∙◌}
 use Rattle.netmask.specs.declared.Prefix.{Prefix}
 use Rattle.call_reply.specs.Answer.{reply_from, prefix_by}
-use borrow.Author.Rules.{rules}
 use Rattle.call_reply.proofs.prefix.Goals as goal
 
 pub returns-in-Refused : goal.returns-in-Refused

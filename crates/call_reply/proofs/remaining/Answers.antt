@@ -4,7 +4,6 @@ use mathlib.Core.Path.{sym, ap, ◌∙◌}
 use Rattle.call_reply.specs.Answer.{reply_of}
 use Rattle.row_address.specs.Row.{reply_of as row-address·reply_of}
 use Rattle.row_address.specs.declared.LeftReply.{LeftReply}
-use borrow.Author.Rules.{rules}
 use Rattle.call_reply.proofs.remaining.Goals as goal
 
 pub returns-in-Refused : goal.returns-in-Refused

@@ -4,7 +4,6 @@ use mathlib.Core.Path.{sym, ap, ◌∙◌}
 use Rattle.call_reply.specs.Answer.{reply_from}
 use Rattle.call_read.specs.Answer.{sourced_by}
 use Rattle.call_read.specs.declared.Sourced.{Sourced}
-use borrow.Author.Rules.{rules}
 use Rattle.call_reply.proofs.sourced.Goals as goal
 
 pub returns-in-Refused : goal.returns-in-Refused

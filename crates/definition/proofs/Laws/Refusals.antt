@@ -1,7 +1,7 @@
 -- What a refusal leaves (document 01, "When a call says no", the last column): its number and nothing else; with 200 to 203 every
 -- word; with another number every word too, but for add_route4, whose table is listed by then.
 -- Assumes nothing.
-use Rattle.std.specs.Prelude.{ℕ, zero, suc, ◌≤◌, ◌<◌, ◌≡◌, refl, Bool, true, false, cond, ◌&&◌, List, ◌≢◌, eqb, length}
+use Rattle.std.specs.Prelude.{ℕ, zero, suc, ◌≤◌, ◌<◌, ◌≡◌, refl, Bool, true, false, ◌&&◌, List, ◌≢◌, eqb, length}
 use Rattle.std.proofs.Common.{sym, ap, ◌∙◌, arith, le-leb}
 use Rattle.std.proofs.lemmas.Bool.{false≢true, eqb-false}
 use Rattle.lists.specs.Lists.{Row}
@@ -13,7 +13,7 @@ use Rattle.definition.specs.Call.{Call, Reply, refusal}
 use Rattle.definition.specs.Reference.Insert.{create4}
 use Rattle.definition.specs.Reference.Addresses.{Outcome, goes, refused}
 use Rattle.definition.specs.Reference.Routes.{table_named}
-use Rattle.definition.specs.Step.{Result, Checks, Action, changes, replies, lists, Semantics, checks, checked, unless, unfit, result, roomy, outcome, semantics, step}
+use Rattle.definition.specs.Step.{Result, Checks, Action, changes, replies, lists, checks, checked, unless, unfit, roomy, outcome, semantics, step}
 pub use Rattle.definition.specs.Preservation.Refused.{Leaves, add_v4-leaves, del_v4-leaves, del_route4-leaves, added-leaves}
 use Rattle.definition.proofs.Preservation.Change.{Preserving, Acts, lawful}
 use Rattle.definition.proofs.Preservation.Step.{acted, perform-case, checked-held, checked-sound, leaves-decode}

@@ -1,12 +1,11 @@
 -- The calls on states, without limits: what a call on well-formed words replies and leaves, unless it answers 203.
-use Rattle.std.specs.Prelude.{ℕ, ◌≡◌, refl, Bool, true, false, cond, not, ◌&&◌, List, eqb, length}
+use Rattle.std.specs.Prelude.{ℕ, ◌≡◌, refl, Bool, true, cond, not, List, eqb, length}
 use Rattle.std.proofs.lemmas.Bool.{false≢true}
 use Rattle.std.proofs.Common.{eq-eqb, eqb-true}
 use Rattle.lists.specs.Bools.{test-case}
 use Rattle.definition.specs.State.{State}
-use Rattle.definition.specs.Words.{state_size, state_of, formed}
+use Rattle.definition.specs.Words.{state_size, state_of}
 use Rattle.definition.specs.Call.{Call, Reply, refusal, written}
-use Rattle.definition.specs.Reference.Addresses.{Outcome}
 use Rattle.definition.specs.Step.{Result, Checks, Action, changes, replies, lists, Semantics, checks, checked, answered, result, roomy, changing, reading, act, semantics, step}
 use Rattle.definition.proofs.Preservation.Change.{Passes, Acts, lawful}
 use Rattle.definition.proofs.Preservation.Step.{Held, held-leaves, decode-leaves, good-held, good-result, checks-zero}

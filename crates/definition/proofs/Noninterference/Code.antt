@@ -11,7 +11,7 @@ use Rattle.definition.specs.Call.{Call, Reply}
 use Rattle.definition.specs.Step.{step}
 use Rattle.definition.specs.Noninterference.Statement.{Choice, struck, Agree, empty_words, after, spacious, compared, observed, View, view}
 use Rattle.definition.proofs.Noninterference.Theorem.{two_runs}
-use Rattle.definition.specs.Noninterference.Public.{Made, Seen, Ran, read_back, answers, spared, Equal, CodeRuns}
+use Rattle.definition.specs.Noninterference.Public.{Seen, Ran, read_back, answers, spared, Equal, CodeRuns}
 use Rattle.definition.proofs.Noninterference.ReadBack.{read_back_lem}
 
 -- ---- what is seen, read back, is what `step` gives

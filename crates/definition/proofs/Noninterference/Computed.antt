@@ -1,6 +1,6 @@
 -- A run on words is a run on states, so what is computed on states holds of the words.
 use Rattle.std.specs.Prelude.{ℕ, ◌≡◌, refl, Bool, true, cond, ◌&&◌, List, [], ◌∷◌}
-use Rattle.std.proofs.Common.{sym, ◌∙◌, ap, ap₂}
+use Rattle.std.proofs.Common.{◌∙◌, ap, ap₂}
 use Rattle.definition.specs.State.{State, empty}
 use Rattle.definition.specs.Words.{state_of}
 use Rattle.definition.specs.Call.{Call, Reply}

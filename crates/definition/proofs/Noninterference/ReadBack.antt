@@ -1,7 +1,7 @@
 -- What is read from the buffer are the definition's rows, whatever the words: of a call's kind of row, as many as its numbers say, and
 -- no more than the buffer has room for.
 -- Assumes nothing.
-use Rattle.std.specs.Prelude.{ℕ, ◌+◌, ◌≤◌, ◌≡◌, refl, true, false, List, ◌++◌, length, drop}
+use Rattle.std.specs.Prelude.{ℕ, ◌+◌, ◌≤◌, ◌≡◌, refl, true, List, ◌++◌, length, drop}
 use Rattle.std.proofs.Common.{arith, ap, ◌∙◌, leb-true}
 use Rattle.std.proofs.lemmas.Bool.{false≢true}
 use Rattle.lists.specs.Lists.{Row, flat, put, chop}

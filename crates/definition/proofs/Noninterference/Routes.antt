@@ -14,12 +14,12 @@ use Rattle.layout.specs.Route.{table, prefsrc, prefsrc_present}
 use Rattle.layout.specs.Request.{nlm_flags}
 use Rattle.definition.specs.State.{State}
 use Rattle.definition.specs.Reference.Lookup.{main_table, local_table, together, listed}
-use Rattle.definition.specs.Reference.Insert.{Insertion, Inserted, placed, nothing, create4, insert4}
+use Rattle.definition.specs.Reference.Insert.{Insertion, Inserted, placed, nothing, create4}
 use Rattle.definition.specs.Reference.Routes.{Reached, by, unreached, table_named, bad_prefix, form_check, onlink_check, to_gateway, gateway_route, gateway4, reach_check, valid_prefsrc4, asked_route, inserted_as, routed, added_by, selects, deleted_route, del_route4_request}
 use Rattle.definition.specs.Reference.Source.{below, table_order, dump4}
 use Rattle.definition.specs.Noninterference.Statement.{Choice, outside}
 use Rattle.definition.specs.Noninterference.Projection.{unchosen, without, unchosen_as, Tandem, both_go, both-refuse, tandem_cond}
-use Rattle.definition.proofs.Noninterference.Tables.{local_open, main_open, answer-consistent, together_open, lookup_in-consistent, addr_type4-consistent, listed-consistent, create4-consistent, kept_in, insert4-consistent, removal_consistent}
+use Rattle.definition.proofs.Noninterference.Tables.{local_open, main_open, answer-consistent, together_open, lookup_in-consistent, addr_type4-consistent, listed-consistent, create4-consistent, kept_in, removal_consistent}
 
 module _ (chosen : ℕ → Bool) (choice : Choice chosen) where
   -- table 0 is 254

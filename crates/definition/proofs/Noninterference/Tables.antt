@@ -12,7 +12,7 @@ use Rattle.lists.specs.All.{eq_row-true}
 use Rattle.lists.specs.Keep.{Implies, keep_append, keep-keep, keep-within, any-within, first-within, remove_first-within, replace_first-within}
 use Rattle.layout.specs.Route.{table, before, alike}
 use Rattle.definition.specs.State.{State, with_routes}
-use Rattle.definition.specs.Reference.Lookup.{Flow, longest, fits, answer, together, lookup_in, type_set, addr_type4, local4, listed, no_route, flow_to, main_table, local_table, default_table}
+use Rattle.definition.specs.Reference.Lookup.{Flow, longest, fits, answer, together, lookup_in, type_set, addr_type4, local4, listed, flow_to, main_table, local_table, default_table}
 use Rattle.definition.specs.Reference.Insert.{Inserted, placed, nothing, add_table, list_table, create4, ahead, behind, insert4, inserted, kernel_add4, matches, removed, kernel_del4, kernel_flags}
 use Rattle.definition.specs.Noninterference.Statement.{Choice, outside}
 use Rattle.definition.specs.Noninterference.Projection.{unchosen, without, unchosen_as, unchosen_like, Mirrors, StepConsistent}

@@ -1,6 +1,6 @@
 -- The two conditions of unwinding, call by call: step consistency (one that isn't struck goes the same way without the chosen
 -- tables), and local respect (one that is struck changes nothing outside them).
-use Rattle.std.specs.Prelude.{ℕ, ◌≡◌, Bool, true, false, cond, ◌&&◌, ◌||◌, List, [], ◌∷◌, eqb}
+use Rattle.std.specs.Prelude.{ℕ, ◌≡◌, Bool, true, false, cond, ◌&&◌, List, [], ◌∷◌, eqb}
 use Rattle.std.proofs.Math.Path.{refl, ap}
 use Rattle.std.proofs.Common.{sym, ◌∙◌}
 use Rattle.std.proofs.Math.Bool.{or-false}
@@ -12,14 +12,13 @@ use Rattle.life.specs.Life.{allowance}
 use Rattle.layout.specs.Route.{table}
 use Rattle.definition.specs.State.{State, Out}
 use Rattle.definition.specs.Words.{ordered}
-use Rattle.definition.specs.Call.{Call, Reply, valued, written, found_row}
+use Rattle.definition.specs.Call.{Call, valued, written, found_row}
 use Rattle.definition.specs.Reference.Lookup.{lookup4, lookup4_flow, flow_to}
-use Rattle.definition.specs.Reference.Addresses.{Outcome, goes, add_v4, up, down}
-use Rattle.definition.specs.Reference.Removal.{del_v4, expire}
-use Rattle.definition.specs.Reference.Routes.{del_route4_request, added_by}
+use Rattle.definition.specs.Reference.Addresses.{Outcome, goes}
+use Rattle.definition.specs.Reference.Routes.{added_by}
 use Rattle.definition.specs.Reference.Insert.{Insertion, insert4}
-use Rattle.definition.specs.Reference.Source.{dump4, source_for, or_value, source}
-use Rattle.definition.specs.Step.{Checks, Action, changes, replies, lists, alters, answered, Semantics, semantics}
+use Rattle.definition.specs.Reference.Source.{source_for, or_value, source}
+use Rattle.definition.specs.Step.{Action, changes, replies, lists, alters, answered, semantics}
 use Rattle.definition.specs.Noninterference.Statement.{Choice, struck, outside, comparing}
 use Rattle.definition.specs.Noninterference.Projection.{without, result, StepConsistent, Tandem, both_go, both-refuse}
 use Rattle.definition.proofs.Noninterference.Tables.{lookup_in-consistent, local4-consistent, insert4-consistent}

@@ -11,7 +11,7 @@ use Rattle.layout.specs.Route.{alike, kind, scope, gateway, gateway_present, pre
 use Rattle.layout.specs.Request.{fit_add_route4, metrics_error, oif, up_at_add_route4, nlm_flags, replace_asked}
 use Rattle.definition.specs.State.{State}
 use Rattle.definition.specs.Step.{unfit}
-use Rattle.definition.specs.Reference.Lookup.{Flow, Found, route, answer, together, lookup_in, ruling, settled, rejects, listed, addr_type4, default_table, main_table, local_table, unicast_kind, local_kind}
+use Rattle.definition.specs.Reference.Lookup.{Flow, Found, answer, together, lookup_in, ruling, settled, rejects, listed, addr_type4, default_table, main_table, local_table, unicast_kind, local_kind}
 use Rattle.definition.specs.Reference.Insert.{create4, Insertion, insert4, Inserted, placed, nothing, is_row, excl_flag, replace_flag, create_flag, append_flag}
 use Rattle.definition.specs.Reference.Addresses.{Outcome, goes, refused, added_over, add_v4, same_address, link_scope, host_scope}
 use Rattle.definition.specs.Reference.Removal.{deletes, deleted_at, del_v4}

@@ -15,7 +15,7 @@ use Rattle.definition.specs.State.{State, Sizes, Out, sizes, most, becomes, stay
 use Rattle.definition.specs.Words.{within}
 use Rattle.definition.specs.Reference.Lookup.{main_table, local_table, local_kind, listed, local4}
 use Rattle.definition.specs.Reference.Insert.{add_table, list_table, create4, insert4, Inserted, placed, nothing, inserted, kernel_add4, kernel_del4, matches, removed, kernel_flags}
-use Rattle.definition.specs.Reference.Addresses.{goes, refused, candidates, install, place4, new_address, added_over, add_v4, same_address, loopback, out_of, up, down, host_scope}
+use Rattle.definition.specs.Reference.Addresses.{goes, candidates, install, place4, new_address, added_over, add_v4, same_address, loopback, out_of, up, down, host_scope}
 use Rattle.definition.specs.Reference.Removal.{of_kind, unwanted, dependent_on, fall, disable, remove_one, gone_with, remove_v4, deletes, deleted_at, del_v4, due, deprecates, deprecate, deprecate_due, passes, expire}
 use Rattle.definition.specs.Preservation.Encode.{Admissible}
 use Rattle.definition.specs.Preservation.Keeps.{Covers}

@@ -12,12 +12,11 @@ use Rattle.lists.specs.Count.{tick, tick-one, tick-none, tick-most, count, count
 use Rattle.kind.specs.Kind.{error_of}
 use Rattle.layout.specs.Route.{fit_route, table, len, kind}
 use Rattle.definition.specs.State.{State}
-use Rattle.definition.specs.Words.{none_twice, well_formed, decode}
-use Rattle.definition.proofs.Preservation.Numbers.{OfFound}
-use Rattle.definition.specs.Reference.Source.{below, table_order, dump4, select4, source4, present}
+use Rattle.definition.specs.Words.{none_twice}
+use Rattle.definition.specs.Reference.Source.{below, table_order, dump4}
 use Rattle.definition.specs.Preservation.Fit.{Invariant, fit-state, sized-routes}
 use Rattle.definition.specs.Preservation.Encode.{Admissible}
-use Rattle.definition.specs.Reference.Lookup.{Flow, Found, route, no_route, fits, flow_to, lookup4, lookup4_flow, longer, longest, answer, together, lookup_in, ruling, settled, rejects, listed, default_table, main_table}
+use Rattle.definition.specs.Reference.Lookup.{Flow, Found, route, no_route, fits, longer, longest, answer, together, lookup_in, ruling, settled, rejects, listed, default_table, main_table}
 
 -- ---- dump4
 below-count : (m n : ℕ) → count (eqb n) (below m) ≤ tick (ltb n m)

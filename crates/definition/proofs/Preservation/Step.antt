@@ -6,15 +6,15 @@ use Rattle.std.proofs.lemmas.Bool.{false≢true, not-true}
 use Rattle.lists.specs.Lists.{Row, zeros}
 use Rattle.lists.specs.Bools.{and_left, and_right, and_iff, cond-case, test-case}
 use Rattle.lists.specs.Rows.{sized, length-zeros, zeros_append}
-use Rattle.definition.specs.State.{State, Sizes, Out, sizes, empty}
+use Rattle.definition.specs.State.{State, Sizes, sizes, empty}
 use Rattle.definition.specs.Words.{within, base_size, behind_size, state_size, encode, decode, well_formed, base, state_of, formed, leaves}
-use Rattle.definition.specs.Call.{Call, refusal, written}
+use Rattle.definition.specs.Call.{Call, written}
 use Rattle.definition.specs.Reference.Addresses.{Outcome, goes, refused}
 use Rattle.definition.specs.Step.{Result, refuses, Checks, Action, changes, replies, lists, alters, Semantics, checks, checked, unfit, result, roomy, outcome, changing, reading, act, perform, semantics, step}
 use Rattle.definition.specs.Preservation.Fit.{state-fit}
 use Rattle.definition.specs.Preservation.Encode.{Admissible, length-encode, well_formed-encode, decode-encode, encode-decode, good-decode, good-empty, encode-empty}
-use Rattle.definition.specs.Preservation.Keeps.{Covers, Kept, KeptOutcome}
-use Rattle.definition.proofs.Preservation.Change.{Passes, Preserving, Changes, Acts, Lawful, lawful}
+use Rattle.definition.specs.Preservation.Keeps.{Covers, KeptOutcome}
+use Rattle.definition.proofs.Preservation.Change.{Passes, Preserving, Changes, Acts, lawful}
 
 -- ---- well-formed words
 pub record Held (w : List ℕ) : Type 0 where

@@ -5,7 +5,7 @@ use Rattle.lists.specs.Lists.{Row, all, flat, put, chop}
 use Rattle.definition.specs.Words.{state_of}
 use Rattle.definition.specs.Call.{Call, Reply, Numbers, numbers, replied}
 use Rattle.definition.specs.Step.{Buffer, unlent, for_events, for_listing, for_row, semantics, step}
-use Rattle.definition.specs.Noninterference.Statement.{Choice, struck, Agree, empty_words, compared, View, view}
+use Rattle.definition.specs.Noninterference.Statement.{Choice, struck, Agree, empty_words, compared, view}
 
 -- ---- one call
 -- a buffer as long as the call says; where it takes none, any words

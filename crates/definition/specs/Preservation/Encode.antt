@@ -8,7 +8,7 @@ use Rattle.std.proofs.Math.Bool.{true}
 use mathlib.Core.List.{List, [], ◌∷◌, ◌++◌, append_assoc, append-nil}
 use Rattle.std.proofs.Math.ListN.{length, drop, length-append}
 use Rattle.lists.specs.Lists.{all_zero, flat, zeros, pad, span, chop}
-use Rattle.lists.specs.Bools.{and_both, and_iff}
+use Rattle.lists.specs.Bools.{and_iff}
 use Rattle.lists.specs.Rows.{length-pad, length-flat, chop-pad, all_zero-pad, span-past, pad-chop, pad-take, length-chop, length-span, pad_nil, zeros_append, zeros_cons}
 use Rattle.definition.specs.State.{State, sizes, empty}
 use Rattle.definition.specs.Preservation.Fit.{Invariant, fit-state, sized-addresses, sized-routes}

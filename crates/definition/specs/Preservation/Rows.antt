@@ -1,6 +1,6 @@
 -- The rows that the reference makes are fit.
 -- Assumes nothing.
-use Rattle.std.specs.Prelude.{ℕ, suc, ◌-◌, ◌*◌, ◌/◌, ◌%◌, ◌^◌, ◌≤◌, ◌<◌, ◌≡◌, refl, Bool, true, false, cond, not, ◌&&◌, ◌||◌, List, [], ◌∷◌, ◌++◌, eqb, leb, ltb, length, take, drop}
+use Rattle.std.specs.Prelude.{ℕ, suc, ◌-◌, ◌*◌, ◌/◌, ◌%◌, ◌^◌, ◌<◌, ◌≡◌, refl, Bool, true, false, cond, not, ◌&&◌, ◌||◌, List, [], ◌∷◌, ◌++◌, eqb, leb, ltb, length, take, drop}
 use Rattle.std.proofs.Common.{sym, ap, ◌∙◌, zero-add, arith, length-append, length-take, length-drop, eqb-true, eq-eqb}
 use Rattle.std.proofs.Math.Nat.{zero-mod, add-mul-mod_self_right, mod-one}
 use Rattle.std.proofs.lemmas.Bool.{eqb-false, not-false}
@@ -21,7 +21,7 @@ use Rattle.definition.specs.Reference.Lookup.{local_kind, broadcast_kind}
 use Rattle.definition.specs.Reference.Addresses.{names_broadcast, own_network, link_scope, host_scope, primary_of, kernel_route, local_route, prefix_route, up_routes, candidates, only, set_life, asked, as_secondary, changed_to}
 use Rattle.definition.specs.Reference.Removal.{deprecate}
 use Rattle.definition.specs.Reference.Routes.{form_check, bad_prefix, asked_route, mark, then, refuse, dead_flags, unsupported, onlink_flag}
-use Rattle.definition.specs.Preservation.Fit.{FitFields, fields_address, fields_request, address_fields, length-address, length-route}
+use Rattle.definition.specs.Preservation.Fit.{fields_address, fields_request, address_fields, length-address, length-route}
 
 -- ---- addresses
 -- other flags, priority, lifetimes and stamps, and a byte for the proto, leave a row fit

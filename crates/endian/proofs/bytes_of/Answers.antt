@@ -1,15 +1,14 @@
 -- `endian::bytes_of` meets its contract: after i iterations the bytes of the first i words are put.
 -- Assumes nothing.
-use Prim.Native.Nat.{ℕ, ◌-◌, ◌≤◌}
-use mathlib.Core.Path.{◌≡◌, refl, ap, ◌∙◌}
+use Prim.Native.Nat.{ℕ, ◌-◌}
+use mathlib.Core.Path.{refl, ap, ◌∙◌}
 use mathlib.Core.List.{List}
 use native.Mathlib.Omega.{arith}
-use lib.ListN.{length, take, length-set}
+use lib.ListN.{length-set}
 use lib.Seq.{take_all}
 use Rattle.lists.specs.Lists.{put}
 use Rattle.endian.specs.Endian.{bytes_of}
 use Rattle.endian.specs.Laws.{bytes-none, four-more-bytes}
-use borrow.Author.Rules.{rules}
 use Rattle.endian.proofs.bytes_of.Goals as goal
 
 pub loop-i-init : goal.loop-i-init

@@ -1,15 +1,10 @@
 -- `endian::bytes_of` meets its contract: after i iterations the bytes of the first i words are put.
 -- Assumes nothing.
-use Prim.Native.Nat.{ℕ, ◌-◌, ◌≤◌}
-use mathlib.Core.Path.{◌≡◌, refl, ap, ◌∙◌}
-use mathlib.Core.List.{List}
-use native.Mathlib.Omega.{arith}
-use lib.ListN.{length, take, length-set}
-use lib.Seq.{take_all}
+use Prim.Native.Nat.{◌-◌, ◌≤◌}
+use mathlib.Core.Path.{◌≡◌}
+use lib.ListN.{length, take}
 use Rattle.lists.specs.Lists.{put}
 use Rattle.endian.specs.Endian.{bytes_of}
-use Rattle.endian.specs.Laws.{bytes-none, four-more-bytes}
-use borrow.Author.Rules.{rules}
 use Rattle.endian.proofs.bytes_of.Given as goal
 
 abbrev pub invariant-loop-i : goal.invariant-loop-i

@@ -1,6 +1,5 @@
 -- `endian::word` meets its contract: the four bytes, each by its place.
 -- Assumes nothing.
-use borrow.Author.Rules.{rules}
 use Rattle.endian.proofs.word.Goals as goal
 
 pub returns : goal.returns

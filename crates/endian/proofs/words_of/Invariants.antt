@@ -1,16 +1,10 @@
 -- `endian::words_of` meets its contract: after i iterations the first i words are put.
 -- Assumes nothing.
-use Prim.Native.Nat.{ℕ, ◌-◌, ◌/◌, ◌≤◌}
-use mathlib.Core.Path.{◌≡◌, refl, ap, ◌∙◌}
-use mathlib.Core.List.{List}
-use native.Mathlib.Omega.{arith}
-use lib.ListN.{length, take, set, length-set}
-use lib.Seq.{take_all}
+use Prim.Native.Nat.{◌-◌, ◌/◌, ◌≤◌}
+use mathlib.Core.Path.{◌≡◌}
+use lib.ListN.{length, take}
 use Rattle.lists.specs.Lists.{put}
-use Rattle.lists.specs.Put.{put-none}
 use Rattle.endian.specs.Endian.{words_of}
-use Rattle.endian.specs.Laws.{length-words_of, word_more}
-use borrow.Author.Rules.{rules}
 use Rattle.endian.proofs.words_of.Given as goal
 
 abbrev pub invariant-loop-i : goal.invariant-loop-i

@@ -3,7 +3,6 @@
 use mathlib.Core.Path.{sym}
 use native.Mathlib.Omega.{arith}
 use lib.Seq.{length-take-le}
-use borrow.Author.Rules.{rules}
 use Rattle.message_cases.proofs.replay_record.Goals as goal
 
 pub slice_bounds-replay_bytes-end : goal.slice_bounds-replay_bytes-end

@@ -1,7 +1,6 @@
 -- `message_cases::replay_records` ends: a record less is left with each turn.
 -- Assumes nothing.
 use Prim.Native.Nat.{◌-◌, ◌≤◌}
-use borrow.Author.Rules.{rules}
 use Rattle.message_cases.proofs.replay_records.Given as goal
 
 abbrev pub invariant-loop-i : goal.invariant-loop-i

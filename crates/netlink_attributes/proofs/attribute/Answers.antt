@@ -1,4 +1,3 @@
-use borrow.Author.Rules.{rules}
 use native.Mathlib.Omega.{arith}
 use Rattle.netlink_attributes.specs.StepLaws.{nothing, begins}
 use Rattle.netlink_attributes.proofs.attribute.Goals as goal

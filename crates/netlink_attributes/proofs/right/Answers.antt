@@ -1,9 +1,5 @@
-use borrow.Author.Rules.{rules}
-use Prim.Native.Nat.{◌-◌, ◌≤◌}
-use mathlib.Core.Path.{◌≡◌, refl, sym, ◌∙◌}
+use mathlib.Core.Path.{refl, sym, ◌∙◌}
 use native.Mathlib.Omega.{arith}
-use lib.ListN.{length, drop}
-use Rattle.netlink.specs.Attributes.{right}
 use Rattle.netlink_attributes.specs.StepLaws.{At, found, over, right-on, right_end}
 use Rattle.netlink_attributes.proofs.right.Goals as goal
 

@@ -1,10 +1,7 @@
-use borrow.Author.Rules.{rules}
 use Prim.Native.Nat.{◌-◌, ◌≤◌}
-use mathlib.Core.Path.{◌≡◌, refl, sym, ◌∙◌}
-use native.Mathlib.Omega.{arith}
+use mathlib.Core.Path.{◌≡◌}
 use lib.ListN.{length, drop}
 use Rattle.netlink.specs.Attributes.{right}
-use Rattle.netlink_attributes.specs.StepLaws.{At, found, over, right-on, right_end}
 use Rattle.netlink_attributes.proofs.right.Given as goal
 
 abbrev pub invariant-loop-next : goal.invariant-loop-next

@@ -1,11 +1,7 @@
-use borrow.Author.Rules.{rules}
 use Prim.Native.Nat.{◌-◌, ◌≤◌}
-use mathlib.Core.Path.{◌≡◌, refl, sym, ◌∙◌}
-use native.Mathlib.Omega.{arith}
+use mathlib.Core.Path.{◌≡◌}
 use lib.ListN.{length, drop}
-use borrow.Author.Tests.{not-true, not-false}
 use Rattle.netlink_attributes.specs.Steps.{right_nested}
-use Rattle.netlink_attributes.specs.StepLaws.{At, found, over, nested-more, nested-end}
 use Rattle.netlink_attributes.proofs.right_nested.Given as goal
 
 abbrev pub invariant-loop-code : goal.invariant-loop-code

@@ -1,9 +1,6 @@
-use borrow.Author.Rules.{rules}
-use Prim.Native.Nat.{◌-◌}
 use native.Mathlib.Omega.{arith}
-use lib.ListN.{length}
 use Rattle.netlink_attributes.specs.StepLaws.{At, found, over}
-use Rattle.netlink_attributes.specs.TableLaws.{Passed, begun, ended, further}
+use Rattle.netlink_attributes.specs.TableLaws.{begun, ended, further}
 use Rattle.netlink_attributes.proofs.table.Goals as goal
 
 pub loop-code-init : goal.loop-code-init

@@ -1,9 +1,6 @@
-use borrow.Author.Rules.{rules}
 use Prim.Native.Nat.{◌-◌}
-use native.Mathlib.Omega.{arith}
 use lib.ListN.{length}
-use Rattle.netlink_attributes.specs.StepLaws.{At, found, over}
-use Rattle.netlink_attributes.specs.TableLaws.{Passed, begun, ended, further}
+use Rattle.netlink_attributes.specs.TableLaws.{Passed}
 use Rattle.netlink_attributes.proofs.table.Given as goal
 
 abbrev pub invariant-loop-code : goal.invariant-loop-code

@@ -1,10 +1,5 @@
-use borrow.Author.Rules.{rules}
-use Prim.Native.Nat.{◌-◌, ◌≤◌}
-use mathlib.Core.Path.{◌≡◌, refl, sym, ◌∙◌}
+use mathlib.Core.Path.{refl, sym, ◌∙◌}
 use native.Mathlib.Omega.{arith}
-use lib.ListN.{length, drop}
-use Rattle.netlink.specs.Attributes.{attributes, last}
-use Rattle.netlink.specs.Reader.{given}
 use Rattle.netlink_attributes.specs.StepLaws.{At, found, over}
 use Rattle.netlink_refusal.specs.Laws.{given-here, given-on, given-end}
 use Rattle.netlink_refusal.proofs.has.Goals as goal

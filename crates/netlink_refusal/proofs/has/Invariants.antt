@@ -1,12 +1,8 @@
-use borrow.Author.Rules.{rules}
 use Prim.Native.Nat.{◌-◌, ◌≤◌}
-use mathlib.Core.Path.{◌≡◌, refl, sym, ◌∙◌}
-use native.Mathlib.Omega.{arith}
+use mathlib.Core.Path.{◌≡◌}
 use lib.ListN.{length, drop}
 use Rattle.netlink.specs.Attributes.{attributes, last}
 use Rattle.netlink.specs.Reader.{given}
-use Rattle.netlink_attributes.specs.StepLaws.{At, found, over}
-use Rattle.netlink_refusal.specs.Laws.{given-here, given-on, given-end}
 use Rattle.netlink_refusal.proofs.has.Given as goal
 
 abbrev pub invariant-loop-code : goal.invariant-loop-code

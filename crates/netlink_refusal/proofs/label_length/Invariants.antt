@@ -1,10 +1,7 @@
-use borrow.Author.Rules.{rules}
 use Prim.Native.Nat.{◌+◌, ◌-◌, ◌≤◌}
-use mathlib.Core.Path.{◌≡◌, ap}
-use native.Mathlib.Omega.{arith}
-use lib.ListN.{length, drop, drop_of_length-le}
+use mathlib.Core.Path.{◌≡◌}
+use lib.ListN.{length, drop}
 use Rattle.netlink.specs.Reader.{label}
-use Rattle.netlink_refusal.specs.Laws.{until-here, until-on}
 use Rattle.netlink_refusal.proofs.label_length.Given as goal
 
 abbrev pub invariant-loop-i : goal.invariant-loop-i

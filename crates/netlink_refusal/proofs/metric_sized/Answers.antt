@@ -1,4 +1,3 @@
-use borrow.Author.Rules.{rules}
 use Rattle.netlink_refusal.proofs.metric_sized.Goals as goal
 
 pub returns : goal.returns

@@ -1,4 +1,3 @@
-use borrow.Author.Rules.{rules}
 use mathlib.Core.Path.{sym, ap, ◌∙◌}
 use native.Mathlib.Omega.{arith}
 use Rattle.netlink.proofs.Exactly.{Headed}
@@ -21,10 +20,10 @@ returns-then-long-n c =
 pub returns-then-either : goal.returns-then-either
 returns-then-either c =
     let header : Headed c.args.m.now = record {
-  long = omega (arith, c.if-long-lt-HEADER.false);
-  covers = omega (arith, c.message_length-n.ensures, c.if-n-lt-HEADER.false);
-  ends = omega (arith, c.message_length-n.ensures, c.if-long-n.false);
-} in
+      long = omega (arith, c.if-long-lt-HEADER.false);
+      covers = omega (arith, c.message_length-n.ensures, c.if-n-lt-HEADER.false);
+      ends = omega (arith, c.message_length-n.ensures, c.if-long-n.false);
+    } in
     c.address_refusal.ensures
     ∙ ap (address_refusal c.args.m.now) c.message_length-n.ensures
     ∙ of_address c.args.m.now header (ap is_address (sym c.message_type-t.ensures) ∙ sym c.either.ensures ∙ c.if-either.true)
@@ -32,10 +31,10 @@ returns-then-either c =
 pub returns-then-either-2 : goal.returns-then-either-2
 returns-then-either-2 c =
     let header : Headed c.args.m.now = record {
-  long = omega (arith, c.if-long-lt-HEADER.false);
-  covers = omega (arith, c.message_length-n.ensures, c.if-n-lt-HEADER.false);
-  ends = omega (arith, c.message_length-n.ensures, c.if-long-n.false);
-} in
+      long = omega (arith, c.if-long-lt-HEADER.false);
+      covers = omega (arith, c.message_length-n.ensures, c.if-n-lt-HEADER.false);
+      ends = omega (arith, c.message_length-n.ensures, c.if-long-n.false);
+    } in
     c.route_refusal.ensures
     ∙ ap (route_refusal c.args.m.now) c.message_length-n.ensures
     ∙ of_route c.args.m.now header
@@ -45,10 +44,10 @@ returns-then-either-2 c =
 pub returns : goal.returns
 returns c =
     let header : Headed c.args.m.now = record {
-  long = omega (arith, c.if-long-lt-HEADER.false);
-  covers = omega (arith, c.message_length-n.ensures, c.if-n-lt-HEADER.false);
-  ends = omega (arith, c.message_length-n.ensures, c.if-long-n.false);
-} in
+      long = omega (arith, c.if-long-lt-HEADER.false);
+      covers = omega (arith, c.message_length-n.ensures, c.if-n-lt-HEADER.false);
+      ends = omega (arith, c.message_length-n.ensures, c.if-long-n.false);
+    } in
     of_other c.args.m.now header
     (ap is_address (sym c.message_type-t.ensures) ∙ sym c.either.ensures ∙ c.if-either.false)
     (ap is_route (sym c.message_type-t.ensures) ∙ sym c.either-2.ensures ∙ c.if-either-2.false)

@@ -5,7 +5,6 @@ use native.Mathlib.Omega.{arith}
 use Rattle.lists.specs.Lists.{put}
 use Rattle.lists.specs.Put.{put-none}
 use Rattle.netlink_request.specs.Laws.{missing, present}
-use borrow.Author.Rules.{rules}
 use Rattle.netlink_request.proofs.append.Goals as goal
 
 pub returns-then-start-eq0 : goal.returns-then-start-eq0

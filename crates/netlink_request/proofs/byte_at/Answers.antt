@@ -1,6 +1,5 @@
 use native.Mathlib.Omega.{arith}
 use Rattle.netlink_request.specs.Laws.{missing, present}
-use borrow.Author.Rules.{rules}
 use Rattle.netlink_request.proofs.byte_at.Goals as goal
 
 pub returns-then-start-eq0 : goal.returns-then-start-eq0

@@ -1,6 +1,5 @@
 use mathlib.Core.List.{◌∷◌, []}
 use Rattle.netlink.specs.Reader.{del_addr}
-use borrow.Author.Rules.{rules}
 use Rattle.netlink_request.proofs.del_addr_front.Goals as goal
 
 pub returns : goal.returns

@@ -4,7 +4,6 @@ use Prim.Native.Nat.{ℕ}
 use Rattle.lists.specs.Lists.{put}
 use Rattle.netlink.specs.Attributes.{attributes}
 use Rattle.netlink_request.specs.Laws.{del_route-laid}
-use borrow.Author.Rules.{rules}
 use Rattle.netlink_request.proofs.del_route.Goals as goal
 
 pub returns : goal.returns

@@ -1,11 +1,6 @@
-use borrow.Author.Rules.{rules}
-use Prim.Native.Nat.{ℕ, ◌+◌, ◌-◌}
-use mathlib.Core.Path.{◌≡◌, refl, sym, ap, ◌∙◌}
+use mathlib.Core.Path.{refl, sym}
 use native.Mathlib.Omega.{arith}
-use lib.ListN.{length, take, drop, get_or-eq_default}
-use borrow.Author.Tests.{eq-eqb, ne_eqb}
-use Rattle.netlink_request.proofs.get.Reads as reads
-use Rattle.netlink_request.proofs.get.Lts as lts
+use lib.ListN.{get_or-eq_default}
 use Rattle.netlink_request.proofs.get.Goals as goal
 
 -- src/lib.rt:17:16

@@ -1,5 +1,4 @@
 use Rattle.netlink_request.specs.Laws.{missing, present}
-use borrow.Author.Rules.{rules}
 use Rattle.netlink_request.proofs.given_at.Goals as goal
 
 pub returns-then-starts-k-eq0 : goal.returns-then-starts-k-eq0

@@ -4,7 +4,6 @@ use Prim.Native.Nat.{◌+◌, ◌-◌, ◌≤◌}
 use lib.ListN.{get_or}
 use Rattle.netlink.specs.Reader.{label_words}
 use Rattle.netlink_request.specs.Laws.{missing, present, part-below, label-within, label-front}
-use borrow.Author.Rules.{rules}
 use Rattle.netlink_request.proofs.label_at.Goals as goal
 
 pub returns-then-start-eq0 : goal.returns-then-start-eq0

@@ -3,7 +3,6 @@ use lib.ListN.{length}
 use Prim.Native.Nat.{◌+◌}
 use Rattle.lists.specs.Lists.{put}
 use Rattle.netlink_request.specs.Laws.{laid}
-use borrow.Author.Rules.{rules}
 use Rattle.netlink_request.proofs.lay.Goals as goal
 
 pub returns : goal.returns

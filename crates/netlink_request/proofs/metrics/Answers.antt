@@ -1,11 +1,8 @@
-use Prim.Native.Nat.{◌-◌, ◌≤◌}
-use mathlib.Core.Path.{◌≡◌, refl, ◌∙◌}
+use mathlib.Core.Path.{refl, ◌∙◌}
 use native.Mathlib.Omega.{arith}
-use lib.ListN.{length, take, length-set}
-use Rattle.lists.specs.Lists.{put}
+use lib.ListN.{length-set}
 use Rattle.netlink.specs.Attributes.{attributes}
-use Rattle.netlink_request.specs.Metrics.{known, unknown, metric_words, words-begun, words_more, words-ended, words-refused}
-use borrow.Author.Rules.{rules}
+use Rattle.netlink_request.specs.Metrics.{known, unknown, words-begun, words_more, words-ended, words-refused}
 use Rattle.netlink_request.proofs.metrics.Goals as goal
 
 pub returns-then-starts-ne0 : goal.returns-then-starts-ne0
@@ -18,8 +15,7 @@ loop-k-init c =
 
 pub loop-k-preserved : goal.loop-k-preserved
 loop-k-preserved c =
-    let l = attributes c.args.l.now in
-    (
+    let l = attributes c.args.l.now in (
       omega arith,
       omega arith,
       length-set c.loop-k.words c.loop-k.k c.number_at.result ∙ c.loop-k.invariant.2,

@@ -1,11 +1,9 @@
 use Prim.Native.Nat.{◌-◌, ◌≤◌}
-use mathlib.Core.Path.{◌≡◌, refl, ◌∙◌}
-use native.Mathlib.Omega.{arith}
-use lib.ListN.{length, take, length-set}
+use mathlib.Core.Path.{◌≡◌}
+use lib.ListN.{length, take}
 use Rattle.lists.specs.Lists.{put}
 use Rattle.netlink.specs.Attributes.{attributes}
-use Rattle.netlink_request.specs.Metrics.{known, unknown, metric_words, words-begun, words_more, words-ended, words-refused}
-use borrow.Author.Rules.{rules}
+use Rattle.netlink_request.specs.Metrics.{metric_words}
 use Rattle.netlink_request.proofs.metrics.Given as goal
 
 abbrev pub invariant-loop-k : goal.invariant-loop-k

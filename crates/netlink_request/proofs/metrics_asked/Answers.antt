@@ -1,7 +1,6 @@
 use native.Mathlib.Omega.{arith}
 use Rattle.netlink_request.specs.Laws.{missing, present}
 use Rattle.netlink_request.specs.Metrics.{words-none}
-use borrow.Author.Rules.{rules}
 use Rattle.netlink_request.proofs.metrics_asked.Goals as goal
 
 pub returns-then-start-eq0 : goal.returns-then-start-eq0

@@ -4,7 +4,6 @@ use mathlib.Core.List.{◌∷◌, []}
 use Rattle.layout.specs.Flags.{has_bit}
 use Rattle.netlink.specs.Codes.{replace_bit, excl_bit}
 use Rattle.netlink.specs.Reader.{flag, new_addr}
-use borrow.Author.Rules.{rules}
 use Rattle.netlink_request.proofs.new_addr_back.Goals as goal
 
 pub returns : goal.returns

@@ -3,7 +3,6 @@ use mathlib.Core.List.{◌∷◌, []}
 use Rattle.netlink.specs.Attributes.{attributes, last}
 use Rattle.netlink.specs.Codes.{ifa_address, ifa_flags}
 use Rattle.netlink.specs.Reader.{address, number, or_else, new_addr}
-use borrow.Author.Rules.{rules}
 use Rattle.netlink_request.proofs.new_addr_front.Goals as goal
 
 pub returns : goal.returns

@@ -1,7 +1,5 @@
-use mathlib.Core.Path.{◌∙◌}
 use Rattle.netlink.specs.Attributes.{attributes}
 use Rattle.netlink_request.specs.Laws.{new_route-back-laid}
-use borrow.Author.Rules.{rules}
 use Rattle.netlink_request.proofs.new_route_back.Goals as goal
 
 pub returns : goal.returns

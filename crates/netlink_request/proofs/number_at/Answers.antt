@@ -1,7 +1,5 @@
 use native.Mathlib.Omega.{arith}
-use mathlib.Core.Path.{◌∙◌}
 use Rattle.netlink_request.specs.Laws.{missing, present}
-use borrow.Author.Rules.{rules}
 use Rattle.netlink_request.proofs.number_at.Goals as goal
 
 pub returns-then-start-eq0 : goal.returns-then-start-eq0

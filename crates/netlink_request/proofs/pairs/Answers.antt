@@ -1,11 +1,9 @@
-use Prim.Native.Nat.{◌+◌, ◌-◌, ◌≤◌, ◌<◌}
-use mathlib.Core.Path.{◌≡◌, refl, ap, ◌∙◌}
+use Prim.Native.Nat.{◌+◌, ◌<◌}
+use mathlib.Core.Path.{refl, ap, ◌∙◌}
 use native.Mathlib.Omega.{arith}
-use lib.ListN.{length, length-set}
-use Rattle.lists.specs.Lists.{put}
+use lib.ListN.{length}
 use Rattle.netlink.specs.Attributes.{attributes}
 use Rattle.netlink_request.specs.Metrics.{known, unknown, pairs_before, pairs-room, pairs-begun, pairs-put, pairs-long, pairs_next, pairs-ended, pairs-refused}
-use borrow.Author.Rules.{rules}
 use Rattle.netlink_request.proofs.pairs.Goals as goal
 
 pub returns-then-starts-ne0 : goal.returns-then-starts-ne0

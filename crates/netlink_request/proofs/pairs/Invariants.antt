@@ -1,11 +1,9 @@
-use Prim.Native.Nat.{◌+◌, ◌-◌, ◌≤◌, ◌<◌}
-use mathlib.Core.Path.{◌≡◌, refl, ap, ◌∙◌}
-use native.Mathlib.Omega.{arith}
-use lib.ListN.{length, length-set}
+use Prim.Native.Nat.{◌+◌, ◌-◌, ◌≤◌}
+use mathlib.Core.Path.{◌≡◌}
+use lib.ListN.{length}
 use Rattle.lists.specs.Lists.{put}
 use Rattle.netlink.specs.Attributes.{attributes}
-use Rattle.netlink_request.specs.Metrics.{known, unknown, pairs_before, pairs-room, pairs-begun, pairs-put, pairs-long, pairs_next, pairs-ended, pairs-refused}
-use borrow.Author.Rules.{rules}
+use Rattle.netlink_request.specs.Metrics.{pairs_before}
 use Rattle.netlink_request.proofs.pairs.Given as goal
 
 abbrev pub invariant-loop-k : goal.invariant-loop-k

@@ -1,7 +1,6 @@
 use native.Mathlib.Omega.{arith}
 use Rattle.netlink_request.specs.Laws.{missing, present}
 use Rattle.netlink_request.specs.Metrics.{pairs-none}
-use borrow.Author.Rules.{rules}
 use Rattle.netlink_request.proofs.pairs_asked.Goals as goal
 
 pub returns-then-start-eq0 : goal.returns-then-start-eq0

@@ -2,7 +2,6 @@ use native.Mathlib.Omega.{arith}
 use Prim.Native.Nat.{◌/◌, ◌%◌, ◌^◌}
 use borrow.Author.Tests.{eq-eqb, ne_eqb}
 use Rattle.layout.specs.Flags.{has_bit}
-use borrow.Author.Rules.{rules}
 use Rattle.netlink_request.proofs.replaces.Goals as goal
 
 pub returns-then-flags-eq0 : goal.returns-then-flags-eq0

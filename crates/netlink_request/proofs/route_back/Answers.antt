@@ -1,5 +1,4 @@
 use mathlib.Core.List.{◌∷◌, []}
-use borrow.Author.Rules.{rules}
 use Rattle.netlink_request.proofs.route_back.Goals as goal
 
 pub returns : goal.returns

@@ -3,7 +3,6 @@ use mathlib.Core.List.{◌∷◌, []}
 use Rattle.netlink.specs.Attributes.{attributes, last}
 use Rattle.netlink.specs.Codes.{rta_table}
 use Rattle.netlink.specs.Reader.{number, or_else}
-use borrow.Author.Rules.{rules}
 use Rattle.netlink_request.proofs.route_front.Goals as goal
 
 pub returns : goal.returns

@@ -2,7 +2,6 @@
 -- Assumes nothing.
 use mathlib.Core.Path.{sym}
 use native.Mathlib.Omega.{arith}
-use borrow.Author.Rules.{rules}
 use Rattle.prefix.specs.Laws.{network_and, broadcast_or}
 use Rattle.prefix.proofs.broadcast4.Goals as goal
 

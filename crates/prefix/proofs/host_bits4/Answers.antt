@@ -1,7 +1,6 @@
 -- `prefix::host_bits4` meets its contract: the mask's complement keeps the remainder.
 -- Assumes nothing.
 use mathlib.Core.Path.{sym}
-use borrow.Author.Rules.{rules}
 use Rattle.prefix.specs.Laws.{host_bits_and}
 use Rattle.prefix.proofs.host_bits4.Goals as goal
 

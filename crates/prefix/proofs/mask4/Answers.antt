@@ -2,7 +2,6 @@
 -- Assumes nothing.
 use Prim.Native.Nat.{◌-◌}
 use native.Mathlib.Omega.{arith}
-use borrow.Author.Rules.{rules}
 use Rattle.prefix.specs.Mask.{mask}
 use Rattle.prefix.specs.Laws.{shifted-ones}
 use Rattle.prefix.proofs.mask4.Goals as goal

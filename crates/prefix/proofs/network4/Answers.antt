@@ -2,7 +2,6 @@
 -- Assumes nothing.
 use mathlib.Core.Path.{sym}
 use native.Mathlib.Omega.{arith}
-use borrow.Author.Rules.{rules}
 use Rattle.prefix.specs.Laws.{network_and}
 use Rattle.prefix.proofs.network4.Goals as goal
 

@@ -1,7 +1,6 @@
 -- `prefix::same_network` meets its contract: no differing bit under the mask is one network.
 -- Assumes nothing.
 use native.Mathlib.Omega.{arith}
-use borrow.Author.Rules.{rules}
 use Rattle.prefix.specs.Laws.{same-network}
 use Rattle.prefix.proofs.same_network.Goals as goal
 

@@ -5,7 +5,6 @@ use mathlib.Core.Path.{ap}
 use lib.ListN.{length, get_or, drop, length-take, length-drop}
 use native.Mathlib.Omega.{arith}
 use Rattle.recorded.specs.Laws.{agreed, after-long}
-use borrow.Author.Rules.{rules}
 use Rattle.recorded.proofs.agrees.Goals as goal
 
 pub store-requires : goal.store-requires
@@ -21,7 +20,7 @@ shape_of-held c =
 
 pub returns : goal.returns
 returns c =
-     let both = agreed c.args.r.now c.args.held.now c.args.buffer.now _ _ _ _ _ _ _ _ _ _ _ _ _ c.begin.ensures c.copy.ensures c.copy-2.ensures c.rows.ensures c.store.ensures
+    let both = agreed c.args.r.now c.args.held.now c.args.buffer.now _ _ _ _ _ _ _ _ _ _ _ _ _ c.begin.ensures c.copy.ensures c.copy-2.ensures c.rows.ensures c.store.ensures
     c.answer-reply.ensures.value c.answer-reply.ensures.held_after c.answer-reply.ensures.buffer_after c.changed.ensures c.set_pairs.ensures c.same_reply.ensures
     c.same_words.ensures c.same_words-2.ensures in
     record { value = both.0; held_after = both.1.0; buffer_after = both.1.1 }

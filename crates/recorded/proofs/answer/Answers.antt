@@ -4,7 +4,6 @@ use mathlib.Core.Path.{sym}
 use native.Mathlib.Omega.{arith}
 use lib.Seq.{length-take-le}
 use Rattle.recorded.specs.Laws.{answered}
-use borrow.Author.Rules.{rules}
 use Rattle.recorded.proofs.answer.Goals as goal
 
 pub slice_bounds-call-end-2 : goal.slice_bounds-call-end-2
@@ -17,6 +16,6 @@ slice_bounds-call-end-4 c =
 
 pub returns : goal.returns
 returns c =
-     let both = answered c.args.r.now c.args.held.now c.args.buffer.now c.wide-n.result c.wide-m.result c.lent.result.now c.wide-n.ensures c.wide-m.ensures
+    let both = answered c.args.r.now c.args.held.now c.args.buffer.now c.wide-n.result c.wide-m.result c.lent.result.now c.wide-n.ensures c.wide-m.ensures
     (omega (arith, c.wide-m.ensures, c.requires.0.buffer, c.requires.2)) c.lent.ensures c.call.ensures in
     record { value = both.0; held_after = both.1.0; buffer_after = both.1.1 }

@@ -1,7 +1,6 @@
 -- `recorded::begin` meets its contract.
 -- Assumes nothing.
 use Rattle.recorded.specs.Laws.{begun}
-use borrow.Author.Rules.{rules}
 use Rattle.recorded.proofs.begin.Goals as goal
 
 pub returns : goal.returns

@@ -1,6 +1,5 @@
 -- `recorded::changed` meets its contract.
 -- Assumes nothing.
-use borrow.Author.Rules.{rules}
 use Rattle.recorded.proofs.changed.Goals as goal
 
 pub returns : goal.returns

@@ -1,12 +1,11 @@
 -- `recorded::check` meets its contract: the sum so far, and then the words that are left, give the check.
 -- Assumes nothing.
-use Prim.Native.Nat.{ℕ, ◌-◌, ◌+◌, ◌*◌, ◌%◌, ◌≤◌, ◌<◌}
-use mathlib.Core.Path.{◌≡◌, refl, sym, ap, ◌∙◌}
+use Prim.Native.Nat.{ℕ, ◌-◌, ◌+◌, ◌*◌, ◌%◌}
+use mathlib.Core.Path.{refl, sym, ap, ◌∙◌}
 use native.Mathlib.Omega.{arith}
-use lib.ListN.{length, drop}
+use lib.ListN.{drop}
 use Rattle.recorded.specs.Record.{check_from}
 use Rattle.recorded.specs.Laws.{check-next, check-end}
-use borrow.Author.Rules.{rules}
 use Rattle.recorded.proofs.check.Goals as goal
 
 pub loop-i-init : goal.loop-i-init
@@ -16,12 +15,11 @@ pub overflow_add-sum : goal.overflow_add-sum
 overflow_add-sum c = omega (arith, c.long.ensures, c.shared_slice_known-in-loop-i-1.given c.loop-i.i)
 
 pub loop-i-preserved : goal.loop-i-preserved
-loop-i-preserved c =
-    (
-      omega arith,
-      omega arith,
-      ap (λ (x : ℕ). check_from ((c.loop-i.sum * 16777619 + x) % 4294967296) (drop (c.loop-i.i + 1) c.args.words.now)) c.long.ensures ∙ sym (check-next c.args.words.now c.loop-i.i c.loop-i.sum (omega arith)) ∙ c.loop-i.invariant.2,
-    )
+loop-i-preserved c = (
+  omega arith,
+  omega arith,
+  ap (λ (x : ℕ). check_from ((c.loop-i.sum * 16777619 + x) % 4294967296) (drop (c.loop-i.i + 1) c.args.words.now)) c.long.ensures ∙ sym (check-next c.args.words.now c.loop-i.i c.loop-i.sum (omega arith)) ∙ c.loop-i.invariant.2,
+)
 
 pub returns : goal.returns
 returns c =

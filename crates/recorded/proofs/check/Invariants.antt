@@ -1,12 +1,9 @@
 -- `recorded::check` meets its contract: the sum so far, and then the words that are left, give the check.
 -- Assumes nothing.
-use Prim.Native.Nat.{ℕ, ◌-◌, ◌+◌, ◌*◌, ◌%◌, ◌≤◌, ◌<◌}
-use mathlib.Core.Path.{◌≡◌, refl, sym, ap, ◌∙◌}
-use native.Mathlib.Omega.{arith}
+use Prim.Native.Nat.{◌-◌, ◌≤◌, ◌<◌}
+use mathlib.Core.Path.{◌≡◌}
 use lib.ListN.{length, drop}
 use Rattle.recorded.specs.Record.{check_from}
-use Rattle.recorded.specs.Laws.{check-next, check-end}
-use borrow.Author.Rules.{rules}
 use Rattle.recorded.proofs.check.Given as goal
 
 abbrev pub invariant-loop-i : goal.invariant-loop-i

@@ -2,7 +2,6 @@
 -- Assumes nothing.
 use mathlib.Core.Path.{sym}
 use lib.ListN.{get_or-eq_default}
-use borrow.Author.Rules.{rules}
 use Rattle.recorded.proofs.code.Goals as goal
 
 pub returns-then-r-le2 : goal.returns-then-r-le2

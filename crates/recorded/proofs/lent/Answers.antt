@@ -1,6 +1,5 @@
 -- `recorded::lent` meets its contract.
 -- Assumes nothing.
-use borrow.Author.Rules.{rules}
 use Rattle.recorded.proofs.lent.Goals as goal
 
 pub returns : goal.returns

@@ -7,7 +7,6 @@ use lib.ListN.{length, get_or}
 use borrow.Author.Tests.{eq-eqb, ne_eqb}
 use Rattle.lists.specs.Lists.{put, zeros}
 use Rattle.lists.specs.Bools.{cond-true, cond-false}
-use borrow.Author.Rules.{rules}
 use Rattle.recorded.proofs.restart.Goals as goal
 
 pub returns-then-r-ne1 : goal.returns-then-r-ne1

@@ -1,6 +1,5 @@
 -- `recorded::rows` meets its contract.
 -- Assumes nothing.
-use borrow.Author.Rules.{rules}
 use Rattle.recorded.proofs.rows.Goals as goal
 
 pub returns : goal.returns

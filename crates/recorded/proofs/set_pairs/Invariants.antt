@@ -1,13 +1,9 @@
 -- `recorded::set_pairs` meets its contract: the pairs that are left, put in what is there, give the words.
 -- Assumes nothing.
-use lib.ListN.{length-set}
-use Prim.Native.Nat.{◌-◌, ◌+◌, ◌*◌, ◌/◌, ◌≤◌}
-use mathlib.Core.Path.{◌≡◌, refl, sym, ap, ◌∙◌}
-use native.Mathlib.Omega.{arith}
-use lib.ListN.{length, drop, length-drop}
+use Prim.Native.Nat.{◌-◌, ◌*◌, ◌/◌, ◌≤◌}
+use mathlib.Core.Path.{◌≡◌}
+use lib.ListN.{length, drop}
 use Rattle.recorded.specs.Record.{set_all}
-use Rattle.recorded.specs.Laws.{set_next, set_rest}
-use borrow.Author.Rules.{rules}
 use Rattle.recorded.proofs.set_pairs.Given as goal
 
 abbrev pub invariant-loop-k : goal.invariant-loop-k

@@ -5,7 +5,6 @@ use mathlib.Core.Path.{sym, ap}
 use native.Mathlib.Omega.{arith}
 use lib.ListN.{set}
 use lib.Seq.{set_out}
-use borrow.Author.Rules.{rules}
 use Rattle.recorded.proofs.set_word.Goals as goal
 
 pub returns-then-s-i : goal.returns-then-s-i

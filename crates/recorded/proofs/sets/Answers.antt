@@ -3,7 +3,6 @@
 use Prim.Native.Nat.{ℕ, ◌-◌}
 use mathlib.Core.Path.{ap}
 use lib.ListN.{take, drop}
-use borrow.Author.Rules.{rules}
 use Rattle.recorded.proofs.sets.Goals as goal
 
 pub returns : goal.returns

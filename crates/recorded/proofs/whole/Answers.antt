@@ -3,7 +3,6 @@
 use Rattle.recorded.specs.Laws.{tests}
 use borrow.Author.Tests.{le-leb, lt-leb}
 use Rattle.recorded.specs.Record.{fit}
-use borrow.Author.Rules.{rules}
 use Rattle.recorded.proofs.whole.Goals as goal
 
 pub returns-then-r-lt-HEAD : goal.returns-then-r-lt-HEAD

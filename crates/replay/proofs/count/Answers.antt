@@ -1,6 +1,6 @@
 -- `replay::count` meets its contract.
 -- Assumes nothing.
-use Rattle.std.proofs.Common.{ℕ, ◌+◌, ◌%◌, get_or, set, ap, ◌∙◌, arith, rules}
+use Rattle.std.proofs.Common.{ℕ, ◌+◌, ◌%◌, get_or, set, ap, ◌∙◌, arith}
 use Rattle.replay.proofs.count.Goals as goal
 
 pub returns-then-k-ge16 : goal.returns-then-k-ge16

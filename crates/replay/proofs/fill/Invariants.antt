@@ -1,7 +1,6 @@
 -- `replay::fill` meets its contract: the words below i are as they are to be.
 -- Assumes nothing.
-use Rattle.std.proofs.Common.{◌≡◌, ℕ, ◌+◌, ◌-◌, ◌<◌, ◌≤◌, length, get_or, refl, ◌∙◌, arith, length-set, rules}
-use Rattle.replay.specs.Fill.{filled}
+use Rattle.std.proofs.Common.{◌≡◌, ℕ, ◌+◌, ◌-◌, ◌<◌, ◌≤◌, length, get_or}
 use Rattle.replay.proofs.fill.Given as goal
 
 abbrev pub invariant-loop-i : goal.invariant-loop-i

@@ -1,6 +1,6 @@
 -- `replay::main` ends: an argument less is left with each turn.
 -- Assumes nothing.
-use Rattle.std.proofs.Common.{◌-◌, ◌≤◌, rules}
+use Rattle.std.proofs.Common.{◌-◌, ◌≤◌}
 use Rattle.replay.proofs.main.Given as goal
 
 abbrev pub invariant-loop-i : goal.invariant-loop-i

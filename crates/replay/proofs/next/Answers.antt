@@ -1,6 +1,6 @@
 -- `replay::next` meets its contract: as many words as were read.
 -- Assumes nothing.
-use Rattle.std.proofs.Common.{◌-◌, sym, arith, length-take-le, rules}
+use Rattle.std.proofs.Common.{◌-◌, sym, arith, length-take-le}
 use Rattle.replay.proofs.next.Goals as goal
 
 pub slice_bounds-read_words-end-2 : goal.slice_bounds-read_words-end-2

@@ -1,6 +1,6 @@
 -- `replay::read_words` reads within the bytes that it has.
 -- Assumes nothing.
-use Rattle.std.proofs.Common.{◌*◌, length, sym, arith, length-take-le, rules}
+use Rattle.std.proofs.Common.{◌*◌, length, sym, arith, length-take-le}
 use Rattle.replay.proofs.read_words.Goals as goal
 
 pub slice_bounds-read_bytes-end : goal.slice_bounds-read_bytes-end

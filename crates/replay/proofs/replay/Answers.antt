@@ -1,6 +1,6 @@
 -- `replay::replay` reads within the head.
 -- Assumes nothing.
-use Rattle.std.proofs.Common.{sym, arith, length-take-le, rules}
+use Rattle.std.proofs.Common.{sym, arith, length-take-le}
 use Rattle.replay.proofs.replay.Goals as goal
 
 pub slice_bounds-check-end : goal.slice_bounds-check-end

@@ -1,6 +1,6 @@
 -- `replay::report` ends, and reads within the counts.
 -- Assumes nothing.
-use Rattle.std.proofs.Common.{◌-◌, ◌≤◌, rules}
+use Rattle.std.proofs.Common.{◌-◌, ◌≤◌}
 use Rattle.replay.proofs.report.Given as goal
 
 abbrev pub invariant-loop-k : goal.invariant-loop-k

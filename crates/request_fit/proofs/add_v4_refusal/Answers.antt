@@ -3,7 +3,6 @@
 use mathlib.Core.Path.{sym, ◌∙◌}
 use Rattle.lists.specs.Bools.{cond-true, cond-false}
 use Rattle.definition.specs.Step.{unless, invalid}
-use borrow.Author.Rules.{rules}
 use Rattle.request_fit.proofs.add_v4_refusal.Goals as goal
 
 pub returns-then-fit : goal.returns-then-fit

@@ -2,7 +2,6 @@
 -- Assumes nothing.
 use mathlib.Core.Path.{◌∙◌}
 use Rattle.layout.specs.Request.{fit_add_route4}
-use borrow.Author.Rules.{rules}
 use Rattle.request_fit.proofs.fit_add_route4.Goals as goal
 
 pub returns : goal.returns

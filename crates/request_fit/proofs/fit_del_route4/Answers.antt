@@ -4,7 +4,6 @@ use mathlib.Core.Path.{ap, ◌∙◌}
 use mathlib.Core.Bool.{Bool}
 use Rattle.definition.specs.Step.{unless}
 use Rattle.request_fit.specs.Laws.{count-over, count-within}
-use borrow.Author.Rules.{rules}
 use Rattle.request_fit.proofs.fit_del_route4.Goals as goal
 
 pub returns-then-q-gt17 : goal.returns-then-q-gt17

@@ -2,7 +2,6 @@
 -- Assumes nothing.
 use mathlib.Core.Path.{◌∙◌}
 use Rattle.layout.specs.Request.{fit_del_v4}
-use borrow.Author.Rules.{rules}
 use Rattle.request_fit.proofs.fit_del_v4.Goals as goal
 
 pub returns : goal.returns

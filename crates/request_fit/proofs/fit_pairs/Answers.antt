@@ -1,11 +1,8 @@
 -- `request_fit::fit_pairs` meets its contract.
 -- Assumes nothing.
-use Rattle.request_fit.specs.Laws.{fit_from, pairs_start, pairs_next, pairs_end}
-use Rattle.layout.specs.Request.{fit_pairs}
+use Rattle.request_fit.specs.Laws.{pairs_start, pairs_next, pairs_end}
 use native.Mathlib.Omega.{arith}
-use mathlib.Core.Bool.{◌&&◌}
-use mathlib.Core.Path.{◌≡◌, sym, ◌∙◌}
-use Prim.Native.Nat.{◌-◌, ◌≤◌}
+use mathlib.Core.Path.{sym, ◌∙◌}
 use borrow.Author.Rules.{rules}
 use Rattle.request_fit.proofs.fit_pairs.Goals as goal
 

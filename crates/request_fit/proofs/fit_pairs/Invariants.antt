@@ -1,12 +1,10 @@
 -- `request_fit::fit_pairs` meets its contract.
 -- Assumes nothing.
-use Rattle.request_fit.specs.Laws.{fit_from, pairs_start, pairs_next, pairs_end}
+use Rattle.request_fit.specs.Laws.{fit_from}
 use Rattle.layout.specs.Request.{fit_pairs}
-use native.Mathlib.Omega.{arith}
 use mathlib.Core.Bool.{◌&&◌}
-use mathlib.Core.Path.{◌≡◌, sym, ◌∙◌}
+use mathlib.Core.Path.{◌≡◌}
 use Prim.Native.Nat.{◌-◌, ◌≤◌}
-use borrow.Author.Rules.{rules}
 use Rattle.request_fit.proofs.fit_pairs.Given as goal
 
 abbrev pub invariant-loop-i : goal.invariant-loop-i

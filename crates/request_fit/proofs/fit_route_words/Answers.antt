@@ -1,6 +1,5 @@
 -- `request_fit::fit_route_words` meets its contract.
 -- Assumes nothing.
-use borrow.Author.Rules.{rules}
 use Rattle.request_fit.proofs.fit_route_words.Goals as goal
 
 pub returns : goal.returns

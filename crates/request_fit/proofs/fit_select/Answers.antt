@@ -1,7 +1,6 @@
 -- `request_fit::fit_select` meets its contract.
 -- Assumes nothing.
 use mathlib.Core.Path.{◌∙◌}
-use borrow.Author.Rules.{rules}
 use Rattle.request_fit.proofs.fit_select.Goals as goal
 
 pub returns : goal.returns

@@ -3,7 +3,6 @@
 use Rattle.request_gateway.specs.Rows.{reached_of}
 use Rattle.rows_lookup.specs.Answer.{found_by}
 use Rattle.request_gateway.specs.Laws.{gateway-onlink, gateway-found}
-use borrow.Author.Rules.{rules}
 use Rattle.request_gateway.proofs.gateway4.Goals as goal
 
 pub returns-then-onlink_flag : goal.returns-then-onlink_flag

@@ -2,7 +2,6 @@
 -- Assumes nothing.
 use Rattle.request_gateway.specs.Laws.{onlink-says}
 use mathlib.Core.Path.{◌∙◌}
-use borrow.Author.Rules.{rules}
 use Rattle.request_gateway.proofs.onlink_check.Goals as goal
 
 pub returns : goal.returns

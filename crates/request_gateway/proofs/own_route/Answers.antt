@@ -4,7 +4,6 @@ use Rattle.lists.specs.Pass.{laid-rows}
 use Rattle.request_gateway.specs.Laws.{own_upper, own_lower, own-none}
 use Rattle.rows_lookup.specs.Flow.{flow_of}
 use mathlib.Core.Path.{◌∙◌}
-use borrow.Author.Rules.{rules}
 use lib.Dec.{lit<}
 use Rattle.request_gateway.proofs.own_route.Goals as goal
 

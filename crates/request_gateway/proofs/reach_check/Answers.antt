@@ -3,7 +3,6 @@
 use Rattle.request_gateway.specs.Rows.{reached_of}
 use Rattle.request_gateway.specs.Reach.{reach-rejects, reach-over, reach_host, reach-gateway, reach-device}
 use mathlib.Core.Path.{◌∙◌}
-use borrow.Author.Rules.{rules}
 use borrow.Author.Tests.{eq-eqb, ne_eqb}
 use Rattle.request_gateway.proofs.reach_check.Goals as goal
 

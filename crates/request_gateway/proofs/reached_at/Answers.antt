@@ -2,7 +2,6 @@
 -- Assumes nothing.
 use Rattle.request_gateway.specs.Laws.{reached-row}
 use mathlib.Core.Path.{◌∙◌}
-use borrow.Author.Rules.{rules}
 use Rattle.request_gateway.proofs.reached_at.Goals as goal
 
 pub returns : goal.returns

@@ -2,7 +2,6 @@
 -- Assumes nothing.
 use Rattle.request_gateway.specs.Laws.{reached-found, reached-refused}
 use Rattle.request_gateway.specs.Rows.{reached_of}
-use borrow.Author.Rules.{rules}
 use Rattle.rows_lookup.specs.Answer.{place-within}
 use Rattle.request_gateway.proofs.reached_by.Goals as goal
 

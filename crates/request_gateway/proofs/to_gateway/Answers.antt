@@ -1,7 +1,6 @@
 -- `request_gateway::to_gateway` meets its contract.
 -- Assumes nothing.
 use Rattle.request_gateway.specs.Laws.{flow_says}
-use borrow.Author.Rules.{rules}
 use Rattle.request_gateway.proofs.to_gateway.Goals as goal
 
 pub returns : goal.returns

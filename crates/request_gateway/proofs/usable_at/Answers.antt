@@ -2,7 +2,6 @@
 -- Assumes nothing.
 use Rattle.request_gateway.specs.Laws.{unusable, usable-row}
 use mathlib.Core.Bool.{false≢true}
-use borrow.Author.Rules.{rules}
 use Rattle.request_gateway.proofs.usable_at.Goals as goal
 
 pub returns-then-n-place : goal.returns-then-n-place

@@ -2,7 +2,6 @@
 -- Assumes nothing.
 use Rattle.request_prefsrc.specs.Rows.{type-by}
 use mathlib.Core.Path.{◌∙◌}
-use borrow.Author.Rules.{rules}
 use Rattle.request_prefsrc.proofs.addr_type.Goals as goal
 
 pub returns : goal.returns

@@ -1,7 +1,6 @@
 -- `request_prefsrc::valid_prefsrc4` meets its contract.
 -- Assumes nothing.
 use Rattle.request_prefsrc.specs.Rows.{prefsrc-says}
-use borrow.Author.Rules.{rules}
 use Rattle.request_prefsrc.proofs.valid_prefsrc4.Goals as goal
 
 pub returns : goal.returns

@@ -6,7 +6,6 @@ use lib.ListN.{take, drop}
 use mathlib.Core.List.{List}
 use mathlib.Core.Path.{refl, ap, ◌∙◌}
 use Prim.Native.Nat.{ℕ}
-use borrow.Author.Rules.{rules}
 use Rattle.request_route.proofs.asked_route.Goals as goal
 
 pub returns : goal.returns

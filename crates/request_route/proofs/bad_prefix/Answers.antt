@@ -1,7 +1,6 @@
 -- `request_route::bad_prefix` meets its contract.
 -- Assumes nothing.
 use Rattle.request_route.specs.Laws.{prefix-long, prefix-short}
-use borrow.Author.Rules.{rules}
 use Rattle.request_route.proofs.bad_prefix.Goals as goal
 
 pub returns-then-q-gt32 : goal.returns-then-q-gt32

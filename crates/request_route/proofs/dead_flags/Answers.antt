@@ -1,7 +1,6 @@
 -- `request_route::dead_flags` meets its contract.
 -- Assumes nothing.
 use Rattle.request_route.specs.Laws.{dead_says}
-use borrow.Author.Rules.{rules}
 use Rattle.request_route.proofs.dead_flags.Goals as goal
 
 pub returns : goal.returns

@@ -1,7 +1,6 @@
 -- `request_route::form_check` meets its contract.
 -- Assumes nothing.
 use Rattle.definition.specs.Reference.Routes.{form_check}
-use borrow.Author.Rules.{rules}
 use Rattle.request_route.proofs.form_check.Goals as goal
 
 pub returns : goal.returns

@@ -1,6 +1,5 @@
 use mathlib.Core.Path.{ap, sym, ◌∙◌}
 use Rattle.kind.specs.Laws.{is_found, is-kind-found}
-use borrow.Author.Rules.{rules}
 use Rattle.request_route.proofs.known_kind.Goals as goal
 
 pub returns-in-Is : goal.returns-in-Is

@@ -1,7 +1,6 @@
 -- `request_route::table_named` meets its contract.
 -- Assumes nothing.
 use borrow.Author.Tests.{eq-eqb, ne_eqb}
-use borrow.Author.Rules.{rules}
 use Rattle.request_route.proofs.table_named.Goals as goal
 
 pub returns-then-q-eq0 : goal.returns-then-q-eq0

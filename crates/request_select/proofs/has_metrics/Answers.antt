@@ -1,11 +1,8 @@
 -- `request_select::has_metrics` meets its contract.
 -- Assumes nothing.
-use Rattle.request_select.specs.Laws.{has_from, count_fits, index_fits, has_start, has_next, has_end}
-use Rattle.definition.specs.Reference.Routes.{has_metrics}
+use Rattle.request_select.specs.Laws.{count_fits, index_fits, has_start, has_next, has_end}
 use native.Mathlib.Omega.{arith}
-use mathlib.Core.Bool.{◌&&◌}
-use mathlib.Core.Path.{◌≡◌, sym, ◌∙◌}
-use Prim.Native.Nat.{◌-◌, ◌≤◌}
+use mathlib.Core.Path.{sym, ◌∙◌}
 use borrow.Author.Rules.{rules}
 use Rattle.request_select.proofs.has_metrics.Goals as goal
 

@@ -1,12 +1,10 @@
 -- `request_select::has_metrics` meets its contract.
 -- Assumes nothing.
-use Rattle.request_select.specs.Laws.{has_from, count_fits, index_fits, has_start, has_next, has_end}
+use Rattle.request_select.specs.Laws.{has_from}
 use Rattle.definition.specs.Reference.Routes.{has_metrics}
-use native.Mathlib.Omega.{arith}
 use mathlib.Core.Bool.{◌&&◌}
-use mathlib.Core.Path.{◌≡◌, sym, ◌∙◌}
+use mathlib.Core.Path.{◌≡◌}
 use Prim.Native.Nat.{◌-◌, ◌≤◌}
-use borrow.Author.Rules.{rules}
 use Rattle.request_select.proofs.has_metrics.Given as goal
 
 abbrev pub invariant-loop-i : goal.invariant-loop-i

@@ -1,7 +1,6 @@
 -- `request_select::same_place` meets its contract: what it computes is the definition.
 -- Assumes nothing.
 use mathlib.Core.Path.{refl}
-use borrow.Author.Rules.{rules}
 use Rattle.request_select.proofs.same_place.Goals as goal
 
 pub returns : goal.returns

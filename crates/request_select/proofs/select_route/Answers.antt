@@ -3,15 +3,8 @@
 use Rattle.lists.specs.Pass.{part-width, find_here, find_past, find_end}
 use lib.Dec.{lit<}
 use Rattle.definition.specs.Reference.Routes.{selects}
-use Rattle.layout.specs.Route.{fit_route}
-use Rattle.lists.specs.Place.{place_of}
-use Rattle.lists.specs.Laid.{Laid}
-use Rattle.lists.specs.Lists.{Row}
-use lib.ListN.{drop}
 use native.Mathlib.Omega.{arith}
-use mathlib.Core.List.{List}
-use mathlib.Core.Path.{◌≡◌, sym, ◌∙◌}
-use Prim.Native.Nat.{◌+◌, ◌-◌, ◌≤◌}
+use mathlib.Core.Path.{sym, ◌∙◌}
 use borrow.Author.Rules.{rules}
 use Rattle.request_select.proofs.select_route.Goals as goal
 
@@ -24,18 +17,18 @@ selects-requires c = let a = c.args in
 
 pub returns-then-selects : goal.returns-then-selects
 returns-then-selects c = let a = c.args in (
-      omega arith,
-      λ l h. find_here a.rows.now a.n (lit< tt) c.requires.rows_len.0 (selects a.q.now) l h c.loop-i.i (c.loop-i.invariant.1 l h) c.loop-i-test.true (sym c.selects.ensures ∙ c.if-selects.true),
-    )
+  omega arith,
+  λ l h. find_here a.rows.now a.n (lit< tt) c.requires.rows_len.0 (selects a.q.now) l h c.loop-i.i (c.loop-i.invariant.1 l h) c.loop-i-test.true (sym c.selects.ensures ∙ c.if-selects.true),
+)
 
 pub loop-i-preserved : goal.loop-i-preserved
 loop-i-preserved c = let a = c.args in (
-      omega arith,
-      λ l h. find_past a.rows.now a.n (lit< tt) c.requires.rows_len.0 (selects a.q.now) l h c.loop-i.i (c.loop-i.invariant.1 l h) c.loop-i-test.true (sym c.selects.ensures ∙ c.if-selects.false),
-    )
+  omega arith,
+  λ l h. find_past a.rows.now a.n (lit< tt) c.requires.rows_len.0 (selects a.q.now) l h c.loop-i.i (c.loop-i.invariant.1 l h) c.loop-i-test.true (sym c.selects.ensures ∙ c.if-selects.false),
+)
 
 pub returns : goal.returns
 returns c = let a = c.args in (
-      omega arith,
-      λ l h. find_end a.rows.now a.n (lit< tt) c.requires.rows_len.0 (selects a.q.now) l h c.loop-i.i (c.loop-i.invariant.1 l h) c.loop-i.invariant.0 c.loop-i-test.false,
-    )
+  omega arith,
+  λ l h. find_end a.rows.now a.n (lit< tt) c.requires.rows_len.0 (selects a.q.now) l h c.loop-i.i (c.loop-i.invariant.1 l h) c.loop-i.invariant.0 c.loop-i-test.false,
+)

@@ -1,18 +1,14 @@
 -- `request_select::select_route` meets its contract.
 -- Assumes nothing.
-use Rattle.lists.specs.Pass.{part-width, find_here, find_past, find_end}
-use lib.Dec.{lit<}
 use Rattle.definition.specs.Reference.Routes.{selects}
 use Rattle.layout.specs.Route.{fit_route}
 use Rattle.lists.specs.Place.{place_of}
 use Rattle.lists.specs.Laid.{Laid}
 use Rattle.lists.specs.Lists.{Row}
 use lib.ListN.{drop}
-use native.Mathlib.Omega.{arith}
 use mathlib.Core.List.{List}
-use mathlib.Core.Path.{◌≡◌, sym, ◌∙◌}
+use mathlib.Core.Path.{◌≡◌}
 use Prim.Native.Nat.{◌+◌, ◌-◌, ◌≤◌}
-use borrow.Author.Rules.{rules}
 use Rattle.request_select.proofs.select_route.Given as goal
 
 abbrev pub invariant-loop-i : goal.invariant-loop-i

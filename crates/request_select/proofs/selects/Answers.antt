@@ -1,8 +1,6 @@
 -- `request_select::selects` meets its contract.
 -- Assumes nothing.
 use Rattle.request_select.specs.Laws.{selects-not, selects-rest}
-use borrow.Author.Tests.{not-true, not-false}
-use borrow.Author.Rules.{rules}
 use Rattle.request_select.proofs.selects.Goals as goal
 
 pub returns-then-not-same_place : goal.returns-then-not-same_place

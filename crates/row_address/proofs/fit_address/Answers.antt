@@ -2,7 +2,6 @@
 -- Assumes nothing.
 use borrow.Author.Tests.{eq-eqb, ne_eqb}
 use Rattle.layout.specs.Address.{fit_address}
-use borrow.Author.Rules.{rules}
 use Rattle.row_address.proofs.fit_address.Goals as goal
 
 pub returns-then-row-ne-ADDRESS_WORDS : goal.returns-then-row-ne-ADDRESS_WORDS

@@ -3,7 +3,6 @@
 use mathlib.Core.Path.{◌≡◌}
 use Prim.Native.Nat.{◌-◌}
 use native.Mathlib.Omega.{arith}
-use borrow.Author.Rules.{rules}
 use Rattle.row_address.proofs.LabelWords.{fits-by-words}
 use Rattle.row_address.proofs.fit_label.Goals as goal
 

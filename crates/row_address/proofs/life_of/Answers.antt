@@ -1,6 +1,5 @@
 -- `row_address::life_of` meets its contract: each stamp is the clock of its two words.
 -- Assumes nothing.
-use borrow.Author.Rules.{rules}
 use Rattle.row_address.proofs.life_of.Goals as goal
 
 pub returns : goal.returns

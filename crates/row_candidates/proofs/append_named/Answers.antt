@@ -1,10 +1,8 @@
 use mathlib.Core.Path.{sym, ◌∙◌}
 use native.Mathlib.Omega.{arith}
-use borrow.Author.Tests.{not-true, not-false}
 use Rattle.row_candidates.specs.Laws.{append_none, append_one}
 use lib.ListN.{get_or}
 use Rattle.definition.specs.Reference.Addresses.{kernel_route, names_broadcast}
-use borrow.Author.Rules.{rules}
 use Rattle.row_candidates.proofs.append_named.Goals as goal
 
 pub returns-then-not-names_broadcast : goal.returns-then-not-names_broadcast

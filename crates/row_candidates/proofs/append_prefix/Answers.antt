@@ -1,10 +1,8 @@
 use mathlib.Core.Path.{sym, ◌∙◌}
 use native.Mathlib.Omega.{arith}
-use borrow.Author.Tests.{not-true, not-false}
 use Rattle.row_candidates.specs.Laws.{append_none, append_one}
 use Rattle.row_subnet.specs.OwnRoutes.{has_prefix_route}
 use Rattle.row_candidates.specs.Rows.{subnet_route}
-use borrow.Author.Rules.{rules}
 use Rattle.row_candidates.proofs.append_prefix.Goals as goal
 
 pub returns-then-not-has_prefix_route : goal.returns-then-not-has_prefix_route

@@ -1,6 +1,5 @@
 use mathlib.Core.Path.{sym, ap, ◌∙◌}
 use native.Mathlib.Omega.{arith}
-use borrow.Author.Tests.{not-true, not-false}
 use Rattle.row_candidates.specs.Laws.{append_none, append_one}
 use Prim.Native.Nat.{ℕ, ◌*◌}
 use lib.ListN.{get_or}
@@ -8,7 +7,6 @@ use Rattle.lists.specs.Lists.{put}
 use Rattle.prefix.specs.Mask.{broadcast}
 use Rattle.definition.specs.Reference.Addresses.{kernel_route}
 use Rattle.row_subnet.specs.OwnRoutes.{has_broadcast_routes}
-use borrow.Author.Rules.{rules}
 use Rattle.row_candidates.proofs.append_subnet.Goals as goal
 
 pub returns-then-not-has_broadcast_routes : goal.returns-then-not-has_broadcast_routes

@@ -1,5 +1,4 @@
 use native.Mathlib.Omega.{arith}
-use borrow.Author.Tests.{not-true, not-false}
 use Rattle.row_candidates.specs.Laws.{candidates-down, candidates-up}
 use borrow.Author.Rules.{rules}
 use Rattle.row_candidates.proofs.candidates.Goals as goal

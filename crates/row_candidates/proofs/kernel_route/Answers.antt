@@ -3,7 +3,6 @@ use mathlib.Core.Path.{ap, ◌∙◌}
 use mathlib.Core.List.{List}
 use Rattle.lists.specs.Lists.{put}
 use Rattle.row_candidates.specs.Laws.{route-words}
-use borrow.Author.Rules.{rules}
 use Rattle.row_candidates.proofs.kernel_route.Goals as goal
 
 pub returns : goal.returns

@@ -3,7 +3,6 @@ use mathlib.Core.Path.{ap, ◌∙◌}
 use lib.ListN.{get_or}
 use Rattle.lists.specs.Lists.{put}
 use Rattle.definition.specs.Reference.Addresses.{kernel_route}
-use borrow.Author.Rules.{rules}
 use Rattle.row_candidates.proofs.prefix_route4.Goals as goal
 
 pub returns : goal.returns

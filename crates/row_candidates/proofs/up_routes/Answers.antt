@@ -1,6 +1,5 @@
 use native.Mathlib.Omega.{arith}
 use Rattle.row_candidates.specs.Laws.{up-written}
-use borrow.Author.Rules.{rules}
 use Rattle.row_candidates.proofs.up_routes.Goals as goal
 
 pub returns : goal.returns

@@ -1,7 +1,6 @@
 -- `row_route::before` meets its contract: destinations that differ decide, and behind the same one the tests are the definition's.
 -- Assumes nothing.
 use Rattle.row_route.specs.Order.{before-other, before_same}
-use borrow.Author.Rules.{rules}
 use Rattle.row_route.proofs.before.Goals as goal
 
 pub returns-then-a-b : goal.returns-then-a-b

@@ -3,7 +3,6 @@
 use borrow.Author.Tests.{eq-eqb, ne_eqb, lt-leb}
 use Rattle.layout.specs.Route.{fit_route}
 use Rattle.row_route.specs.Fit.{fit-tests}
-use borrow.Author.Rules.{rules}
 use Rattle.row_route.proofs.fit_route.Goals as goal
 
 pub returns-then-r-ne-ROUTE_WORDS : goal.returns-then-r-ne-ROUTE_WORDS

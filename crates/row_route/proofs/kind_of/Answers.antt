@@ -2,7 +2,6 @@
 -- Assumes nothing.
 use mathlib.Core.Path.{sym, ap, ◌∙◌}
 use Rattle.row_route.specs.Route4.{kind_in}
-use borrow.Author.Rules.{rules}
 use Rattle.row_route.proofs.kind_of.Goals as goal
 
 pub returns-in-Is : goal.returns-in-Is

@@ -1,6 +1,5 @@
 -- `row_route::no_host_bits` meets its contract: the shift keeps the host bits in the low word, and them alone.
 -- Assumes nothing.
-use borrow.Author.Rules.{rules}
 use Rattle.row_route.specs.Fit.{host_shifted}
 use Rattle.row_route.proofs.no_host_bits.Goals as goal
 

@@ -1,6 +1,5 @@
 -- `row_route::route4_of` meets its contract: every field is a word of the row, or what a callee makes of some.
 -- Assumes nothing.
-use borrow.Author.Rules.{rules}
 use Rattle.row_route.proofs.route4_of.Goals as goal
 
 pub returns : goal.returns

@@ -1,5 +1,4 @@
 use Rattle.definition.specs.Reference.Addresses.{covers}
-use borrow.Author.Rules.{rules}
 use Rattle.row_subnet.proofs.covers.Goals as goal
 
 pub returns : goal.returns

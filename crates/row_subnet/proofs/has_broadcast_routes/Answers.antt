@@ -1,4 +1,3 @@
-use borrow.Author.Rules.{rules}
 use Rattle.row_subnet.proofs.has_broadcast_routes.Goals as goal
 
 pub returns : goal.returns

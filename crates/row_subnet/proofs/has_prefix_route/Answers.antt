@@ -1,4 +1,3 @@
-use borrow.Author.Rules.{rules}
 use Rattle.row_subnet.proofs.has_prefix_route.Goals as goal
 
 pub returns : goal.returns

@@ -1,15 +1,9 @@
-use Prim.Native.Nat.{◌+◌, ◌-◌, ◌≤◌}
-use mathlib.Core.List.{List}
-use mathlib.Core.Path.{◌≡◌, sym, ◌∙◌}
+use mathlib.Core.Path.{sym, ◌∙◌}
 use native.Mathlib.Nat.{zero-add}
 use native.Mathlib.Omega.{arith}
 use lib.Dec.{lit<}
-use lib.ListN.{drop}
-use Rattle.lists.specs.Lists.{Row}
-use Rattle.lists.specs.Laid.{Laid}
 use Rattle.lists.specs.Place.{place_of}
 use Rattle.lists.specs.Pass.{find_here, find_past, find_end}
-use Rattle.layout.specs.Address.{fit_address}
 use Rattle.row_subnet.specs.OwnRoutes.{primary_for}
 use Rattle.row_subnet.specs.Laws.{part-short}
 use borrow.Author.Rules.{rules}
@@ -27,11 +21,10 @@ returns-then-primary_for c =
     λ l h. find_here c.args.addresses.now c.args.n (lit< tt) c.requires.addresses_len.0 (primary_for c.args.a.now) l h c.loop-i.i (c.loop-i.invariant.1 l h) c.loop-i-test.true (sym c.primary_for.ensures ∙ c.if-primary_for.true)
 
 pub loop-i-preserved : goal.loop-i-preserved
-loop-i-preserved c =
-    (
-      omega arith,
-      λ l h. find_past c.args.addresses.now c.args.n (lit< tt) c.requires.addresses_len.0 (primary_for c.args.a.now) l h c.loop-i.i (c.loop-i.invariant.1 l h) c.loop-i-test.true (sym c.primary_for.ensures ∙ c.if-primary_for.false),
-    )
+loop-i-preserved c = (
+  omega arith,
+  λ l h. find_past c.args.addresses.now c.args.n (lit< tt) c.requires.addresses_len.0 (primary_for c.args.a.now) l h c.loop-i.i (c.loop-i.invariant.1 l h) c.loop-i-test.true (sym c.primary_for.ensures ∙ c.if-primary_for.false),
+)
 
 pub returns : goal.returns
 returns c =

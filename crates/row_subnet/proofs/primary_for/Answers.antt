@@ -1,4 +1,3 @@
-use borrow.Author.Rules.{rules}
 use Rattle.row_subnet.proofs.primary_for.Goals as goal
 
 pub returns : goal.returns

@@ -1,7 +1,5 @@
 use mathlib.Core.Path.{sym, ◌∙◌}
-use borrow.Author.Tests.{not-true, not-false}
 use Rattle.row_subnet.specs.Laws.{source-own, source-none, source-found}
-use borrow.Author.Rules.{rules}
 use Rattle.row_subnet.proofs.primary_of.Goals as goal
 
 pub returns-then-not-secondary : goal.returns-then-not-secondary

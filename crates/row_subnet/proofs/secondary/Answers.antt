@@ -1,6 +1,5 @@
 use lib.ListN.{get_or}
 use Rattle.layout.specs.Bits.{has_and}
-use borrow.Author.Rules.{rules}
 use Rattle.row_subnet.proofs.secondary.Goals as goal
 
 pub returns : goal.returns

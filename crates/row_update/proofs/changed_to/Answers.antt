@@ -4,7 +4,6 @@ use mathlib.Core.List.{List}
 use Prim.Native.Nat.{ℕ}
 use Rattle.lists.specs.Lists.{put}
 use Rattle.row_update.specs.Rows.{changed_row, set_life_lem}
-use borrow.Author.Rules.{rules}
 use Rattle.row_update.proofs.changed_to.Goals as goal
 
 pub rewritten-requires : goal.rewritten-requires

@@ -3,7 +3,6 @@ use mathlib.Core.Path.{ap, ◌∙◌}
 use mathlib.Core.List.{List}
 use Rattle.lists.specs.Lists.{put}
 use Rattle.row_update.specs.Rows.{deprecate-row}
-use borrow.Author.Rules.{rules}
 use Rattle.row_update.proofs.deprecate.Goals as goal
 
 pub returns : goal.returns

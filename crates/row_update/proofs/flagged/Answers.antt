@@ -4,7 +4,6 @@ use mathlib.Core.List.{List}
 use Prim.Native.Nat.{ℕ}
 use Rattle.lists.specs.Lists.{put}
 use Rattle.row_update.specs.Rows.{flagged_row}
-use borrow.Author.Rules.{rules}
 use Rattle.row_update.proofs.flagged.Goals as goal
 
 pub returns : goal.returns

@@ -1,7 +1,5 @@
-use borrow.Author.Tests.{not-true, not-false}
 use Rattle.rows_lookup.specs.Flow.{set_of}
 use Rattle.rows_lookup.specs.AddrType.{type-none, type-rejects, type-kind}
-use borrow.Author.Rules.{rules}
 use Rattle.rows_lookup.proofs.addr_type4.Goals as goal
 
 pub returns-then-not-listed : goal.returns-then-not-listed

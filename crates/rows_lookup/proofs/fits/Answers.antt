@@ -1,6 +1,5 @@
 use Rattle.rows_lookup.specs.Flow.{flow_of}
 use Rattle.rows_lookup.specs.Laws.{fits_far, fits-near}
-use borrow.Author.Rules.{rules}
 use Rattle.rows_lookup.proofs.fits.Goals as goal
 
 pub returns-then-r-network4 : goal.returns-then-r-network4

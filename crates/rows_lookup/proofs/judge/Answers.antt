@@ -1,5 +1,4 @@
 use Rattle.rows_lookup.specs.Answer.{judge_none, judge_route, judge_again, judge_refuse}
-use borrow.Author.Rules.{rules}
 use Rattle.rows_lookup.proofs.judge.Goals as goal
 
 pub returns-then-n-place : goal.returns-then-n-place

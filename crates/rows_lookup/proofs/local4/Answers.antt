@@ -1,5 +1,4 @@
 use mathlib.Core.Path.{refl}
-use borrow.Author.Rules.{rules}
 use Rattle.rows_lookup.proofs.local4.Goals as goal
 
 pub returns : goal.returns

@@ -1,19 +1,16 @@
 use mathlib.Core.Path.{sym, ◌∙◌}
 use native.Mathlib.Omega.{arith}
-use borrow.Author.Tests.{not-true, not-false}
 use Rattle.rows_lookup.specs.Flow.{flow_of}
 use Rattle.lists.specs.Pass.{laid-rows}
 use Rattle.rows_lookup.specs.Answer.{route-there, upper_route, upper_refuse, upper_last, lower_route, lower_refuse, lower_last}
-use borrow.Author.Rules.{rules}
 use lib.Dec.{lit<}
 use Rattle.rows_lookup.proofs.lookup4_in.Goals as goal
 
 pub returns-in-Route : goal.returns-in-Route
-returns-in-Route c =
-    (
-      omega (arith, route-there c.requires.1.list c.table_lookup4-upper.result (sym (sym c.in-Route.is ∙ c.judge-first.ensures c.requires.1.list c.requires.1.laid)), laid-rows c.args.rows.now c.args.n (lit< tt) c.requires.0 c.requires.1.list c.requires.1.laid),
-      λ l h. upper_route l (flow_of c.args.f) c.args.default_listed c.table_lookup4-upper.result (c.table_lookup4-upper.ensures l h) (sym c.in-Route.is ∙ c.judge-first.ensures l h),
-    )
+returns-in-Route c = (
+  omega (arith, route-there c.requires.1.list c.table_lookup4-upper.result (sym (sym c.in-Route.is ∙ c.judge-first.ensures c.requires.1.list c.requires.1.laid)), laid-rows c.args.rows.now c.args.n (lit< tt) c.requires.0 c.requires.1.list c.requires.1.laid),
+  λ l h. upper_route l (flow_of c.args.f) c.args.default_listed c.table_lookup4-upper.result (c.table_lookup4-upper.ensures l h) (sym c.in-Route.is ∙ c.judge-first.ensures l h),
+)
 
 pub returns-in-Refuse : goal.returns-in-Refuse
 returns-in-Refuse c =
@@ -25,8 +22,7 @@ returns-then-not-default_listed c =
 
 pub returns-in-Route-second : goal.returns-in-Route-second
 returns-in-Route-second c =
-    let on = c.if-not-default_listed.false in
-    (
+    let on = c.if-not-default_listed.false in (
       omega (arith, route-there c.requires.1.list c.table_lookup4-lower.result (sym (sym c.in-Route-second.is ∙ c.judge-second.ensures c.requires.1.list c.requires.1.laid)), laid-rows c.args.rows.now c.args.n (lit< tt) c.requires.0 c.requires.1.list c.requires.1.laid),
       λ l h. lower_route l (flow_of c.args.f) c.args.default_listed c.table_lookup4-upper.result (c.table_lookup4-upper.ensures l h) (sym c.in-Again.is ∙ c.judge-first.ensures l h) on c.table_lookup4-lower.result (c.table_lookup4-lower.ensures l h) (sym c.in-Route-second.is ∙ c.judge-second.ensures l h),
     )

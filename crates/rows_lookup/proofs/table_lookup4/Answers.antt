@@ -1,17 +1,6 @@
-use Prim.Native.Nat.{◌-◌, ◌≤◌}
-use mathlib.Core.Bool.{Bool, ◌&&◌}
-use mathlib.Core.List.{List}
 use native.Mathlib.Omega.{arith}
-use Rattle.lists.specs.Lists.{Row}
-use Rattle.lists.specs.Laid.{Laid}
-use Rattle.layout.specs.Route.{table, fit_route}
-use Rattle.definition.specs.Reference.Lookup.{fits, answer}
-use Rattle.rows_lookup.specs.Flow.{flow_of, set_of}
-use Rattle.rows_lookup.specs.Best.{Best}
+use Rattle.definition.specs.Reference.Lookup.{answer}
 use Rattle.rows_lookup.specs.Pass.{part-fits, pass-start, pass_taken, pass-stays, pass-end}
-use Rattle.rows_lookup.specs.declared.Flow.{Flow}
-use Rattle.rows_lookup.specs.declared.Tables.{Tables}
-use mathlib.Core.Logic.{⊎_elim}
 use mathlib.Core.Path.{sym, ◌∙◌}
 use borrow.Author.Rules.{rules}
 use Rattle.rows_lookup.proofs.table_lookup4.Invariants.{passing}
@@ -32,16 +21,15 @@ overflow_add-least c =
     record { fits = omega (arith, fit.1) }
 
 pub loop-i-preserved : goal.loop-i-preserved
-loop-i-preserved c =
-    (
-      omega arith,
-      λ l h.
-          let sofar = c.loop-i.invariant.1 l h in
-          elim c.if-better.branch [
-            then-better w ↦ rw (w.best-is, w.least-is) (pass_taken c.args.rows.now c.args.n c.requires.0 (passing c.args.set c.args.f) l h c.loop-i.i c.loop-i.best c.loop-i.least c.loop-i-test.true sofar (sym c.better.ensures ∙ w.if-better.true))
-            | else-better w ↦ rw (w.best-is, w.least-is) (pass-stays c.args.rows.now c.args.n c.requires.0 (passing c.args.set c.args.f) l h c.loop-i.i c.loop-i.best c.loop-i.least c.loop-i-test.true sofar (sym c.better.ensures ∙ w.if-better.false))
-          ],
-    )
+loop-i-preserved c = (
+  omega arith,
+  λ l h.
+      let sofar = c.loop-i.invariant.1 l h in
+      elim c.if-better.branch [
+        | then-better w ↦ rw (w.best-is, w.least-is) (pass_taken c.args.rows.now c.args.n c.requires.0 (passing c.args.set c.args.f) l h c.loop-i.i c.loop-i.best c.loop-i.least c.loop-i-test.true sofar (sym c.better.ensures ∙ w.if-better.true))
+        | else-better w ↦ rw (w.best-is, w.least-is) (pass-stays c.args.rows.now c.args.n c.requires.0 (passing c.args.set c.args.f) l h c.loop-i.i c.loop-i.best c.loop-i.least c.loop-i-test.true sofar (sym c.better.ensures ∙ w.if-better.false))
+      ],
+)
 
 pub returns : goal.returns
 returns c =

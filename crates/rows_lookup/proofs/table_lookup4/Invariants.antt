@@ -1,19 +1,14 @@
 use Prim.Native.Nat.{◌-◌, ◌≤◌}
 use mathlib.Core.Bool.{Bool, ◌&&◌}
 use mathlib.Core.List.{List}
-use native.Mathlib.Omega.{arith}
 use Rattle.lists.specs.Lists.{Row}
 use Rattle.lists.specs.Laid.{Laid}
 use Rattle.layout.specs.Route.{table, fit_route}
-use Rattle.definition.specs.Reference.Lookup.{fits, answer}
+use Rattle.definition.specs.Reference.Lookup.{fits}
 use Rattle.rows_lookup.specs.Flow.{flow_of, set_of}
 use Rattle.rows_lookup.specs.Best.{Best}
-use Rattle.rows_lookup.specs.Pass.{part-fits, pass-start, pass_taken, pass-stays, pass-end}
 use Rattle.rows_lookup.specs.declared.Flow.{Flow}
 use Rattle.rows_lookup.specs.declared.Tables.{Tables}
-use mathlib.Core.Logic.{⊎_elim}
-use mathlib.Core.Path.{sym, ◌∙◌}
-use borrow.Author.Rules.{rules}
 use Rattle.rows_lookup.proofs.table_lookup4.Given as goal
 
 abbrev pub passing : Tables → Flow → Row → Bool

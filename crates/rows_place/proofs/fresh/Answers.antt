@@ -1,7 +1,5 @@
 use mathlib.Core.Path.{refl}
-use borrow.Author.Tests.{not-true, not-false}
 use Rattle.rows_place.specs.Rows.{fit-row-asked, row_fresh, fit-row-second, row-second}
-use borrow.Author.Rules.{rules}
 use Rattle.rows_place.proofs.fresh.Goals as goal
 
 pub returns-then-not-second : goal.returns-then-not-second

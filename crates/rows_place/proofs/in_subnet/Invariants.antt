@@ -1,16 +1,11 @@
 use Prim.Native.Nat.{◌-◌, ◌≤◌}
 use mathlib.Core.List.{List}
-use mathlib.Core.Path.{◌≡◌, refl, sym, ◌∙◌}
-use native.Mathlib.Omega.{arith}
-use lib.Dec.{lit<}
+use mathlib.Core.Path.{◌≡◌}
 use lib.ListN.{drop}
 use Rattle.lists.specs.Lists.{Row, any}
 use Rattle.lists.specs.Laid.{Laid}
-use Rattle.lists.specs.Pass.{some-here, some-past, some_end}
 use Rattle.layout.specs.Address.{fit_address}
 use Rattle.definition.specs.Reference.Addresses.{same_subnet}
-use Rattle.row_subnet.specs.Laws.{part-short}
-use borrow.Author.Rules.{rules}
 use Rattle.rows_place.proofs.in_subnet.Given as goal
 
 abbrev pub invariant-loop-i : goal.invariant-loop-i

@@ -1,15 +1,8 @@
-use Prim.Native.Nat.{◌+◌, ◌-◌, ◌≤◌}
-use mathlib.Core.List.{List}
-use mathlib.Core.Path.{◌≡◌, refl, sym, ap, ◌∙◌}
+use Prim.Native.Nat.{◌+◌, ◌-◌}
+use mathlib.Core.Path.{refl, sym, ap, ◌∙◌}
 use mathlib.Core.Bool.{Bool, cond}
 use native.Mathlib.Omega.{arith}
-use lib.ListN.{take}
-use Rattle.lists.specs.Lists.{Row}
-use Rattle.lists.specs.Laid.{Laid}
-use Rattle.layout.specs.Address.{fit_address}
-use Rattle.definition.specs.Reference.Addresses.{yields}
 use Rattle.row_subnet.specs.Laws.{part-short}
-use Rattle.rows_place.specs.Behind.{behind_of}
 use Rattle.rows_place.specs.Rows.{pass-last, pass-more, pass-place, pass_le}
 use borrow.Author.Rules.{rules}
 use Rattle.rows_place.proofs.place4.Goals as goal
@@ -26,17 +19,19 @@ yields-goes-requires c =
     (c.requires.len, (part-short c.args.addresses.now c.args.n c.requires.addresses_len.0 c.requires.addresses_len.1 c.loop-i.i c.loop-i-test.true).0)
 
 pub loop-i-preserved : goal.loop-i-preserved
-loop-i-preserved c =
-    (
-      omega arith,
-      λ l h.
-          c.choose-place.ensures
-          ∙ ap (λ (b : Bool). cond b (c.loop-i.i + 1) c.loop-i.place) c.yields-goes.ensures
-          ∙ pass-more c.args.addresses.now c.args.n c.requires.addresses_len.0 c.args.new.now l h c.loop-i.i c.loop-i.place (c.loop-i.invariant.1 l h) c.loop-i-test.true,
-    )
+loop-i-preserved c = (
+  omega arith,
+  λ l h.
+      c.choose-place.ensures
+      ∙ ap (λ (b : Bool). cond b (c.loop-i.i + 1) c.loop-i.place) c.yields-goes.ensures
+      ∙ pass-more c.args.addresses.now c.args.n c.requires.addresses_len.0 c.args.new.now l h c.loop-i.i c.loop-i.place (c.loop-i.invariant.1 l h) c.loop-i-test.true,
+)
 
 pub returns : goal.returns
 returns c =
-    record { upper_bound = pass_le c.args.addresses.now c.args.n c.requires.addresses_len.0 c.args.new.now c.requires.addresses_len.1.list c.requires.addresses_len.1.laid c.loop-i.i c.loop-i.place (c.loop-i.invariant.1 c.requires.addresses_len.1.list c.requires.addresses_len.1.laid) c.loop-i-test.false; l_value = λ l h.
+    record {
+      upper_bound = pass_le c.args.addresses.now c.args.n c.requires.addresses_len.0 c.args.new.now c.requires.addresses_len.1.list c.requires.addresses_len.1.laid c.loop-i.i c.loop-i.place (c.loop-i.invariant.1 c.requires.addresses_len.1.list c.requires.addresses_len.1.laid) c.loop-i-test.false;
+      l_value = λ l h.
           pass-place c.args.addresses.now c.args.n c.requires.addresses_len.0 c.args.new.now l h c.loop-i.i c.loop-i.place (c.loop-i.invariant.1 l h) c.loop-i-test.false
-          (sym c.secondary.ensures ∙ c.if-secondary.false) }
+          (sym c.secondary.ensures ∙ c.if-secondary.false);
+    }

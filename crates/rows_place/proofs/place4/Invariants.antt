@@ -1,17 +1,12 @@
-use Prim.Native.Nat.{◌+◌, ◌-◌, ◌≤◌}
+use Prim.Native.Nat.{◌-◌, ◌≤◌}
 use mathlib.Core.List.{List}
-use mathlib.Core.Path.{◌≡◌, refl, sym, ap, ◌∙◌}
-use mathlib.Core.Bool.{Bool, cond}
-use native.Mathlib.Omega.{arith}
+use mathlib.Core.Path.{◌≡◌}
 use lib.ListN.{take}
 use Rattle.lists.specs.Lists.{Row}
 use Rattle.lists.specs.Laid.{Laid}
 use Rattle.layout.specs.Address.{fit_address}
 use Rattle.definition.specs.Reference.Addresses.{yields}
-use Rattle.row_subnet.specs.Laws.{part-short}
 use Rattle.rows_place.specs.Behind.{behind_of}
-use Rattle.rows_place.specs.Rows.{pass-last, pass-more, pass-place, pass_le}
-use borrow.Author.Rules.{rules}
 use Rattle.rows_place.proofs.place4.Given as goal
 
 abbrev pub invariant-loop-i : goal.invariant-loop-i

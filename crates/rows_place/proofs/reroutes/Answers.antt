@@ -1,4 +1,3 @@
-use borrow.Author.Rules.{rules}
 use Rattle.rows_place.proofs.reroutes.Goals as goal
 
 pub returns : goal.returns

@@ -1,5 +1,4 @@
 use Rattle.definition.specs.Reference.Addresses.{same_address}
-use borrow.Author.Rules.{rules}
 use Rattle.rows_place.proofs.same_address.Goals as goal
 
 pub returns : goal.returns

@@ -1,18 +1,12 @@
 use Prim.Native.Nat.{◌+◌, ◌-◌, ◌≤◌}
 use mathlib.Core.List.{List}
-use mathlib.Core.Path.{◌≡◌, sym, ◌∙◌}
-use native.Mathlib.Nat.{zero-add}
-use native.Mathlib.Omega.{arith}
-use lib.Dec.{lit<}
+use mathlib.Core.Path.{◌≡◌}
 use lib.ListN.{drop}
 use Rattle.lists.specs.Lists.{Row}
 use Rattle.lists.specs.Laid.{Laid}
 use Rattle.lists.specs.Place.{place_of}
-use Rattle.lists.specs.Pass.{find_here, find_past, find_end}
 use Rattle.layout.specs.Address.{fit_address}
 use Rattle.definition.specs.Reference.Addresses.{same_address}
-use Rattle.row_subnet.specs.Laws.{part-short}
-use borrow.Author.Rules.{rules}
 use Rattle.rows_place.proofs.same_at.Given as goal
 
 abbrev pub invariant-loop-i : goal.invariant-loop-i

@@ -1,4 +1,3 @@
-use borrow.Author.Rules.{rules}
 use Rattle.rows_place.proofs.yields.Goals as goal
 
 pub returns : goal.returns

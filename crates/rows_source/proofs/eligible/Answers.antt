@@ -1,5 +1,4 @@
 use Rattle.rows_source.specs.Laws.{eligible-test}
-use borrow.Author.Rules.{rules}
 use Rattle.rows_source.proofs.eligible.Goals as goal
 
 pub returns : goal.returns

@@ -1,5 +1,4 @@
 use Rattle.rows_source.specs.Laws.{reaches-test}
-use borrow.Author.Rules.{rules}
 use Rattle.rows_source.proofs.reaches.Goals as goal
 
 pub returns : goal.returns

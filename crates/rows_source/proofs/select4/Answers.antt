@@ -1,14 +1,6 @@
-use Prim.Native.Nat.{◌-◌, ◌*◌, ◌≤◌}
-use mathlib.Core.List.{List}
-use mathlib.Core.Logic.{⊎_elim}
 use native.Mathlib.Omega.{arith}
-use Rattle.lists.specs.Lists.{Row}
-use Rattle.lists.specs.Laid.{Laid}
-use Rattle.layout.specs.Address.{fit_address}
-use lib.ListN.{length}
-use mathlib.Core.Path.{◌≡◌}
 use Rattle.rows_source.specs.Selected.{wanted}
-use Rattle.rows_source.specs.Pass.{LoopInvariant, part-fits, select_start, select_found, select_kept, select_stays, select_none, select_end}
+use Rattle.rows_source.specs.Pass.{part-fits, select_start, select_found, select_kept, select_stays, select_none, select_end}
 use borrow.Author.Rules.{rules}
 use Rattle.rows_source.proofs.select4.Goals as goal
 use Rattle.rows_source.proofs.select4.Goals.{then-fit-kept, else-fit-kept}
@@ -33,22 +25,21 @@ returns-then-fit-near c =
     c.eligible-fit.result c.reaches-near.result c.eligible-fit.ensures c.reaches-near.ensures c.if-fit-near.true
 
 pub loop-i-preserved : goal.loop-i-preserved
-loop-i-preserved c =
-    (
-      omega arith,
-      elim c.if-fit-kept.branch [ then-fit-kept w ↦ omega (arith, w.kept-is) | else-fit-kept w ↦ omega (arith, w.kept-is) ],
-      λ long l h.
-          elim c.if-fit-kept.branch [
-          then-fit-kept w ↦ rw w.kept-is
-          (select_kept c.args.addresses.now c.args.n long (wanted c.args.dst_present c.args.dst) c.args.scope l h c.loop-i.i c.loop-i.kept
-          c.loop-i-test.true (c.loop-i.invariant.2 long l h)
-          c.eligible-fit.result c.reaches-near.result c.eligible-fit.ensures c.reaches-near.ensures c.if-fit-near.false w.if-fit-kept.true)
-          | else-fit-kept w ↦ rw w.kept-is
-          (select_stays c.args.addresses.now c.args.n long (wanted c.args.dst_present c.args.dst) c.args.scope l h c.loop-i.i c.loop-i.kept
-          c.loop-i-test.true (c.loop-i.invariant.2 long l h)
-          c.eligible-fit.result c.reaches-near.result c.eligible-fit.ensures c.reaches-near.ensures c.if-fit-near.false c.loop-i.invariant.1 w.if-fit-kept.false)
-          ],
-    )
+loop-i-preserved c = (
+  omega arith,
+  elim c.if-fit-kept.branch [ then-fit-kept w ↦ omega (arith, w.kept-is) | else-fit-kept w ↦ omega (arith, w.kept-is) ],
+  λ long l h.
+      elim c.if-fit-kept.branch [
+        | then-fit-kept w ↦ rw w.kept-is
+            (select_kept c.args.addresses.now c.args.n long (wanted c.args.dst_present c.args.dst) c.args.scope l h c.loop-i.i c.loop-i.kept
+            c.loop-i-test.true (c.loop-i.invariant.2 long l h)
+            c.eligible-fit.result c.reaches-near.result c.eligible-fit.ensures c.reaches-near.ensures c.if-fit-near.false w.if-fit-kept.true)
+        | else-fit-kept w ↦ rw w.kept-is
+            (select_stays c.args.addresses.now c.args.n long (wanted c.args.dst_present c.args.dst) c.args.scope l h c.loop-i.i c.loop-i.kept
+            c.loop-i-test.true (c.loop-i.invariant.2 long l h)
+            c.eligible-fit.result c.reaches-near.result c.eligible-fit.ensures c.reaches-near.ensures c.if-fit-near.false c.loop-i.invariant.1 w.if-fit-kept.false)
+      ],
+)
 
 pub returns-then-n-kept : goal.returns-then-n-kept
 returns-then-n-kept c =

@@ -1,6 +1,5 @@
 use native.Mathlib.Omega.{arith}
 use Rattle.rows_source.specs.Answer.{width-at, source-local, source-none, source-refused}
-use borrow.Author.Rules.{rules}
 use Rattle.rows_lookup.specs.Answer.{place-within}
 use Rattle.rows_source.proofs.source.Goals as goal
 

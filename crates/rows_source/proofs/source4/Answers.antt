@@ -1,5 +1,4 @@
 use Rattle.rows_source.specs.Answer.{source4-preferred, source4-local, source4-other}
-use borrow.Author.Rules.{rules}
 use Rattle.rows_source.proofs.source4.Goals as goal
 
 pub returns-then-row-eq1 : goal.returns-then-row-eq1

@@ -1,14 +1,8 @@
-use Prim.Native.Nat.{◌-◌, ◌≤◌}
-use mathlib.Core.List.{List}
-use mathlib.Core.Path.{◌≡◌, refl, sym, ◌∙◌}
+use mathlib.Core.Path.{refl, sym, ◌∙◌}
 use native.Mathlib.Omega.{arith}
 use lib.Dec.{lit<}
-use lib.ListN.{drop}
-use Rattle.lists.specs.Lists.{Row, any}
-use Rattle.lists.specs.Laid.{Laid}
 use Rattle.lists.specs.Pass.{some-here, some-past, some_end}
 use Rattle.lists.specs.Pass.{part-width}
-use Rattle.layout.specs.Route.{fit_route}
 use Rattle.definition.specs.Reference.Removal.{dependent_on}
 use borrow.Author.Rules.{rules}
 use Rattle.rows_wanted.proofs.dependents.Goals as goal
@@ -25,11 +19,10 @@ returns-then-dependents_from c =
     λ l h. some-here c.args.rows.now c.args.n (lit< tt) c.requires.0 (dependent_on c.args.ip) l h c.loop-i.i (c.loop-i.invariant.1 l h) c.loop-i-test.true (sym c.dependents_from.ensures ∙ c.if-dependents_from.true)
 
 pub loop-i-preserved : goal.loop-i-preserved
-loop-i-preserved c =
-    (
-      omega arith,
-      λ l h. some-past c.args.rows.now c.args.n (lit< tt) c.requires.0 (dependent_on c.args.ip) l h c.loop-i.i (c.loop-i.invariant.1 l h) c.loop-i-test.true (sym c.dependents_from.ensures ∙ c.if-dependents_from.false),
-    )
+loop-i-preserved c = (
+  omega arith,
+  λ l h. some-past c.args.rows.now c.args.n (lit< tt) c.requires.0 (dependent_on c.args.ip) l h c.loop-i.i (c.loop-i.invariant.1 l h) c.loop-i-test.true (sym c.dependents_from.ensures ∙ c.if-dependents_from.false),
+)
 
 pub returns : goal.returns
 returns c =

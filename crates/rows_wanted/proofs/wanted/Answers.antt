@@ -1,13 +1,7 @@
-use Prim.Native.Nat.{◌-◌, ◌≤◌}
-use mathlib.Core.List.{List}
-use mathlib.Core.Path.{◌≡◌, refl, sym, ◌∙◌}
+use mathlib.Core.Path.{refl, sym, ◌∙◌}
 use native.Mathlib.Omega.{arith}
 use lib.Dec.{lit<}
-use lib.ListN.{drop}
-use Rattle.lists.specs.Lists.{Row, any}
-use Rattle.lists.specs.Laid.{Laid}
 use Rattle.lists.specs.Pass.{some-here, some-past, some_end}
-use Rattle.layout.specs.Address.{fit_address}
 use Rattle.row_subnet.specs.Laws.{part-short}
 use Rattle.rows_wanted.specs.Wants.{wants_row}
 use Rattle.rows_wanted.specs.Laws.{wanted-rows}
@@ -26,11 +20,10 @@ returns-then-wants c =
     λ l h. some-here c.args.addresses.now c.args.n (lit< tt) c.requires.addresses_len.0 (wants_row c.args.r.now) l h c.loop-i.i (c.loop-i.invariant.1 l h) c.loop-i-test.true (sym c.wants.ensures ∙ c.if-wants.true) ∙ wanted-rows l c.args.r.now
 
 pub loop-i-preserved : goal.loop-i-preserved
-loop-i-preserved c =
-    (
-      omega arith,
-      λ l h. some-past c.args.addresses.now c.args.n (lit< tt) c.requires.addresses_len.0 (wants_row c.args.r.now) l h c.loop-i.i (c.loop-i.invariant.1 l h) c.loop-i-test.true (sym c.wants.ensures ∙ c.if-wants.false),
-    )
+loop-i-preserved c = (
+  omega arith,
+  λ l h. some-past c.args.addresses.now c.args.n (lit< tt) c.requires.addresses_len.0 (wants_row c.args.r.now) l h c.loop-i.i (c.loop-i.invariant.1 l h) c.loop-i-test.true (sym c.wants.ensures ∙ c.if-wants.false),
+)
 
 pub returns : goal.returns
 returns c =

@@ -1,5 +1,4 @@
 use borrow.Author.Tests.{eq-eqb, ne_eqb}
-use borrow.Author.Rules.{rules}
 use Rattle.rows_wanted.proofs.wants.Goals as goal
 
 pub returns-then-kind-eq-KIND_LOCAL : goal.returns-then-kind-eq-KIND_LOCAL

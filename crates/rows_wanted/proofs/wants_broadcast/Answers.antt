@@ -1,5 +1,4 @@
 use borrow.Author.Tests.{eq-eqb, ne_eqb}
-use borrow.Author.Rules.{rules}
 use Rattle.rows_wanted.proofs.wants_broadcast.Goals as goal
 
 pub returns-then-len-ne32 : goal.returns-then-len-ne32

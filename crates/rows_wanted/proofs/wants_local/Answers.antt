@@ -1,6 +1,5 @@
 use borrow.Author.Tests.{eq-eqb, ne_eqb}
 use Rattle.rows_wanted.specs.Laws.{other_length, same_length}
-use borrow.Author.Rules.{rules}
 use Rattle.rows_wanted.proofs.wants_local.Goals as goal
 
 pub returns-then-dst-a : goal.returns-then-dst-a

@@ -10,7 +10,6 @@ use Rattle.definition.specs.Words.{address_count}
 use Rattle.definition.specs.Preservation.Fit.{length-address}
 use Rattle.state.specs.Represents.{sizes-valid, count-addresses}
 use Rattle.state.specs.Change.{insert_address}
-use borrow.Author.Rules.{rules}
 use Rattle.state.proofs.insert_address.Goals as goal
 
 pub bounds-s-0 : goal.bounds-s-0

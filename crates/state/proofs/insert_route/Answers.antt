@@ -10,7 +10,6 @@ use Rattle.definition.specs.Words.{route_count, routes_at}
 use Rattle.definition.specs.Preservation.Fit.{length-route}
 use Rattle.state.specs.Represents.{sizes-valid, count-routes}
 use Rattle.state.specs.Change.{insert_route}
-use borrow.Author.Rules.{rules}
 use Rattle.state.proofs.insert_route.Goals as goal
 
 pub bounds-s-1 : goal.bounds-s-1

@@ -9,7 +9,6 @@ use Rattle.lists.specs.Lists.{put, span, zeros}
 use Rattle.definition.specs.Words.{address_count}
 use Rattle.state.specs.Represents.{sizes-valid, count-addresses}
 use Rattle.state.specs.Change.{remove_address}
-use borrow.Author.Rules.{rules}
 use Rattle.state.proofs.remove_address.Goals as goal
 
 pub bounds-s-0 : goal.bounds-s-0

@@ -9,7 +9,6 @@ use Rattle.lists.specs.Lists.{put, span, zeros}
 use Rattle.definition.specs.Words.{route_count, routes_at}
 use Rattle.state.specs.Represents.{sizes-valid, count-routes}
 use Rattle.state.specs.Change.{remove_route}
-use borrow.Author.Rules.{rules}
 use Rattle.state.proofs.remove_route.Goals as goal
 
 pub bounds-s-1 : goal.bounds-s-1

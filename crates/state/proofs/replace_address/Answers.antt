@@ -1,11 +1,9 @@
 -- `state::replace_address` meets its contract: the words with another row in the place hold the list with it.
 -- Assumes nothing.
-use Prim.Native.Nat.{◌-◌}
 use native.Mathlib.Omega.{arith}
 use Rattle.definition.specs.Preservation.Fit.{length-address}
 use Rattle.state.specs.Represents.{sizes-valid, count-addresses}
 use Rattle.state.specs.Change.{replace_address}
-use borrow.Author.Rules.{rules}
 use Rattle.state.proofs.replace_address.Goals as goal
 
 pub overflow_mul-i : goal.overflow_mul-i

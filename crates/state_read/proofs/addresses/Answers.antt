@@ -4,7 +4,6 @@ use lib.ListN.{take, drop}
 use native.Mathlib.Omega.{arith}
 use Rattle.state.specs.Represents.{sizes-valid}
 use Rattle.state_read.specs.Parts.{address-end}
-use borrow.Author.Rules.{rules}
 use Rattle.state_read.proofs.addresses.Goals as goal
 
 pub address_count-n-requires : goal.address_count-n-requires

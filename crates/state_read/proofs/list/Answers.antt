@@ -10,7 +10,6 @@ use Rattle.definition.specs.Words.{decode}
 use Rattle.state.specs.Represents.{holds-decode, sizes-valid}
 use Rattle.state_read.specs.Parts.{of_routes}
 use Rattle.state_read.specs.Listing.{valid, dump_ready, dumped}
-use borrow.Author.Rules.{rules}
 use Rattle.state_read.proofs.list.Goals as goal
 
 pub overflow_add-e : goal.overflow_add-e

@@ -21,11 +21,10 @@ lookup4_in-requires c =
     ready_routes c.routes.result.now c.route_count.result c.requires c.routes.ensures c.route_count.ensures
 
 pub returns : goal.returns
-returns c =
-    (
-      subst (λ (n : ℕ). placed n c.lookup4_in.result) c.route_count.ensures c.lookup4_in.ensures.0,
-      λ st h.
-          c.lookup4_in.ensures.1 st.routes (of_routes c.routes.result.now h c.routes.ensures)
-          ∙ ap (λ (b : Bool). lookup_rows b st.routes (flow_of c.args.f)) (c.listed-listed.ensures ∙ listed-there h 253)
-          ∙ sym (lookup-rows st (flow_of c.args.f)),
-    )
+returns c = (
+  subst (λ (n : ℕ). placed n c.lookup4_in.result) c.route_count.ensures c.lookup4_in.ensures.0,
+  λ st h.
+      c.lookup4_in.ensures.1 st.routes (of_routes c.routes.result.now h c.routes.ensures)
+      ∙ ap (λ (b : Bool). lookup_rows b st.routes (flow_of c.args.f)) (c.listed-listed.ensures ∙ listed-there h 253)
+      ∙ sym (lookup-rows st (flow_of c.args.f)),
+)

@@ -4,7 +4,6 @@ use lib.ListN.{take, drop}
 use native.Mathlib.Omega.{arith}
 use Rattle.state.specs.Represents.{sizes-valid}
 use Rattle.state_read.specs.Parts.{route-end}
-use borrow.Author.Rules.{rules}
 use Rattle.definition.specs.Words.{routes_at}
 use Rattle.state_read.proofs.routes.Goals as goal
 

@@ -1,7 +1,6 @@
 -- `state_retain::close` meets its contract.
 -- Assumes nothing.
 use lib.ListN.{length-set}
-use borrow.Author.Rules.{rules}
 use Rattle.state_retain.proofs.close.Goals as goal
 
 pub shape_of-s : goal.shape_of-s

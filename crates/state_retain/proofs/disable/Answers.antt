@@ -4,7 +4,6 @@ use mathlib.Core.Path.{sym, ◌∙◌}
 use native.Mathlib.Omega.{arith}
 use Rattle.state.specs.Represents.{sizes-valid, count-addresses}
 use Rattle.state_retain.specs.Retain.{is-disable, no-disable}
-use borrow.Author.Rules.{rules}
 use Rattle.state_retain.proofs.disable.Goals as goal
 
 pub bounds-s-0 : goal.bounds-s-0

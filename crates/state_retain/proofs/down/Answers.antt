@@ -1,7 +1,6 @@
 -- `state_retain::down` meets its contract: what remains is what the definition keeps.
 -- Assumes nothing.
 use Rattle.state_retain.specs.Retain.{is_down}
-use borrow.Author.Rules.{rules}
 use Rattle.state_retain.proofs.down.Goals as goal
 
 pub returns : goal.returns

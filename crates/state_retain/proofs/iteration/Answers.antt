@@ -2,7 +2,6 @@
 -- Assumes nothing.
 use mathlib.Core.Path.{sym, ◌∙◌}
 use Rattle.state_retain.specs.Retain.{remains, turned-stays, turned-goes}
-use borrow.Author.Rules.{rules}
 use Rattle.state_retain.proofs.iteration.Goals as goal
 
 pub returns-then-remains : goal.returns-then-remains

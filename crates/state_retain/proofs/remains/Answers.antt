@@ -5,7 +5,6 @@ use mathlib.Core.Bool.{Bool, ◌&&◌}
 use lib.Dec.{eqb}
 use Rattle.layout.specs.Route.{scope}
 use Rattle.state_retain.specs.Retain.{off-device, on-device}
-use borrow.Author.Rules.{rules}
 use Rattle.state_retain.proofs.remains.Goals as goal
 
 pub returns-then-r-ne1 : goal.returns-then-r-ne1

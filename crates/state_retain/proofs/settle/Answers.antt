@@ -3,7 +3,6 @@
 use mathlib.Core.Path.{refl}
 use native.Mathlib.Omega.{arith}
 use Rattle.state_retain.specs.Retain.{itself}
-use borrow.Author.Rules.{rules}
 use Rattle.state_retain.proofs.settle.Goals as goal
 
 pub returns-then-i-j : goal.returns-then-i-j

@@ -1,13 +1,12 @@
 -- `state_tables::add_table` meets its contract: a table that is not there is written behind the last.
 -- Assumes nothing.
 use mathlib.Core.Path.{sym, ap, ◌∙◌}
-use Prim.Native.Nat.{ℕ, ◌+◌, ◌-◌}
+use Prim.Native.Nat.{ℕ, ◌+◌}
 use native.Mathlib.Omega.{arith}
 use lib.ListN.{set, length-set}
 use Rattle.definition.specs.Words.{table_count, tables_at}
 use Rattle.state.specs.Represents.{sizes-valid}
 use Rattle.state_tables.specs.Listed.{tables_of, add_there, add_new, length_new, length-listed}
-use borrow.Author.Rules.{rules}
 use Rattle.state_tables.proofs.add_table.Goals as goal
 
 pub returns-then-listed : goal.returns-then-listed

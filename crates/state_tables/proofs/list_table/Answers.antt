@@ -1,10 +1,8 @@
 -- `state_tables::list_table` meets its contract: 254 is added first where 255 asks for it.
 -- Assumes nothing.
-use Prim.Native.Nat.{◌-◌}
 use Rattle.definition.specs.State.{with_tables}
 use Rattle.definition.specs.Reference.Insert.{add_table}
 use Rattle.state_tables.specs.Listed.{tables_of, list-other, main_first, create_one, create_two, local-next}
-use borrow.Author.Rules.{rules}
 use Rattle.state_tables.proofs.list_table.Goals as goal
 
 pub add_table-requires : goal.add_table-requires

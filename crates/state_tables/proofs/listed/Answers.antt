@@ -6,7 +6,6 @@ use native.Mathlib.Omega.{arith}
 use lib.ListN.{take, drop}
 use Rattle.lists.specs.Lists.{span, among}
 use Rattle.state.specs.Represents.{sizes-valid}
-use borrow.Author.Rules.{rules}
 use Rattle.definition.specs.Words.{tables_at}
 use Rattle.state_tables.proofs.listed.Goals as goal
 

@@ -2,12 +2,11 @@
 -- Assumes nothing.
 use mathlib.Core.Path.{◌≡◌, sym, ap, ◌∙◌}
 use mathlib.Core.Bool.{Bool}
-use Prim.Native.Nat.{ℕ, ◌+◌, ◌-◌}
+use Prim.Native.Nat.{ℕ, ◌+◌}
 use native.Mathlib.Omega.{arith}
 use lib.ListN.{length}
 use Rattle.lists.specs.Lists.{among}
 use Rattle.state_tables.specs.Listed.{tables_of, length-local, list-other, list-local, at_most}
-use borrow.Author.Rules.{rules}
 use Rattle.state_tables.proofs.tables_after.Goals as goal
 
 pub returns-then-t-ne-TABLE_LOCAL : goal.returns-then-t-ne-TABLE_LOCAL

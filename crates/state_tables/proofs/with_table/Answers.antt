@@ -1,11 +1,10 @@
 -- `state_tables::with_table` meets its contract: one more where the table is not there.
 -- Assumes nothing.
 use mathlib.Core.Path.{sym, ap, ◌∙◌}
-use Prim.Native.Nat.{ℕ, ◌+◌, ◌-◌}
+use Prim.Native.Nat.{ℕ, ◌+◌}
 use native.Mathlib.Omega.{arith}
 use Rattle.state.specs.Represents.{sizes-valid}
 use Rattle.state_tables.specs.Listed.{tables_of, length-there, length_new, length-listed}
-use borrow.Author.Rules.{rules}
 use Rattle.state_tables.proofs.with_table.Goals as goal
 
 pub bounds-s-2 : goal.bounds-s-2

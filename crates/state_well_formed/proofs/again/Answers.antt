@@ -6,7 +6,6 @@ use native.Mathlib.Omega.{arith}
 use lib.Bits.{and_le_r}
 use lib.ListN.{get_or, drop}
 use Rattle.state_well_formed.specs.Twice.{bit_of, unmarked, bit_test, behind-part}
-use borrow.Author.Rules.{rules}
 use Rattle.state_well_formed.proofs.again.Goals as goal
 
 pub overflow_cast-l : goal.overflow_cast-l

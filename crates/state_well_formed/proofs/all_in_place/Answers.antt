@@ -1,13 +1,10 @@
 -- `state_well_formed::all_in_place` meets its contract: all rows are in their places where those still to be looked at are.
 -- Assumes nothing.
-use mathlib.Core.Path.{◌≡◌, sym, ◌∙◌}
-use Prim.Native.Nat.{◌-◌, ◌≤◌}
+use mathlib.Core.Path.{sym, ◌∙◌}
 use native.Mathlib.Omega.{arith}
-use lib.ListN.{drop}
 use Rattle.lists.specs.Lists.{chop}
 use Rattle.lists.specs.Rows.{length-chop}
-use Rattle.state_well_formed.specs.Place.{in_place, place_end}
-use borrow.Author.Rules.{rules}
+use Rattle.state_well_formed.specs.Place.{place_end}
 use Rattle.state_well_formed.proofs.all_in_place.Goals as goal
 
 pub loop-i-init : goal.loop-i-init

@@ -1,16 +1,14 @@
 -- `state_well_formed::apart` meets its contract: the row is none of those behind it where it is none of those still to be looked at.
 -- Assumes nothing.
-use mathlib.Core.Path.{◌≡◌, refl, sym, ◌∙◌}
+use mathlib.Core.Path.{refl, sym, ◌∙◌}
 use mathlib.Core.List.{[]}
 use mathlib.Core.Bool.{true, false, not}
-use Prim.Native.Nat.{◌+◌, ◌-◌, ◌≤◌, ◌<◌}
 use native.Mathlib.Omega.{arith}
-use lib.ListN.{get_or, drop}
-use Rattle.lists.specs.Lists.{Row, all, chop, eq_row}
+use lib.ListN.{get_or}
+use Rattle.lists.specs.Lists.{Row, chop, eq_row}
 use Rattle.lists.specs.Rows.{length-chop}
 use Rattle.lists.specs.Next.{all_end}
 use Rattle.state_well_formed.specs.Order.{past-run, ordered-later, two-before, two-same}
-use borrow.Author.Rules.{rules}
 use Rattle.state_well_formed.proofs.apart.Goals as goal
 
 pub loop-j-init : goal.loop-j-init

@@ -5,7 +5,6 @@ use lib.ListN.{length}
 use borrow.Author.Tests.{eq-eqb, ne_eqb}
 use Rattle.definition.specs.Words.{state_size}
 use Rattle.definition.proofs.Preservation.Step.{base-long}
-use borrow.Author.Rules.{rules}
 use Rattle.state_well_formed.proofs.check.Goals as goal
 
 pub returns-then-s-ne-STATE_WORDS : goal.returns-then-s-ne-STATE_WORDS

@@ -1,27 +1,23 @@
 -- `state_well_formed::fit_addresses` meets its contract: all rows are fit where those still to be looked at are.
 -- Assumes nothing.
-use mathlib.Core.Path.{◌≡◌, refl, sym, ◌∙◌}
+use mathlib.Core.Path.{refl, sym, ◌∙◌}
 use mathlib.Core.Bool.{true, false}
-use Prim.Native.Nat.{◌-◌, ◌≤◌}
 use native.Mathlib.Omega.{arith}
-use lib.ListN.{drop}
-use Rattle.lists.specs.Lists.{all, chop}
+use Rattle.lists.specs.Lists.{chop}
 use Rattle.lists.specs.Rows.{length-chop}
 use Rattle.lists.specs.Next.{all_end}
 use Rattle.layout.specs.Address.{fit_address}
 use Rattle.state_well_formed.specs.Look.{fit-iteration}
-use borrow.Author.Rules.{rules}
 use Rattle.state_well_formed.proofs.fit_addresses.Goals as goal
 
 pub loop-i-init : goal.loop-i-init
 loop-i-init c = (omega arith, refl)
 
 pub loop-i-preserved : goal.loop-i-preserved
-loop-i-preserved c =
-    (
-      omega arith,
-      c.loop-i.invariant.1 ∙ fit-iteration 20 c.args.n c.args.p.now c.loop-i.i fit_address true c.loop-i-test.true c.fit_address.ensures c.if-fit_address.true,
-    )
+loop-i-preserved c = (
+  omega arith,
+  c.loop-i.invariant.1 ∙ fit-iteration 20 c.args.n c.args.p.now c.loop-i.i fit_address true c.loop-i-test.true c.fit_address.ensures c.if-fit_address.true,
+)
 
 pub returns-else-fit_address : goal.returns-else-fit_address
 returns-else-fit_address c =

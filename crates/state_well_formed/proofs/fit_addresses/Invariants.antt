@@ -1,16 +1,10 @@
 -- `state_well_formed::fit_addresses` meets its contract: all rows are fit where those still to be looked at are.
 -- Assumes nothing.
-use mathlib.Core.Path.{◌≡◌, refl, sym, ◌∙◌}
-use mathlib.Core.Bool.{true, false}
+use mathlib.Core.Path.{◌≡◌}
 use Prim.Native.Nat.{◌-◌, ◌≤◌}
-use native.Mathlib.Omega.{arith}
 use lib.ListN.{drop}
 use Rattle.lists.specs.Lists.{all, chop}
-use Rattle.lists.specs.Rows.{length-chop}
-use Rattle.lists.specs.Next.{all_end}
 use Rattle.layout.specs.Address.{fit_address}
-use Rattle.state_well_formed.specs.Look.{fit-iteration}
-use borrow.Author.Rules.{rules}
 use Rattle.state_well_formed.proofs.fit_addresses.Given as goal
 
 abbrev pub invariant-loop-i : goal.invariant-loop-i

@@ -6,7 +6,6 @@ use Rattle.lists.specs.Lists.{chop}
 use Rattle.lists.specs.Rows.{length-chop}
 use Rattle.state_well_formed.specs.Order.{order-iteration}
 use Rattle.state_well_formed.specs.Place.{place-broken, place-iteration}
-use borrow.Author.Rules.{rules}
 use Rattle.state_well_formed.proofs.in_place.Goals as goal
 
 pub returns-then-before : goal.returns-then-before

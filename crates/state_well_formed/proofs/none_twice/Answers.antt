@@ -2,13 +2,12 @@
 -- Assumes nothing.
 use mathlib.Core.Path.{◌≡◌, sym, ap, ◌∙◌}
 use mathlib.Core.Bool.{true, false}
-use Prim.Native.Nat.{ℕ, ◌+◌, ◌-◌, ◌≤◌}
+use Prim.Native.Nat.{ℕ, ◌+◌, ◌-◌}
 use native.Mathlib.Omega.{arith}
 use lib.Bits.{and_le_r}
-use lib.ListN.{length, get_or, drop}
+use lib.ListN.{get_or, drop}
 use Rattle.definition.specs.Words.{none_twice}
 use Rattle.state_well_formed.specs.Twice.{marked, marked-end, marked-back, twice_end, twice_back, twice_later}
-use borrow.Author.Rules.{rules}
 use Rattle.state_well_formed.proofs.none_twice.Goals as goal
 
 pub loop-i-init : goal.loop-i-init

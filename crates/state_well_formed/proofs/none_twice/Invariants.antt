@@ -1,14 +1,11 @@
 -- `state_well_formed::none_twice` meets its contract: of the numbers looked at, from the end on, none is twice, and each has set its bit.
 -- Assumes nothing.
-use mathlib.Core.Path.{◌≡◌, sym, ap, ◌∙◌}
-use mathlib.Core.Bool.{true, false}
-use Prim.Native.Nat.{ℕ, ◌+◌, ◌-◌, ◌≤◌}
-use native.Mathlib.Omega.{arith}
-use lib.Bits.{and_le_r}
-use lib.ListN.{length, get_or, drop}
+use mathlib.Core.Path.{◌≡◌}
+use mathlib.Core.Bool.{true}
+use Prim.Native.Nat.{◌≤◌}
+use lib.ListN.{length, drop}
 use Rattle.definition.specs.Words.{none_twice}
-use Rattle.state_well_formed.specs.Twice.{marked, marked-end, marked-back, twice_end, twice_back, twice_later}
-use borrow.Author.Rules.{rules}
+use Rattle.state_well_formed.specs.Twice.{marked}
 use Rattle.state_well_formed.proofs.none_twice.Given as goal
 
 abbrev pub invariant-loop-i : goal.invariant-loop-i

@@ -1,12 +1,10 @@
 -- `state_well_formed::rising` meets its contract: each row passed over is in its place, so what is left says the same.
 -- Assumes nothing.
-use mathlib.Core.Path.{◌≡◌, refl, ◌∙◌}
+use mathlib.Core.Path.{◌≡◌}
 use Prim.Native.Nat.{◌-◌, ◌≤◌}
-use native.Mathlib.Omega.{arith}
 use lib.ListN.{drop}
 use Rattle.lists.specs.Lists.{chop}
-use Rattle.state_well_formed.specs.Place.{in_place, rise_iteration}
-use borrow.Author.Rules.{rules}
+use Rattle.state_well_formed.specs.Place.{in_place}
 use Rattle.state_well_formed.proofs.rising.Given as goal
 
 abbrev pub invariant-loop-i : goal.invariant-loop-i

@@ -2,7 +2,6 @@
 -- Assumes nothing.
 use Rattle.lists.specs.Lists.{chop}
 use Rattle.state_well_formed.specs.Place.{routes-tests}
-use borrow.Author.Rules.{rules}
 use Rattle.state_well_formed.proofs.routes_form.Goals as goal
 
 pub returns : goal.returns

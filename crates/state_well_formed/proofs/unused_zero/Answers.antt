@@ -1,8 +1,6 @@
 -- `state_well_formed::unused_zero` meets its contract: the three parts behind what is in use.
 -- Assumes nothing.
-use Prim.Native.Nat.{◌-◌}
 use Rattle.state_well_formed.specs.Look.{unused-tests}
-use borrow.Author.Rules.{rules}
 use Rattle.state_well_formed.proofs.unused_zero.Goals as goal
 
 pub returns : goal.returns

@@ -1,9 +1,7 @@
 -- `state_well_formed::well_formed` meets its contract: the counts, the rows in use, the words behind them.
 -- Assumes nothing.
-use Prim.Native.Nat.{◌-◌}
 use native.Mathlib.Omega.{arith}
 use Rattle.state_well_formed.specs.Look.{form_parts, too_many-addresses, too_many-routes, too_many-tables}
-use borrow.Author.Rules.{rules}
 use Rattle.state_well_formed.proofs.well_formed.Goals as goal
 
 pub returns-then-a-gt-ADDRESS_LIMIT : goal.returns-then-a-gt-ADDRESS_LIMIT

@@ -3,7 +3,6 @@ use native.Mathlib.Omega.{arith}
 use Rattle.state.specs.Represents.{count-addresses, fit-some, sound-long}
 use Rattle.state_read.specs.Parts.{ready_addresses, of_addresses}
 use Rattle.step_add_v4.specs.Added.{added-change, added-refused, added_new}
-use borrow.Author.Rules.{rules}
 use Rattle.step_add_v4.proofs.add_v4.Goals as goal
 
 pub address_count-n-requires : goal.address_count-n-requires
@@ -16,9 +15,12 @@ same_at-place-requires c =
 
 pub returns-then-q-ne1 : goal.returns-then-q-ne1
 returns-then-q-ne1 c =
-    record { result_bound = omega arith; comes = λ st h g.
+    record {
+      result_bound = omega arith;
+      comes = λ st h g.
           let found = c.same_at-place.ensures.value st.addresses (of_addresses _ h c.addresses.ensures) in
-          added-refused c.args.q.now c.args.clock.0 st c.same_at-place.result found (omega (arith, count-addresses h, c.address_count-n.ensures, c.if-place-n.true)) c.if-q-ne1.true _ h }
+          added-refused c.args.q.now c.args.clock.0 st c.same_at-place.result found (omega (arith, count-addresses h, c.address_count-n.ensures, c.if-place-n.true)) c.if-q-ne1.true _ h;
+    }
 
 pub change_v4-requires : goal.change_v4-requires
 change_v4-requires c =
@@ -26,9 +28,12 @@ change_v4-requires c =
 
 pub returns-then-place-n : goal.returns-then-place-n
 returns-then-place-n c =
-    record { result_bound = (omega (arith, c.change_v4.ensures.result_bound)); comes = λ st h g.
+    record {
+      result_bound = (omega (arith, c.change_v4.ensures.result_bound));
+      comes = λ st h g.
           let found = c.same_at-place.ensures.value st.addresses (of_addresses _ h c.addresses.ensures) in
-          added-change c.args.q.now c.args.clock.0 st c.same_at-place.result found (omega (arith, count-addresses h, c.address_count-n.ensures, c.if-place-n.true)) c.if-q-ne1.false (c.change_v4.ensures.comes st h g found) }
+          added-change c.args.q.now c.args.clock.0 st c.same_at-place.result found (omega (arith, count-addresses h, c.address_count-n.ensures, c.if-place-n.true)) c.if-q-ne1.false (c.change_v4.ensures.comes st h g found);
+    }
 
 pub fresh-requires : goal.fresh-requires
 fresh-requires c =
@@ -36,6 +41,9 @@ fresh-requires c =
 
 pub returns : goal.returns
 returns c =
-    record { result_bound = c.new_address.ensures.result_bound; comes = λ st h g.
+    record {
+      result_bound = c.new_address.ensures.result_bound;
+      comes = λ st h g.
           let found = c.same_at-place.ensures.value st.addresses (of_addresses _ h c.addresses.ensures) in
-          added_new c.args.q.now c.args.clock.0 st c.same_at-place.result found (omega (arith, count-addresses h, c.address_count-n.ensures, c.if-place-n.false)) _ (c.fresh.ensures.out_after_2 st.addresses (of_addresses _ h c.addresses-2.ensures)) _ refl (c.new_address.ensures.adds_from st h g) }
+          added_new c.args.q.now c.args.clock.0 st c.same_at-place.result found (omega (arith, count-addresses h, c.address_count-n.ensures, c.if-place-n.false)) _ (c.fresh.ensures.out_after_2 st.addresses (of_addresses _ h c.addresses-2.ensures)) _ refl (c.new_address.ensures.adds_from st h g);
+    }

@@ -1,12 +1,10 @@
-use Prim.Native.Nat.{◌-◌, ◌≤◌}
-use mathlib.Core.Path.{◌≡◌, refl, sym, ◌∙◌}
+use Prim.Native.Nat.{◌-◌}
+use mathlib.Core.Path.{refl, sym, ◌∙◌}
 use native.Mathlib.Omega.{arith}
-use lib.ListN.{length}
 use Rattle.state.specs.Represents.{sound-long}
 use Rattle.step_new_address.specs.Adding.{rest-room, rows_are}
-use Rattle.step_add_v4.specs.Every.{LoopInvariant, sofar-start, sofar-sound, sofar-few, sofar-length, sofar-count, sofar-next, sofar-other, sofar-end}
+use Rattle.step_add_v4.specs.Every.{sofar-start, sofar-sound, sofar-few, sofar-length, sofar-count, sofar-next, sofar-other, sofar-end}
 use Rattle.step_events.specs.Comes.{not_first}
-use borrow.Author.Rules.{rules}
 use borrow.Enum.Refused.{opened}
 use Rattle.step_add_v4.proofs.install_all.Goals as goal
 

@@ -3,7 +3,6 @@ use Rattle.state.specs.Represents.{fit-some, sound-long, sound-few}
 use Rattle.state_read.specs.Parts.{ready_addresses, of_addresses}
 use Rattle.row_subnet.specs.Laws.{part-short}
 use Rattle.step_add_v4.specs.Every.{iteration_ready, iteration-done}
-use borrow.Author.Rules.{rules}
 use Rattle.step_add_v4.proofs.install_at.Goals as goal
 
 pub address_count-n-requires : goal.address_count-n-requires

@@ -1,5 +1,4 @@
 use Rattle.step_add_v4.specs.Added.{step_other, not-second}
-use borrow.Author.Rules.{rules}
 use borrow.Enum.Refused.{opened}
 use Rattle.step_add_v4.proofs.step_of.Goals as goal
 

@@ -6,7 +6,6 @@ use Rattle.step_new_address.specs.Adding.{rest-room, rows_are, joined-few}
 use Rattle.step_events.specs.Comes.{not_first}
 use Rattle.step_add_v4.specs.Added.{step-few, added-step}
 use Rattle.step_add_v4.specs.Every.{up-other, up-sound, up-length, up_done}
-use borrow.Author.Rules.{rules}
 use borrow.Enum.Refused.{opened}
 use Rattle.step_add_v4.proofs.up.Goals as goal
 

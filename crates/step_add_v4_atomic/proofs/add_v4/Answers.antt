@@ -3,7 +3,6 @@ use native.Mathlib.Omega.{arith}
 use Rattle.state.specs.Represents.{sizes_of, sound-long}
 use Rattle.step_events.specs.Comes.{whole-made}
 use Rattle.step_add_v4_atomic.specs.Room.{add_certain}
-use borrow.Author.Rules.{rules}
 use Rattle.step_add_v4_atomic.proofs.add_v4.Goals as goal
 
 pub has_room-requires : goal.has_room-requires

@@ -2,7 +2,6 @@ use Prim.Native.Nat.{◌*◌}
 use native.Mathlib.Omega.{arith}
 use Rattle.step_events.specs.Comes.{not_first}
 use Rattle.step_add_v4_atomic.specs.Copy.{take-room, few-rows, whole_back, whole-left}
-use borrow.Author.Rules.{rules}
 use borrow.Enum.Refused.{opened}
 use Rattle.step_add_v4_atomic.proofs.copy_back.Goals as goal
 

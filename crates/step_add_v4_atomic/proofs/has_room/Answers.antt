@@ -1,4 +1,3 @@
-use borrow.Author.Rules.{rules}
 use Rattle.step_add_v4_atomic.proofs.has_room.Goals as goal
 
 pub returns : goal.returns

@@ -4,7 +4,6 @@ use Rattle.definition.specs.Reference.Addresses.{add_v4}
 use Rattle.definition.proofs.Laws.Refusals.{add_v4-leaves}
 use Rattle.state.specs.Represents.{sound-long}
 use Rattle.step_add_v4_atomic.specs.Copy.{copy_sound, copy_holds}
-use borrow.Author.Rules.{rules}
 use Rattle.step_add_v4_atomic.proofs.try_add_v4.Goals as goal
 
 pub store-requires : goal.store-requires

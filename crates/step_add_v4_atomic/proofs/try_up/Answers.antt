@@ -3,7 +3,6 @@ use native.Mathlib.Omega.{arith}
 use Rattle.definition.specs.Reference.Addresses.{goes, up}
 use Rattle.state.specs.Represents.{sound-long}
 use Rattle.step_add_v4_atomic.specs.Copy.{copy_sound, copy_holds}
-use borrow.Author.Rules.{rules}
 use Rattle.step_add_v4_atomic.proofs.try_up.Goals as goal
 
 pub store-requires : goal.store-requires

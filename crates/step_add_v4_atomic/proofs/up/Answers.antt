@@ -4,7 +4,6 @@ use native.Mathlib.Omega.{arith}
 use Rattle.state.specs.Represents.{sizes_of, sound-long, sound-few}
 use Rattle.step_events.specs.Comes.{whole-made}
 use Rattle.step_add_v4_atomic.specs.Room.{up_certain}
-use borrow.Author.Rules.{rules}
 use Rattle.step_add_v4_atomic.proofs.up.Goals as goal
 
 pub address_count-requires : goal.address_count-requires
@@ -25,6 +24,9 @@ has_room-requires c =
 
 pub returns-then-has_room : goal.returns-then-has_room
 returns-then-has_room c =
-    record { result_bound = c.up.ensures.result_bound; comes_whole = λ st h g. whole-made st
+    record {
+      result_bound = c.up.ensures.result_bound;
+      comes_whole = λ st h g. whole-made st
           (up_certain (4 * (c.address_count.result + 2)) c.has_room.result c.has_room.ensures c.if-has_room.true st h (ap (λ (m : ℕ). 4 * (m + 2)) c.address_count.ensures) c.args.clock.0)
-          (c.up.ensures.adds_from st h g) }
+          (c.up.ensures.adds_from st h g);
+    }

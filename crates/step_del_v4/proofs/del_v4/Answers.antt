@@ -10,7 +10,6 @@ use native.Mathlib.Omega.{arith}
 use mathlib.Core.List.{List}
 use mathlib.Core.Path.{refl, sym, ap, subst, ◌∙◌}
 use Prim.Native.Nat.{ℕ, ◌*◌, ◌-◌}
-use borrow.Author.Rules.{rules}
 use Rattle.step_del_v4.proofs.del_v4.Goals as goal
 
 pub address_count-n-requires : goal.address_count-n-requires
@@ -18,10 +17,13 @@ address_count-n-requires c = (sizes-valid (ready_valid c.requires.some_room)).lo
 
 pub find-i-requires : goal.find-i-requires
 find-i-requires c =
-    let v = ready_valid c.requires.some_room in record { rows_len = (
+    let v = ready_valid c.requires.some_room in record {
+      rows_len = (
         ap length c.addresses.ensures ∙ length-addresses v ∙ ap (λ (n : ℕ). 20 * n) (sym c.address_count-n.ensures),
         subst (Lays 20 fit_address) (sym c.addresses.ensures) (lays_addresses v),
-      ); q_len = c.requires.q_len }
+      );
+      q_len = c.requires.q_len;
+    }
 
 pub returns-then-n-i : goal.returns-then-n-i
 returns-then-n-i c =

@@ -1,5 +1,4 @@
 use Rattle.step_del_v4.specs.Asked.{deletes-is}
-use borrow.Author.Rules.{rules}
 use Rattle.step_del_v4.proofs.deletes.Goals as goal
 
 pub returns : goal.returns

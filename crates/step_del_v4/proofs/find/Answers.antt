@@ -1,17 +1,12 @@
 use Rattle.definition.specs.Reference.Removal.{deletes}
 use Rattle.row_subnet.specs.Laws.{part-short}
-use Rattle.layout.specs.Address.{fit_address}
 use Rattle.lists.specs.Pass.{find_here, find_past, find_end}
 use Rattle.lists.specs.Place.{place_of}
-use Rattle.lists.specs.Laid.{Laid}
-use Rattle.lists.specs.Lists.{Row}
-use lib.ListN.{drop}
 use lib.Dec.{lit<}
 use native.Mathlib.Omega.{arith}
 use native.Mathlib.Nat.{zero-add}
-use mathlib.Core.Path.{◌≡◌, sym, ◌∙◌}
-use mathlib.Core.List.{List}
-use Prim.Native.Nat.{◌+◌, ◌-◌, ◌≤◌}
+use mathlib.Core.Path.{sym, ◌∙◌}
+use Prim.Native.Nat.{◌-◌}
 use borrow.Author.Rules.{rules}
 use Rattle.step_del_v4.proofs.find.Goals as goal
 
@@ -27,11 +22,10 @@ returns-then-deletes c =
     λ l h. find_here c.args.rows.now c.args.n (lit< tt) c.requires.rows_len.0 (deletes c.args.q.now) l h c.loop-i.i (c.loop-i.invariant.1 l h) c.loop-i-test.true (sym c.deletes.ensures ∙ c.if-deletes.true)
 
 pub loop-i-preserved : goal.loop-i-preserved
-loop-i-preserved c =
-    (
-      omega arith,
-      λ l h. find_past c.args.rows.now c.args.n (lit< tt) c.requires.rows_len.0 (deletes c.args.q.now) l h c.loop-i.i (c.loop-i.invariant.1 l h) c.loop-i-test.true (sym c.deletes.ensures ∙ c.if-deletes.false),
-    )
+loop-i-preserved c = (
+  omega arith,
+  λ l h. find_past c.args.rows.now c.args.n (lit< tt) c.requires.rows_len.0 (deletes c.args.q.now) l h c.loop-i.i (c.loop-i.invariant.1 l h) c.loop-i-test.true (sym c.deletes.ensures ∙ c.if-deletes.false),
+)
 
 pub returns : goal.returns
 returns c =

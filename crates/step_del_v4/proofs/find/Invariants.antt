@@ -1,18 +1,12 @@
 use Rattle.definition.specs.Reference.Removal.{deletes}
-use Rattle.row_subnet.specs.Laws.{part-short}
 use Rattle.layout.specs.Address.{fit_address}
-use Rattle.lists.specs.Pass.{find_here, find_past, find_end}
 use Rattle.lists.specs.Place.{place_of}
 use Rattle.lists.specs.Laid.{Laid}
 use Rattle.lists.specs.Lists.{Row}
 use lib.ListN.{drop}
-use lib.Dec.{lit<}
-use native.Mathlib.Omega.{arith}
-use native.Mathlib.Nat.{zero-add}
-use mathlib.Core.Path.{◌≡◌, sym, ◌∙◌}
+use mathlib.Core.Path.{◌≡◌}
 use mathlib.Core.List.{List}
 use Prim.Native.Nat.{◌+◌, ◌-◌, ◌≤◌}
-use borrow.Author.Rules.{rules}
 use Rattle.step_del_v4.proofs.find.Given as goal
 
 abbrev pub invariant-loop-i : goal.invariant-loop-i

@@ -3,7 +3,6 @@
 use mathlib.Core.Path.{sym, ◌∙◌}
 use Rattle.definition.specs.Reference.Removal.{dependent_on}
 use Rattle.step_drop_prefsrc.specs.Sweep.{swept_goes, swept_stays}
-use borrow.Author.Rules.{rules}
 use Rattle.step_drop_prefsrc.proofs.dependent_iteration.Goals as goal
 
 pub returns-then-dependents_from : goal.returns-then-dependents_from

@@ -1,15 +1,10 @@
 -- `step_drop_prefsrc::drop_dependents` meets its contract: after i iterations those of the first i rows that depend on that source are emitted, and the others stand in front.
 -- Assumes nothing.
 use Prim.Native.Nat.{◌-◌, ◌*◌, ◌≤◌}
-use mathlib.Core.Path.{◌≡◌, refl, sym, ◌∙◌}
-use native.Mathlib.Omega.{arith}
+use mathlib.Core.Path.{◌≡◌}
 use lib.ListN.{length}
 use Rattle.definition.specs.Reference.Removal.{dependent_on}
-use Rattle.state.specs.Represents.{sizes-valid}
-use Rattle.state_retain.specs.Retain.{keeping_few}
-use Rattle.step_drop_prefsrc.specs.Delete.{ready_valid, ready_room}
-use Rattle.step_drop_prefsrc.specs.Sweep.{length_rest, Sweeping, sweeping_start, sweeping_iteration, sweeping_end}
-use borrow.Author.Rules.{rules}
+use Rattle.step_drop_prefsrc.specs.Sweep.{Sweeping}
 use Rattle.definition.specs.Words.{base_size}
 use Rattle.step_drop_prefsrc.proofs.drop_dependents.Given as goal
 

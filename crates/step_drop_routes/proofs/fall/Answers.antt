@@ -1,9 +1,7 @@
 use Rattle.step_drop_routes.specs.Iterations.{fall-kept, fall_strayless, fall-local, fall_unlisted, fall-listed}
 use Rattle.step_drop_prefsrc.specs.Delete.{ready_valid}
 use Rattle.state_read.specs.Parts.{listed-there}
-use borrow.Author.Tests.{not-true, not-false}
 use mathlib.Core.Path.{◌∙◌}
-use borrow.Author.Rules.{rules}
 use Rattle.step_drop_routes.proofs.fall.Goals as goal
 
 pub returns-then-not-lost : goal.returns-then-not-lost

@@ -1,16 +1,9 @@
-use Rattle.step_drop_routes.specs.Iterations.{any_row}
 use Rattle.step_drop_routes.specs.One.{loses}
-use Rattle.state.specs.Represents.{Represents}
-use Rattle.definition.specs.State.{State}
 use Rattle.lists.specs.Pass.{part-width, some-here, some-past, some_end}
-use Rattle.lists.specs.Laid.{Laid}
-use Rattle.lists.specs.Lists.{Row, any}
-use lib.ListN.{drop}
 use lib.Dec.{lit<}
 use native.Mathlib.Omega.{arith}
-use mathlib.Core.List.{List}
-use mathlib.Core.Path.{◌≡◌, refl, sym, ◌∙◌}
-use Prim.Native.Nat.{◌-◌, ◌≤◌}
+use mathlib.Core.Path.{refl, sym, ◌∙◌}
+use Prim.Native.Nat.{◌-◌}
 use borrow.Author.Rules.{rules}
 use Rattle.step_drop_routes.proofs.loses.Goals as goal
 

@@ -5,11 +5,10 @@ use Rattle.definition.specs.State.{through}
 use Rattle.step_drop_routes.specs.Iterations.{step-facts, step-valid, step_ready, routes-gone}
 use native.Mathlib.Omega.{arith}
 use Prim.Native.Nat.{◌-◌}
-use borrow.Author.Rules.{rules}
 use Rattle.step_drop_routes.proofs.take_routes.Goals as goal
 
 pub delete_unwanted-k-requires : goal.delete_unwanted-k-requires
-delete_unwanted-k-requires c =  record { some_room = c.requires.some_room; rows_len = c.requires.rows_len }
+delete_unwanted-k-requires c = record { some_room = c.requires.some_room; rows_len = c.requires.rows_len }
 
 pub loses-lost-requires : goal.loses-lost-requires
 loses-lost-requires c =

@@ -2,7 +2,6 @@ use Rattle.step_drop_routes.specs.Iterations.{wanted-stays, unwanted-goes}
 use Rattle.step_drop_prefsrc.specs.Delete.{ready_valid}
 use Rattle.step_kernel_del.specs.Delete.{deletes, ready_row}
 use mathlib.Core.Path.{sym, ◌∙◌}
-use borrow.Author.Rules.{rules}
 use Rattle.step_drop_routes.proofs.unless_wanted.Goals as goal
 
 pub wanted_in-requires : goal.wanted_in-requires

@@ -16,10 +16,13 @@ address_count-requires c = (sizes-valid c.requires.represents_some).long
 
 pub wanted-requires : goal.wanted-requires
 wanted-requires c =
-    record { addresses_len = (
+    record {
+      addresses_len = (
         ap length c.addresses.ensures ∙ length-addresses c.requires.represents_some ∙ ap (λ (n : ℕ). 20 * n) (sym c.address_count.ensures),
         subst (Lays 20 fit_address) (sym c.addresses.ensures) (lays_addresses c.requires.represents_some),
-      ); r_len = c.requires.r_len }
+      );
+      r_len = c.requires.r_len;
+    }
 
 pub returns : goal.returns
 returns c =

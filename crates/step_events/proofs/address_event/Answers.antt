@@ -7,7 +7,6 @@ use native.Mathlib.Omega.{arith}
 use lib.ListN.{set, length-set}
 use Rattle.lists.specs.Lists.{put, zeros}
 use Rattle.step_events.specs.Row.{address-written}
-use borrow.Author.Rules.{rules}
 use Rattle.step_events.proofs.address_event.Goals as goal
 
 pub bounds-ev-0 : goal.bounds-ev-0

@@ -1,7 +1,6 @@
 -- `step_events::del_addr4` meets its contract.
 -- Assumes nothing.
 use Rattle.layout.specs.Event.{del_addr4}
-use borrow.Author.Rules.{rules}
 use Rattle.step_events.proofs.del_addr4.Goals as goal
 
 pub returns : goal.returns

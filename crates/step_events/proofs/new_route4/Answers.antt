@@ -1,7 +1,6 @@
 -- `step_events::new_route4` meets its contract.
 -- Assumes nothing.
 use Rattle.layout.specs.Event.{new_route4}
-use borrow.Author.Rules.{rules}
 use Rattle.step_events.proofs.new_route4.Goals as goal
 
 pub returns : goal.returns

@@ -6,7 +6,6 @@ use Prim.Native.Nat.{ℕ}
 use native.Mathlib.Omega.{arith}
 use lib.ListN.{set, length-set}
 use Rattle.step_events.specs.Row.{row_written}
-use borrow.Author.Rules.{rules}
 use Rattle.step_events.proofs.route_event.Goals as goal
 
 pub bounds-ev-0 : goal.bounds-ev-0

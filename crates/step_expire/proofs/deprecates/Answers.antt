@@ -2,7 +2,6 @@ use Rattle.step_expire.proofs.Loop.{deprecates-is}
 use Rattle.life.specs.declared.Life.{Life}
 use Rattle.life.specs.Life.{reached}
 use mathlib.Core.Path.{ap, ◌∙◌}
-use borrow.Author.Rules.{rules}
 use Rattle.step_expire.proofs.deprecates.Goals as goal
 
 pub returns : goal.returns

@@ -1,17 +1,12 @@
-use Rattle.step_expire.proofs.Loop.{Expiring, next-less, expiring_start, expiring_facts, expiring_next, expiring_end, expiring_fewer}
+use Rattle.step_expire.proofs.Loop.{next-less, expiring_start, expiring_facts, expiring_next, expiring_end, expiring_fewer}
 use Rattle.step_drop_routes.specs.Iterations.{step-facts}
 use Rattle.step_drop_prefsrc.specs.Delete.{ready_valid}
 use Rattle.step_events.specs.Iterations.{going_ready, going-fits}
-use Rattle.step_events.specs.EmitsWithin.{RoomFor}
 use Rattle.state.specs.Represents.{sizes-valid}
 use Rattle.definition.specs.Preservation.Shrinking.{potential}
-use Rattle.definition.specs.Words.{address_count, base_size}
-use Rattle.definition.specs.State.{State}
-use lib.ListN.{length}
 use native.Mathlib.Omega.{arith}
-use Prim.Native.Nat.{◌-◌, ◌*◌, ◌≤◌}
-use mathlib.Core.Path.{◌≡◌, sym, ◌∙◌}
-use borrow.Author.Rules.{rules}
+use Prim.Native.Nat.{◌-◌}
+use mathlib.Core.Path.{sym, ◌∙◌}
 use Rattle.step_expire.proofs.expire.Goals as goal
 
 pub address_count-n-requires : goal.address_count-n-requires

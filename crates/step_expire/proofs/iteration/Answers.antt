@@ -5,7 +5,6 @@ use Rattle.layout.specs.Address.{fit_address}
 use native.Mathlib.Omega.{arith}
 use Prim.Native.Nat.{◌-◌}
 use mathlib.Core.Path.{refl, sym, ap, ◌∙◌}
-use borrow.Author.Rules.{rules}
 use Rattle.step_expire.proofs.iteration.Goals as goal
 
 pub overflow_mul-at : goal.overflow_mul-at

@@ -1,5 +1,4 @@
 use Rattle.step_expire.proofs.Loop.{next-again, next-on}
-use borrow.Author.Rules.{rules}
 use Rattle.step_expire.proofs.next.Goals as goal
 
 pub returns-then-left-was : goal.returns-then-left-was

@@ -1,13 +1,9 @@
-use Prim.Native.Nat.{◌-◌, ◌≤◌}
+use Prim.Native.Nat.{◌-◌}
 use native.Mathlib.Omega.{arith}
 use mathlib.Core.Path.{sym, ◌∙◌}
-use mathlib.Core.List.{List}
-use Rattle.lists.specs.Lists.{Row}
-use Rattle.lists.specs.Laid.{Laid}
 use Rattle.lists.specs.Count.{tick-most}
 use Rattle.lists.specs.Pass.{part-width}
-use Rattle.layout.specs.Route.{fit_route}
-use Rattle.step_insert.specs.Run.{LoopInvariant, sofar-start}
+use Rattle.step_insert.specs.Run.{sofar-start}
 use Rattle.step_insert.specs.Pass.{pass-next, pass-stop, pass-end}
 use borrow.Author.Rules.{rules}
 use lib.Dec.{lit<}

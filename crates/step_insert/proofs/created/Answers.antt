@@ -1,6 +1,5 @@
 use Rattle.step_insert.specs.Plan.{flag_is}
 use mathlib.Core.Bool.{true, false}
-use borrow.Author.Rules.{rules}
 use Rattle.step_insert.proofs.created.Goals as goal
 
 pub returns-then-has : goal.returns-then-has

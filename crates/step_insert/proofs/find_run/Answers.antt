@@ -1,14 +1,9 @@
-use Prim.Native.Nat.{◌-◌, ◌≤◌}
+use Prim.Native.Nat.{◌-◌}
 use native.Mathlib.Omega.{arith}
-use mathlib.Core.List.{List}
-use borrow.Author.Tests.{not-true, not-false}
 use mathlib.Core.Bool.{◌&&◌, ◌||◌}
 use lib.Dec.{eqb}
-use Rattle.lists.specs.Lists.{Row}
-use Rattle.lists.specs.Laid.{Laid}
 use Rattle.lists.specs.Count.{tick-most}
-use Rattle.layout.specs.Route.{fit_route}
-use Rattle.step_insert.specs.Find.{Sofar, find_start, pass-more, pass-found, pass_all}
+use Rattle.step_insert.specs.Find.{find_start, pass-more, pass-found, pass_all}
 use borrow.Author.Rules.{rules}
 use Rattle.step_insert.proofs.find_run.Goals as goal
 
@@ -17,9 +12,12 @@ loop-end-init c = (search rules, search rules, λ l h. find_start c.args.new.now
 
 pub returns-then-not-goes_on : goal.returns-then-not-goes_on
 returns-then-not-goes_on c =
-    let goes_on = c.see-seen.result.in_run || (c.see-seen.result.in_front && eqb c.loop-end.start c.loop-end.end) in record { start_value = λ l h.
+    let goes_on = c.see-seen.result.in_run || (c.see-seen.result.in_front && eqb c.loop-end.start c.loop-end.end) in record {
+      start_value = λ l h.
           pass-found c.args.new.now c.args.rows.now c.args.n c.requires.rows_len.0 l h c.loop-end.end c.loop-end.start (c.loop-end.invariant.2 l h)
-          c.loop-end-test.true (rw (c.see-seen.ensures.in_front_value, c.see-seen.ensures.in_run_value) at c.if-not-goes_on.true); start_le_end = search rules }
+          c.loop-end-test.true (rw (c.see-seen.ensures.in_front_value, c.see-seen.ensures.in_run_value) at c.if-not-goes_on.true);
+      start_le_end = search rules;
+    }
 
 pub overflow_add-start : goal.overflow_add-start
 overflow_add-start c =
@@ -38,6 +36,9 @@ loop-end-preserved c =
 
 pub returns : goal.returns
 returns c =
-    record { start_value = λ l h.
+    record {
+      start_value = λ l h.
           pass_all c.args.new.now c.args.rows.now c.args.n c.requires.rows_len.0 l h c.loop-end.end c.loop-end.start (c.loop-end.invariant.2 l h)
-          c.loop-end.invariant.0 c.loop-end-test.false; start_le_end = search rules }
+          c.loop-end.invariant.0 c.loop-end-test.false;
+      start_le_end = search rules;
+    }

@@ -2,7 +2,6 @@ use Rattle.step_insert.specs.Plan.{in_order, add_place, replace_place, into-full
 use Rattle.state.specs.Represents.{sizes-valid, count-routes}
 use Rattle.definition.specs.Preservation.Fit.{length-route}
 use native.Mathlib.Omega.{arith}
-use borrow.Author.Rules.{rules}
 use Rattle.state_read.specs.Parts.{ready_routes, of_routes}
 use Rattle.step_insert.proofs.insert4.Goals as goal
 
@@ -16,9 +15,12 @@ plan4-plan-requires c =
 
 pub returns-then-n-eq-ROUTE_LIMIT : goal.returns-then-n-eq-ROUTE_LIMIT
 returns-then-n-eq-ROUTE_LIMIT c =
-    record { represents_some_2 = c.requires.represents_some; inserted_into = λ st h g.
+    record {
+      represents_some_2 = c.requires.represents_some;
+      inserted_into = λ st h g.
           into-full c.args.new.now c.args.flags st c.plan4-plan.result (c.plan4-plan.ensures.result_value st.routes (of_routes _ h c.routes.ensures) (in_order st g)) h c.in-Add.place c.in-Add.emitted c.in-Add.is
-          (omega (arith, add_place c.route_count-n.result c.plan4-plan.result c.in-Add.place c.in-Add.emitted c.plan4-plan.ensures.placed c.in-Add.is, c.route_count-n.ensures, count-routes h)) (omega (arith, c.route_count-n.ensures, count-routes h, c.if-n-eq-ROUTE_LIMIT.true)) }
+          (omega (arith, add_place c.route_count-n.result c.plan4-plan.result c.in-Add.place c.in-Add.emitted c.plan4-plan.ensures.placed c.in-Add.is, c.route_count-n.ensures, count-routes h)) (omega (arith, c.route_count-n.ensures, count-routes h, c.if-n-eq-ROUTE_LIMIT.true));
+    }
 
 pub insert_route-requires : goal.insert_route-requires
 insert_route-requires c =
@@ -30,14 +32,20 @@ replace_route-requires c =
 
 pub returns-else-n-eq-ROUTE_LIMIT : goal.returns-else-n-eq-ROUTE_LIMIT
 returns-else-n-eq-ROUTE_LIMIT c =
-    record { represents_some_2 = record { state = _; holds = c.insert_route.ensures c.requires.represents_some.state c.requires.represents_some.holds }; inserted_into = λ st h g.
+    record {
+      represents_some_2 = record { state = _; holds = c.insert_route.ensures c.requires.represents_some.state c.requires.represents_some.holds };
+      inserted_into = λ st h g.
           into-put c.args.new.now c.args.flags st c.plan4-plan.result (c.plan4-plan.ensures.result_value st.routes (of_routes _ h c.routes.ensures) (in_order st g)) c.in-Add.place c.in-Add.emitted c.in-Add.is
-          (omega (arith, add_place c.route_count-n.result c.plan4-plan.result c.in-Add.place c.in-Add.emitted c.plan4-plan.ensures.placed c.in-Add.is, c.route_count-n.ensures, count-routes h)) (omega (arith, c.route_count-n.ensures, count-routes h, sizes-valid c.requires.represents_some, c.if-n-eq-ROUTE_LIMIT.false)) (c.insert_route.ensures st h) }
+          (omega (arith, add_place c.route_count-n.result c.plan4-plan.result c.in-Add.place c.in-Add.emitted c.plan4-plan.ensures.placed c.in-Add.is, c.route_count-n.ensures, count-routes h)) (omega (arith, c.route_count-n.ensures, count-routes h, sizes-valid c.requires.represents_some, c.if-n-eq-ROUTE_LIMIT.false)) (c.insert_route.ensures st h);
+    }
 
 pub returns-in-Replace : goal.returns-in-Replace
 returns-in-Replace c =
-    record { represents_some_2 = record { state = _; holds = c.replace_route.ensures c.requires.represents_some.state c.requires.represents_some.holds }; inserted_into = λ st h g.
-          into_replaced c.args.new.now c.args.flags st c.plan4-plan.result (c.plan4-plan.ensures.result_value st.routes (of_routes _ h c.routes.ensures) (in_order st g)) c.in-Replace.place c.in-Replace.is h.routes_within (c.replace_route.ensures st h) }
+    record {
+      represents_some_2 = record { state = _; holds = c.replace_route.ensures c.requires.represents_some.state c.requires.represents_some.holds };
+      inserted_into = λ st h g.
+          into_replaced c.args.new.now c.args.flags st c.plan4-plan.result (c.plan4-plan.ensures.result_value st.routes (of_routes _ h c.routes.ensures) (in_order st g)) c.in-Replace.place c.in-Replace.is h.routes_within (c.replace_route.ensures st h);
+    }
 
 pub returns-in-Keep : goal.returns-in-Keep
 returns-in-Keep c =

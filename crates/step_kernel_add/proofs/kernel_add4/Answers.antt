@@ -3,7 +3,6 @@ use Rattle.definition.specs.Preservation.Fit.{length-route}
 use Rattle.definition.specs.Reference.Insert.{create4}
 use Rattle.layout.specs.Route.{table}
 use native.Mathlib.Omega.{arith}
-use borrow.Author.Rules.{rules}
 use Rattle.step_kernel_add.proofs.kernel_add4.Goals as goal
 
 pub bounds-new-0 : goal.bounds-new-0

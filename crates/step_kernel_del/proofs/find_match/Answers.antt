@@ -1,16 +1,11 @@
 use Rattle.definition.specs.Reference.Insert.{matches}
-use Rattle.layout.specs.Route.{fit_route}
 use Rattle.lists.specs.Pass.{find_here, find_past, find_end}
 use Rattle.lists.specs.Place.{place_of}
-use Rattle.lists.specs.Laid.{Laid}
-use Rattle.lists.specs.Lists.{Row}
-use lib.ListN.{drop}
 use lib.Dec.{lit<}
 use native.Mathlib.Omega.{arith}
 use native.Mathlib.Nat.{zero-add}
-use mathlib.Core.Path.{◌≡◌, sym, ◌∙◌}
-use mathlib.Core.List.{List}
-use Prim.Native.Nat.{◌+◌, ◌-◌, ◌≤◌}
+use mathlib.Core.Path.{sym, ◌∙◌}
+use Prim.Native.Nat.{◌-◌}
 use borrow.Author.Rules.{rules}
 use Rattle.step_kernel_del.proofs.find_match.Goals as goal
 
@@ -22,11 +17,10 @@ returns-then-matches c =
     λ l h. find_here c.args.rows.now c.args.n (lit< tt) c.requires.rows_len.0 (matches c.args.p.now) l h c.loop-i.i (c.loop-i.invariant.1 l h) c.loop-i-test.true (sym c.matches.ensures ∙ c.if-matches.true)
 
 pub loop-i-preserved : goal.loop-i-preserved
-loop-i-preserved c =
-    (
-      omega arith,
-      λ l h. find_past c.args.rows.now c.args.n (lit< tt) c.requires.rows_len.0 (matches c.args.p.now) l h c.loop-i.i (c.loop-i.invariant.1 l h) c.loop-i-test.true (sym c.matches.ensures ∙ c.if-matches.false),
-    )
+loop-i-preserved c = (
+  omega arith,
+  λ l h. find_past c.args.rows.now c.args.n (lit< tt) c.requires.rows_len.0 (matches c.args.p.now) l h c.loop-i.i (c.loop-i.invariant.1 l h) c.loop-i-test.true (sym c.matches.ensures ∙ c.if-matches.false),
+)
 
 pub returns : goal.returns
 returns c =

@@ -1,17 +1,12 @@
 use Rattle.definition.specs.Reference.Insert.{matches}
 use Rattle.layout.specs.Route.{fit_route}
-use Rattle.lists.specs.Pass.{find_here, find_past, find_end}
 use Rattle.lists.specs.Place.{place_of}
 use Rattle.lists.specs.Laid.{Laid}
 use Rattle.lists.specs.Lists.{Row}
 use lib.ListN.{drop}
-use lib.Dec.{lit<}
-use native.Mathlib.Omega.{arith}
-use native.Mathlib.Nat.{zero-add}
-use mathlib.Core.Path.{◌≡◌, sym, ◌∙◌}
+use mathlib.Core.Path.{◌≡◌}
 use mathlib.Core.List.{List}
 use Prim.Native.Nat.{◌+◌, ◌-◌, ◌≤◌}
-use borrow.Author.Rules.{rules}
 use Rattle.step_kernel_del.proofs.find_match.Given as goal
 
 abbrev pub invariant-loop-i : goal.invariant-loop-i

@@ -10,7 +10,6 @@ use Rattle.step_kernel_del.specs.Delete.{none-matches, one-matches, row-wide}
 use Rattle.state_read.specs.Parts.{length-routes, lays_routes, laid-routes}
 use Rattle.state.specs.Represents.{sizes-valid, count-routes}
 use native.Mathlib.Omega.{arith}
-use borrow.Author.Rules.{rules}
 use Rattle.step_kernel_del.proofs.kernel_del4.Goals as goal
 
 pub route_count-n-requires : goal.route_count-n-requires
@@ -19,17 +18,24 @@ route_count-n-requires c =
 
 pub find_match-i-requires : goal.find_match-i-requires
 find_match-i-requires c =
-    record { rows_len = (
+    record {
+      rows_len = (
         ap length c.routes.ensures ∙ length-routes c.requires.represents_some ∙ ap (λ (n : ℕ). 32 * n) (sym c.route_count-n.ensures),
         subst (Lays 32 fit_route) (sym c.routes.ensures) (lays_routes c.requires.represents_some),
-      ); p_len = c.requires.p_len }
+      );
+      p_len = c.requires.p_len;
+    }
 
 pub returns-then-n-i : goal.returns-then-n-i
 returns-then-n-i c =
-    record { represents_some_2 = c.requires.represents_some; upper_bound = omega arith; emits = λ st h.
-            none-matches c.args.p.now st h c.find_match-i.result
-            (c.find_match-i.ensures st.routes (subst (λ (x : List ℕ). Laid 32 fit_route x st.routes) (sym c.routes.ensures) (laid-routes h)))
-            (omega (arith, count-routes h, c.route_count-n.ensures, c.if-n-i.true)) }
+    record {
+      represents_some_2 = c.requires.represents_some;
+      upper_bound = omega arith;
+      emits = λ st h.
+          none-matches c.args.p.now st h c.find_match-i.result
+          (c.find_match-i.ensures st.routes (subst (λ (x : List ℕ). Laid 32 fit_route x st.routes) (sym c.routes.ensures) (laid-routes h)))
+          (omega (arith, count-routes h, c.route_count-n.ensures, c.if-n-i.true));
+    }
 
 pub overflow_mul-at : goal.overflow_mul-at
 overflow_mul-at c =
@@ -61,7 +67,11 @@ remove_route-requires c =
 
 pub returns : goal.returns
 returns c =
-    record { represents_some_2 = record { state = _; holds = c.remove_route.ensures c.requires.represents_some.state c.requires.represents_some.holds }; upper_bound = omega arith; emits = λ st h.
-            one-matches c.args.p.now st h c.find_match-i.result
-            (c.find_match-i.ensures st.routes (subst (λ (x : List ℕ). Laid 32 fit_route x st.routes) (sym c.routes.ensures) (laid-routes h)))
-            (omega (arith, count-routes h, c.route_count-n.ensures, c.if-n-i.false)) (c.requires.in_bounds (omega (arith, c.route_count-n.ensures, c.if-n-i.false))) (c.remove_route.ensures st h) c.del_route4.ensures }
+    record {
+      represents_some_2 = record { state = _; holds = c.remove_route.ensures c.requires.represents_some.state c.requires.represents_some.holds };
+      upper_bound = omega arith;
+      emits = λ st h.
+          one-matches c.args.p.now st h c.find_match-i.result
+          (c.find_match-i.ensures st.routes (subst (λ (x : List ℕ). Laid 32 fit_route x st.routes) (sym c.routes.ensures) (laid-routes h)))
+          (omega (arith, count-routes h, c.route_count-n.ensures, c.if-n-i.false)) (c.requires.in_bounds (omega (arith, c.route_count-n.ensures, c.if-n-i.false))) (c.remove_route.ensures st h) c.del_route4.ensures;
+    }

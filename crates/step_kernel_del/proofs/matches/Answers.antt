@@ -1,7 +1,6 @@
 use mathlib.Core.Path.{refl}
 use Rattle.definition.specs.Reference.Insert.{matches}
 use Rattle.step_kernel_del.specs.Delete.{matches_far}
-use borrow.Author.Rules.{rules}
 use Rattle.step_kernel_del.proofs.matches.Goals as goal
 
 pub returns-then-p-r : goal.returns-then-p-r

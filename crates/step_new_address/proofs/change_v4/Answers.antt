@@ -8,7 +8,6 @@ use Rattle.step_new_address.specs.Adding.{rest-room, rows_are}
 use Rattle.step_new_address.specs.Change.{old_row, old-fit, old-long, row_room, changed-fit, change-other, change-sound, change-count, change-done}
 use Rattle.definition.specs.Preservation.Fit.{length-address}
 use Rattle.step_events.specs.Comes.{not_first}
-use borrow.Author.Rules.{rules}
 use borrow.Enum.Refused.{opened}
 use Rattle.step_new_address.proofs.change_v4.Goals as goal
 
@@ -106,5 +105,8 @@ pub returns : goal.returns
 returns c =
     let fit = old-fit c.args.i c.requires.i_bound _ refl c.store.ensures c.requires.represents_fit in
     let two = rows_are 2 c.moved-came.result c.in-Rows.k c.in-Rows.is c.moved-came.ensures.result_bound in
-    let room = rest-room c.in-Rows.k 34 c.moved-came.new.ev (omega (arith, two, c.requires.in_bounds)) in record { result_bound = omega (arith, two); comes = λ st hs g at. change-done c.args.q.now c.args.clock.0 c.store.new.s c.requires.q_len.1 fit _ refl c.changed_to.ensures c.moved-came.ensures.adds_from c.in-Rows.k c.in-Rows.is c.args.i
-          c.replace_address.ensures room c.new_addr4.ensures st hs g at (get_or st.addresses c.args.i []) (old_row c.args.i c.requires.i_bound _ refl c.store.ensures st hs) }
+    let room = rest-room c.in-Rows.k 34 c.moved-came.new.ev (omega (arith, two, c.requires.in_bounds)) in record {
+      result_bound = omega (arith, two);
+      comes = λ st hs g at. change-done c.args.q.now c.args.clock.0 c.store.new.s c.requires.q_len.1 fit _ refl c.changed_to.ensures c.moved-came.ensures.adds_from c.in-Rows.k c.in-Rows.is c.args.i
+          c.replace_address.ensures room c.new_addr4.ensures st hs g at (get_or st.addresses c.args.i []) (old_row c.args.i c.requires.i_bound _ refl c.store.ensures st hs);
+    }

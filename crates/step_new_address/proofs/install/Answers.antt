@@ -3,12 +3,10 @@ use Rattle.lists.specs.Pass.{part-fit}
 use Rattle.state.specs.Represents.{sound-long}
 use Rattle.step_new_address.specs.Adding.{rest-room, rows_are}
 use Rattle.step_events.specs.Comes.{not_first}
-use Prim.Native.Nat.{◌-◌, ◌≤◌}
-use mathlib.Core.Path.{◌≡◌, refl, sym, ◌∙◌}
+use Prim.Native.Nat.{◌-◌}
+use mathlib.Core.Path.{refl, sym, ◌∙◌}
 use native.Mathlib.Omega.{arith}
-use lib.ListN.{length}
-use Rattle.step_new_address.specs.Install.{LoopInvariant, sofar-start, sofar-sound, sofar-valid, sofar-length, sofar-next, sofar-other, sofar-end}
-use borrow.Author.Rules.{rules}
+use Rattle.step_new_address.specs.Install.{sofar-start, sofar-sound, sofar-valid, sofar-length, sofar-next, sofar-other, sofar-end}
 use borrow.Enum.Refused.{opened}
 use Rattle.step_new_address.proofs.install.Goals as goal
 

@@ -1,7 +1,6 @@
 use native.Mathlib.Omega.{arith}
 use Rattle.step_events.specs.Comes.{not_first, joined-other}
 use Rattle.step_new_address.specs.Adding.{joined-room, joined-rows}
-use borrow.Author.Rules.{rules}
 use borrow.Enum.Refused.{opened}
 use Rattle.step_new_address.proofs.joined.Goals as goal
 

@@ -1,13 +1,11 @@
 use mathlib.Core.Path.{refl, sym, ◌∙◌}
 use native.Mathlib.Omega.{arith}
-use borrow.Author.Tests.{not-true, not-false}
 use Rattle.step_events.specs.Comes.{not_first}
 use lib.ListN.{get_or}
 use Rattle.row_subnet.specs.Laws.{fit-short}
 use Rattle.state.specs.Represents.{fit-some}
 use Rattle.step_new_address.specs.Adding.{rest-room, rows_are}
 use Rattle.step_new_address.specs.Change.{moved_none, moved_other, moved-both, route-row, row_fits, row-wide}
-use borrow.Author.Rules.{rules}
 use borrow.Enum.Refused.{opened}
 use Rattle.step_new_address.proofs.moved.Goals as goal
 
@@ -33,10 +31,13 @@ kernel_add4-came-requires c =
 
 pub returns-in_default : goal.returns-in_default
 returns-in_default c =
-    record { result_bound = omega (arith, c.kernel_add4-came.ensures.result_bound); adds_from = moved_other c.args.q.now c.args.old.now (sym c.reroutes.ensures ∙ c.if-not-reroutes.false) c.requires.value
+    record {
+      result_bound = omega (arith, c.kernel_add4-came.ensures.result_bound);
+      adds_from = moved_other c.args.q.now c.args.old.now (sym c.reroutes.ensures ∙ c.if-not-reroutes.false) c.requires.value
           (route-row c.args.old.now c.requires.value (get_or c.args.q.now 13 0) (get_or c.args.old.now 0 0) _ refl c.prefix_route4.ensures)
           (route-row c.args.old.now c.requires.value (get_or c.args.old.now 13 0) (get_or c.args.old.now 0 0) _ refl c.prefix_route4-2.ensures)
-          c.kernel_add4-came.ensures.comes (λ k e. not_first (rw e at (opened c.in_default.in_default-own.keys2))) }
+          c.kernel_add4-came.ensures.comes (λ k e. not_first (rw e at (opened c.in_default.in_default-own.keys2)));
+    }
 
 pub overflow_mul-from : goal.overflow_mul-from
 overflow_mul-from c =
@@ -70,7 +71,10 @@ overflow_add-result c =
 
 pub returns : goal.returns
 returns c =
-    let one = rows_are 1 c.kernel_add4-came.result c.in-Rows.k c.in-Rows.is c.kernel_add4-came.ensures.result_bound in record { result_bound = omega (arith, one, c.kernel_del4-went.ensures.upper_bound); adds_from = moved-both c.args.q.now c.args.old.now (sym c.reroutes.ensures ∙ c.if-not-reroutes.false) c.requires.value
+    let one = rows_are 1 c.kernel_add4-came.result c.in-Rows.k c.in-Rows.is c.kernel_add4-came.ensures.result_bound in record {
+      result_bound = omega (arith, one, c.kernel_del4-went.ensures.upper_bound);
+      adds_from = moved-both c.args.q.now c.args.old.now (sym c.reroutes.ensures ∙ c.if-not-reroutes.false) c.requires.value
           (route-row c.args.old.now c.requires.value (get_or c.args.q.now 13 0) (get_or c.args.old.now 0 0) _ refl c.prefix_route4.ensures)
           (route-row c.args.old.now c.requires.value (get_or c.args.old.now 13 0) (get_or c.args.old.now 0 0) _ refl c.prefix_route4-2.ensures)
-          c.kernel_add4-came.ensures.comes c.in-Rows.k c.kernel_del4-went.result c.in-Rows.is c.kernel_del4-went.ensures.emits }
+          c.kernel_add4-came.ensures.comes c.in-Rows.k c.kernel_del4-went.result c.in-Rows.is c.kernel_del4-went.ensures.emits;
+    }

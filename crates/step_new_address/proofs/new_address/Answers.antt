@@ -6,7 +6,6 @@ use Prim.Native.Nat.{◌+◌, ◌*◌}
 use Rattle.row_subnet.specs.Laws.{fit-short}
 use Rattle.step_new_address.specs.Adding.{rest-room, joined-few}
 use Rattle.step_new_address.specs.New.{placed, emitted-length, new_full, placed-fit, placed-holds, placed-count, new_ready, new_done}
-use borrow.Author.Rules.{rules}
 use Rattle.step_new_address.proofs.new_address.Goals as goal
 
 pub address_count-n-requires : goal.address_count-n-requires
@@ -49,9 +48,12 @@ install-came-requires c =
 
 pub returns : goal.returns
 returns c =
-    record { result_bound = omega (arith, c.candidates-k.ensures.lower_bound.1, joined-few 1 c.candidates-k.result c.install-came.result c.joined.result c.joined.ensures c.install-came.ensures.result_bound); adds_from = λ st h g.
+    record {
+      result_bound = omega (arith, c.candidates-k.ensures.lower_bound.1, joined-few 1 c.candidates-k.result c.install-came.result c.joined.result c.joined.ensures c.install-came.ensures.result_bound);
+      adds_from = λ st h g.
           let place = c.place4-place.ensures.l_value st.addresses (of_addresses _ h c.addresses.ensures) in
           let put = c.insert_address.ensures st h in
           let there = placed-holds c.args.new.now c.args.up st c.place4-place.result place put in
           let rows = c.candidates-k.ensures.value (placed c.args.new.now st).addresses (of_addresses _ there c.addresses-2.ensures) in
-          new_done c.args.new.now c.args.up st c.place4-place.result place put c.requires.value c.candidates-k.result _ _ rows g (omega (arith, c.requires.in_bounds)) c.new_addr4.ensures c.install-came.ensures.adds_from c.joined.result c.joined.ensures }
+          new_done c.args.new.now c.args.up st c.place4-place.result place put c.requires.value c.candidates-k.result _ _ rows g (omega (arith, c.requires.in_bounds)) c.new_addr4.ensures c.install-came.ensures.adds_from c.joined.result c.joined.ensures;
+    }

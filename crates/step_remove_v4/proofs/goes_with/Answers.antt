@@ -1,7 +1,6 @@
 use Rattle.row_subnet.specs.Laws.{fit-short}
 use Prim.Native.Nat.{◌-◌}
 use native.Mathlib.Omega.{arith}
-use borrow.Author.Rules.{rules}
 use Rattle.step_remove_v4.proofs.goes_with.Goals as goal
 
 pub secondary-primary-requires : goal.secondary-primary-requires

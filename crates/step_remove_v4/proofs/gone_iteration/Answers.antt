@@ -3,7 +3,6 @@ use Rattle.step_remove_v4.specs.One.{address-end, put-row, row-present, secondar
 use native.Mathlib.Omega.{arith}
 use mathlib.Core.Path.{refl, sym, ◌∙◌}
 use Prim.Native.Nat.{◌-◌}
-use borrow.Author.Rules.{rules}
 use Rattle.step_remove_v4.proofs.gone_iteration.Goals as goal
 
 pub overflow_mul-at : goal.overflow_mul-at

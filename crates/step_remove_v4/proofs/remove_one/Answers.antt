@@ -24,10 +24,14 @@ address_count-n-requires c = (sizes-valid (ready_valid (present_ready c.requires
 pub leaving-m-requires : goal.leaving-m-requires
 leaving-m-requires c =
     let v = ready_valid (present_ready c.requires) in
-    record { addresses_len = (
+    record {
+      addresses_len = (
         ap length c.addresses.ensures ∙ length-addresses v ∙ ap (λ (n : ℕ). 20 * n) (sym c.address_count-n.ensures),
         subst (Lays 20 fit_address) (sym c.addresses.ensures) (lays_addresses v),
-      ); a_len = fit-short _ (present-fit c.requires); in_bounds = search rules }
+      );
+      a_len = fit-short _ (present-fit c.requires);
+      in_bounds = search rules;
+    }
 
 pub slice_bounds-take_routes-count : goal.slice_bounds-take_routes-count
 slice_bounds-take_routes-count c =

@@ -1,29 +1,24 @@
-use Rattle.step_remove_v4.specs.One.{Going1, gone-start, gone-facts, gone-next, gone-last}
+use Rattle.step_remove_v4.specs.One.{gone-start, gone-facts, gone-next, gone-last}
 use Rattle.step_events.specs.Iterations.{going_ready}
-use Rattle.step_events.specs.EmitsWithin.{RoomFor}
-use Rattle.definition.specs.Words.{address_count, base_size}
-use Rattle.definition.specs.State.{State}
+use Rattle.definition.specs.Words.{address_count}
 use Rattle.step_drop_prefsrc.specs.Delete.{ready_valid}
 use Rattle.state.specs.Represents.{sizes-valid}
 use Rattle.definition.specs.Preservation.Shrinking.{potential}
-use lib.ListN.{length}
 use native.Mathlib.Omega.{arith}
 use mathlib.Core.Path.{◌≡◌, sym, ◌∙◌}
-use Prim.Native.Nat.{◌+◌, ◌*◌, ◌-◌, ◌≤◌}
-use borrow.Author.Rules.{rules}
+use Prim.Native.Nat.{◌+◌, ◌-◌}
 use Rattle.step_remove_v4.proofs.remove_secondaries.Goals as goal
 
 pub address_count-n-requires : goal.address_count-n-requires
 address_count-n-requires c = (sizes-valid (ready_valid c.requires.some_room)).long
 
 pub loop-j-init : goal.loop-j-init
-loop-j-init c =
-    (
-      omega arith,
-      omega (arith, c.address_count-n.ensures, (sizes-valid (ready_valid c.requires.some_room)).addresses),
-      gone-facts c.args.a.now c.address_count-n.result 0 (gone-start c.args.a.now c.address_count-n.result c.address_count-n.ensures c.requires.some_room.fits) c.requires.some_room.fits,
-      λ st f. gone-start c.args.a.now c.address_count-n.result c.address_count-n.ensures f,
-    )
+loop-j-init c = (
+  omega arith,
+  omega (arith, c.address_count-n.ensures, (sizes-valid (ready_valid c.requires.some_room)).addresses),
+  gone-facts c.args.a.now c.address_count-n.result 0 (gone-start c.args.a.now c.address_count-n.result c.address_count-n.ensures c.requires.some_room.fits) c.requires.some_room.fits,
+  λ st f. gone-start c.args.a.now c.address_count-n.result c.address_count-n.ensures f,
+)
 
 pub address_count-requires : goal.address_count-requires
 address_count-requires c = c.loop-j.invariant.2.0.1
@@ -42,8 +37,7 @@ overflow_add-k c =
 pub loop-j-preserved : goal.loop-j-preserved
 loop-j-preserved c =
     let i = c.loop-j.j + c.address_count.result - c.address_count-n.result in
-    let e : i + c.address_count-n.result ≡ c.loop-j.j + address_count c.loop-j.s = omega (arith, c.address_count.ensures, c.loop-j.invariant.2.1.1) in
-    (
+    let e : i + c.address_count-n.result ≡ c.loop-j.j + address_count c.loop-j.s = omega (arith, c.address_count.ensures, c.loop-j.invariant.2.1.1) in (
       omega (arith, c.loop-j-test.true),
       c.loop-j.invariant.1,
       gone-facts c.args.a.now c.address_count-n.result (c.loop-j.j + 1) (gone-next c.args.a.now c.address_count-n.result c.loop-j.j (c.loop-j.invariant.3 c.requires.some_room.state c.requires.some_room.fits) c.loop-j-test.true i e (λ x f. c.gone_iteration-k.ensures x f)) c.requires.some_room.fits,

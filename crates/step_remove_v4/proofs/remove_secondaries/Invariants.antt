@@ -1,16 +1,11 @@
-use Rattle.step_remove_v4.specs.One.{Going1, gone-start, gone-facts, gone-next, gone-last}
-use Rattle.step_events.specs.Iterations.{going_ready}
+use Rattle.step_remove_v4.specs.One.{Going1}
 use Rattle.step_events.specs.EmitsWithin.{RoomFor}
 use Rattle.definition.specs.Words.{address_count, base_size}
 use Rattle.definition.specs.State.{State}
-use Rattle.step_drop_prefsrc.specs.Delete.{ready_valid}
-use Rattle.state.specs.Represents.{sizes-valid}
 use Rattle.definition.specs.Preservation.Shrinking.{potential}
 use lib.ListN.{length}
-use native.Mathlib.Omega.{arith}
-use mathlib.Core.Path.{◌≡◌, sym, ◌∙◌}
+use mathlib.Core.Path.{◌≡◌}
 use Prim.Native.Nat.{◌+◌, ◌*◌, ◌-◌, ◌≤◌}
-use borrow.Author.Rules.{rules}
 use Rattle.step_remove_v4.proofs.remove_secondaries.Given as goal
 
 abbrev pub invariant-loop-j : goal.invariant-loop-j

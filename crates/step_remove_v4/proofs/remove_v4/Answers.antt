@@ -2,7 +2,6 @@ use Rattle.step_remove_v4.specs.One.{present_ready, present-fit, primary_present
 use Rattle.step_drop_routes.specs.Iterations.{step-facts}
 use native.Mathlib.Omega.{arith}
 use Prim.Native.Nat.{◌-◌}
-use borrow.Author.Rules.{rules}
 use Rattle.step_remove_v4.proofs.remove_v4.Goals as goal
 
 pub remove_secondaries-k-requires : goal.remove_secondaries-k-requires

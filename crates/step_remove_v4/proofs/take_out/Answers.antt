@@ -8,7 +8,6 @@ use lib.ListN.{length}
 use mathlib.Core.List.{List}
 use mathlib.Core.Path.{refl, sym, ap, subst, ◌∙◌}
 use Prim.Native.Nat.{ℕ, ◌*◌, ◌-◌}
-use borrow.Author.Rules.{rules}
 use Rattle.step_remove_v4.proofs.take_out.Goals as goal
 
 pub address_count-requires : goal.address_count-requires
@@ -16,8 +15,7 @@ address_count-requires c = (sizes-valid (ready_valid (present_ready c.requires))
 
 pub place_of-i-requires : goal.place_of-i-requires
 place_of-i-requires c =
-    let v = ready_valid (present_ready c.requires) in
-    (
+    let v = ready_valid (present_ready c.requires) in (
       ap length c.addresses.ensures ∙ length-addresses v ∙ ap (λ (n : ℕ). 20 * n) (sym c.address_count.ensures),
       subst (Lays 20 fit_address) (sym c.addresses.ensures) (lays_addresses v),
     )
@@ -31,6 +29,9 @@ remove_address-requires c =
 
 pub returns : goal.returns
 returns c =
-    record { value = refl; emits_within = λ st f t.
+    record {
+      value = refl;
+      emits_within = λ st f t.
           gone-step c.args.a.now c.place_of-i.result f t (present-fit c.requires) (c.place_of-i.ensures st.addresses (subst (λ (x : List ℕ). Laid 20 fit_address x st.addresses) (sym c.addresses.ensures) (laid-addresses f.holds)))
-          (c.remove_address.ensures st f.holds) c.del_addr4.ensures }
+          (c.remove_address.ensures st f.holds) c.del_addr4.ensures;
+    }

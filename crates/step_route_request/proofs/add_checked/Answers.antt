@@ -7,7 +7,6 @@ use Rattle.definition.specs.Preservation.Fit.{length-route}
 use Rattle.layout.specs.Route.{fit_route}
 use lib.ListN.{length}
 use mathlib.Core.Path.{refl, sym, ap, ◌∙◌}
-use borrow.Author.Rules.{rules}
 use Rattle.step_route_request.proofs.add_checked.Goals as goal
 
 pub insert4-inserted-requires : goal.insert4-inserted-requires

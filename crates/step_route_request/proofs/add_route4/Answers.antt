@@ -5,7 +5,6 @@ use Rattle.step_route_request.specs.Check.{check_all}
 use Rattle.definition.specs.Reference.Routes.{table_named}
 use Rattle.definition.specs.Reference.Insert.{create4}
 use native.Mathlib.Omega.{arith}
-use borrow.Author.Rules.{rules}
 use Rattle.step_route_request.proofs.add_route4.Goals as goal
 
 pub returns-then-tables_after-gt-TABLE_LIMIT : goal.returns-then-tables_after-gt-TABLE_LIMIT

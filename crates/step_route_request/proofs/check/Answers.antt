@@ -7,7 +7,6 @@ use Rattle.state.specs.Represents.{sizes-valid}
 use lib.Dec.{eqb}
 use mathlib.Core.Bool.{◌||◌}
 use mathlib.Core.Path.{refl}
-use borrow.Author.Rules.{rules}
 use Rattle.state_read.specs.Parts.{ready_routes, of_routes}
 use Rattle.step_route_request.proofs.check.Goals as goal
 

@@ -2,9 +2,7 @@
 -- Assumes nothing.
 use Rattle.step_route_request.specs.Delete.{row-long, row-end, del_unlisted, del_bad, del_none, del_row}
 use Rattle.state.specs.Represents.{sizes-valid}
-use borrow.Author.Tests.{not-true, not-false}
 use native.Mathlib.Omega.{arith}
-use borrow.Author.Rules.{rules}
 use Rattle.state_read.specs.Parts.{ready_routes, of_routes}
 use Rattle.step_route_request.proofs.del_route4.Goals as goal
 

@@ -5,7 +5,6 @@ use Rattle.state.specs.Represents.{sizes-valid}
 use lib.Dec.{eqb}
 use native.Mathlib.Omega.{arith}
 use mathlib.Core.Bool.{◌||◌}
-use borrow.Author.Rules.{rules}
 use Rattle.state_read.specs.Parts.{ready_routes, of_routes}
 use Rattle.step_route_request.proofs.prefsrc_check.Goals as goal
 

@@ -1,7 +1,6 @@
 -- `step_route_request::tell` meets its contract.
 -- Assumes nothing.
 use Rattle.step_route_request.specs.Add.{emission-put, emission-nothing, emission-refused, emission-full}
-use borrow.Author.Rules.{rules}
 use Rattle.step_route_request.proofs.tell.Goals as goal
 
 pub returns-in-Put : goal.returns-in-Put

@@ -1,10 +1,8 @@
 -- `text::byte` meets its contract: a byte is a run of one.
 -- Assumes nothing.
-use Prim.Native.Nat.{◌-◌}
 use mathlib.Core.Path.{refl}
 use native.Mathlib.Omega.{arith}
 use Rattle.lists.specs.Put.{put_one}
-use borrow.Author.Rules.{rules}
 use Rattle.text.proofs.byte.Goals as goal
 
 pub returns : goal.returns

@@ -3,7 +3,6 @@
 use native.Mathlib.Omega.{arith}
 use Rattle.text.proofs.Digits.{count_word}
 use Rattle.text.proofs.Pieces.{length-dotted, bracketed-wrote}
-use borrow.Author.Rules.{rules}
 use Rattle.text.proofs.destination.Goals as goal
 
 pub number_to-requires : goal.number_to-requires

@@ -9,7 +9,6 @@ use lib.ListN.{length, length-append}
 use Rattle.text.specs.Print.{dotted}
 use Rattle.text.proofs.Digits.{count-byte}
 use Rattle.text.proofs.Pieces.{dotted-wrote}
-use borrow.Author.Rules.{rules}
 use Rattle.text.proofs.dotted_to.Goals as goal
 
 pub number_to-second-requires : goal.number_to-second-requires

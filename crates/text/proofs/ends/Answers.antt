@@ -2,7 +2,6 @@
 -- Assumes nothing.
 use native.Mathlib.Omega.{arith}
 use Rattle.text.proofs.Pieces.{ending-wrote}
-use borrow.Author.Rules.{rules}
 use Rattle.text.proofs.ends.Goals as goal
 
 pub byte-requires : goal.byte-requires

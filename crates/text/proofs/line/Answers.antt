@@ -1,11 +1,10 @@
 -- `text::line` meets its contract: five pieces one behind the other.
 -- Assumes nothing.
-use Prim.Native.Nat.{ℕ, ◌-◌, ◌<◌}
+use Prim.Native.Nat.{ℕ, ◌<◌}
 use native.Mathlib.Omega.{arith}
 use lib.ListN.{get_or}
 use Rattle.text.proofs.Digits.{count_word}
 use Rattle.text.proofs.Pieces.{length-dotted, length-line, line_wrote}
-use borrow.Author.Rules.{rules}
 use Rattle.text.proofs.line.Goals as goal
 
 pub number_in-a-requires : goal.number_in-a-requires

@@ -1,15 +1,11 @@
 -- `text::lines` meets its contract: after i iterations the lines of the first i rows are written.
 -- Assumes nothing.
 use Prim.Native.Nat.{◌+◌, ◌-◌, ◌*◌, ◌≤◌}
-use mathlib.Core.Path.{◌≡◌, refl}
-use native.Mathlib.Omega.{arith}
+use mathlib.Core.Path.{◌≡◌}
 use lib.ListN.{length, take}
 use Rattle.lists.specs.Lists.{chop, each}
-use Rattle.lists.specs.Put.{put-none}
 use Rattle.text.specs.Print.{line}
 use Rattle.text.specs.Wrote.{Wrote}
-use Rattle.text.specs.Lines.{lines_none, line-more, lines_all}
-use borrow.Author.Rules.{rules}
 use Rattle.text.proofs.lines.Given as goal
 
 abbrev pub invariant-loop-i : goal.invariant-loop-i

@@ -2,7 +2,6 @@
 -- Assumes nothing.
 use native.Mathlib.Omega.{arith}
 use Rattle.text.proofs.Pieces.{between-wrote}
-use borrow.Author.Rules.{rules}
 use Rattle.text.proofs.number_in.Goals as goal
 
 pub returns : goal.returns

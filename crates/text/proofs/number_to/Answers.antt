@@ -2,7 +2,6 @@
 -- Assumes nothing.
 use native.Mathlib.Omega.{arith}
 use Rattle.text.proofs.Pieces.{number-then}
-use borrow.Author.Rules.{rules}
 use Rattle.text.proofs.number_to.Goals as goal
 
 pub returns : goal.returns

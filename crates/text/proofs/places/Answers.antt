@@ -1,12 +1,7 @@
 -- `text::places` meets its contract: what is counted and the digits of the rest are one more than the digits.
 -- Assumes nothing.
-use Prim.Native.Nat.{◌+◌, ◌-◌}
-use mathlib.Core.Path.{◌≡◌}
 use native.Mathlib.Omega.{arith}
-use lib.ListN.{length}
-use Rattle.text.specs.Print.{digits}
 use Rattle.text.proofs.Digits.{count_word, count-one, count-more}
-use borrow.Author.Rules.{rules}
 use Rattle.text.proofs.places.Goals as goal
 
 pub loop-rest-init : goal.loop-rest-init

@@ -1,12 +1,9 @@
 -- `text::places` meets its contract: what is counted and the digits of the rest are one more than the digits.
 -- Assumes nothing.
-use Prim.Native.Nat.{◌+◌, ◌-◌}
+use Prim.Native.Nat.{◌+◌}
 use mathlib.Core.Path.{◌≡◌}
-use native.Mathlib.Omega.{arith}
 use lib.ListN.{length}
 use Rattle.text.specs.Print.{digits}
-use Rattle.text.proofs.Digits.{count_word, count-one, count-more}
-use borrow.Author.Rules.{rules}
 use Rattle.text.proofs.places.Given as goal
 
 abbrev pub invariant-loop-rest : goal.invariant-loop-rest

@@ -1,10 +1,8 @@
 -- `text::refused_line` meets its contract: a word and a number.
 -- Assumes nothing.
-use Prim.Native.Nat.{◌-◌}
 use native.Mathlib.Omega.{arith}
 use Rattle.text.proofs.Digits.{count_word}
 use Rattle.text.proofs.Pieces.{length-refused, refused-wrote}
-use borrow.Author.Rules.{rules}
 use Rattle.text.proofs.refused_line.Goals as goal
 
 pub ends-requires : goal.ends-requires

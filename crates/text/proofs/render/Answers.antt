@@ -2,7 +2,6 @@
 -- Assumes nothing.
 use native.Mathlib.Omega.{arith}
 use Rattle.text.specs.Lines.{render-wrote}
-use borrow.Author.Rules.{rules}
 use Rattle.text.proofs.render.Goals as goal
 
 pub returns : goal.returns

@@ -1,13 +1,8 @@
 -- `words::all_zero` meets its contract: the or of the parts so far is 0 where each of their words is.
 -- Assumes nothing.
-use Prim.Native.Nat.{◌-◌, ◌≤◌}
-use mathlib.Core.Path.{◌≡◌}
+use Prim.Native.Nat.{◌-◌}
 use native.Mathlib.Omega.{arith}
-use lib.Dec.{eqb}
-use lib.ListN.{length, take}
-use Rattle.lists.specs.Lists.{all_zero}
 use Rattle.words.specs.Scan.{zero-none, zero-first, zero-part, zero_rest}
-use borrow.Author.Rules.{rules}
 use Rattle.words.proofs.all_zero.Goals as goal
 
 pub returns-then-s-eq0 : goal.returns-then-s-eq0

@@ -2,12 +2,9 @@
 -- Assumes nothing.
 use Prim.Native.Nat.{◌-◌, ◌≤◌}
 use mathlib.Core.Path.{◌≡◌}
-use native.Mathlib.Omega.{arith}
 use lib.Dec.{eqb}
 use lib.ListN.{length, take}
 use Rattle.lists.specs.Lists.{all_zero}
-use Rattle.words.specs.Scan.{zero-none, zero-first, zero-part, zero_rest}
-use borrow.Author.Rules.{rules}
 use Rattle.words.proofs.all_zero.Given as goal
 
 abbrev pub invariant-loop-i : goal.invariant-loop-i

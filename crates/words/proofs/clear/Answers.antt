@@ -1,15 +1,14 @@
 -- `words::clear` meets its contract: after i iterations the first i zeros are put.
 -- Assumes nothing.
-use Prim.Native.Nat.{ℕ, ◌+◌, ◌-◌, ◌≤◌}
-use mathlib.Core.Path.{◌≡◌, refl, sym, ap, ◌∙◌}
+use Prim.Native.Nat.{ℕ, ◌+◌, ◌-◌}
+use mathlib.Core.Path.{refl, sym, ap, ◌∙◌}
 use mathlib.Core.List.{List}
 use native.Mathlib.Omega.{arith}
-use lib.ListN.{length, take, set, length-set}
+use lib.ListN.{take, set, length-set}
 use lib.Seq.{take_all}
 use Rattle.lists.specs.Lists.{put, zeros}
 use Rattle.lists.specs.Rows.{length-zeros}
 use Rattle.lists.specs.Put.{put-none, put-take, get_d_zeros}
-use borrow.Author.Rules.{rules}
 use Rattle.words.proofs.clear.Goals as goal
 
 pub loop-i-init : goal.loop-i-init

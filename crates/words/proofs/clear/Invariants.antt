@@ -1,15 +1,9 @@
 -- `words::clear` meets its contract: after i iterations the first i zeros are put.
 -- Assumes nothing.
-use Prim.Native.Nat.{ℕ, ◌+◌, ◌-◌, ◌≤◌}
-use mathlib.Core.Path.{◌≡◌, refl, sym, ap, ◌∙◌}
-use mathlib.Core.List.{List}
-use native.Mathlib.Omega.{arith}
-use lib.ListN.{length, take, set, length-set}
-use lib.Seq.{take_all}
+use Prim.Native.Nat.{◌-◌, ◌≤◌}
+use mathlib.Core.Path.{◌≡◌}
+use lib.ListN.{length, take}
 use Rattle.lists.specs.Lists.{put, zeros}
-use Rattle.lists.specs.Rows.{length-zeros}
-use Rattle.lists.specs.Put.{put-none, put-take, get_d_zeros}
-use borrow.Author.Rules.{rules}
 use Rattle.words.proofs.clear.Given as goal
 
 abbrev pub invariant-loop-i : goal.invariant-loop-i

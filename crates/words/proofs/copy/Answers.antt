@@ -2,7 +2,6 @@
 -- Assumes nothing.
 use mathlib.Core.Path.{◌∙◌}
 use Rattle.lists.specs.Put.{put_whole}
-use borrow.Author.Rules.{rules}
 use Rattle.words.proofs.copy.Goals as goal
 
 pub returns : goal.returns

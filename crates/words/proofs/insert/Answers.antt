@@ -5,7 +5,6 @@ use mathlib.Core.Path.{ap, ◌∙◌}
 use mathlib.Core.List.{List}
 use Rattle.lists.specs.Lists.{put}
 use Rattle.lists.specs.Put.{put_in}
-use borrow.Author.Rules.{rules}
 use Rattle.words.proofs.insert.Goals as goal
 
 pub returns : goal.returns

@@ -10,7 +10,6 @@ use lib.Seq.{length-take-le}
 use Rattle.lists.specs.Lists.{put, span}
 use Rattle.lists.specs.Rows.{length-span}
 use Rattle.lists.specs.Put.{put-part, span-part}
-use borrow.Author.Rules.{rules}
 use Rattle.words.proofs.move_up.Goals as goal
 
 pub returns-then-to-from-eq32 : goal.returns-then-to-from-eq32

@@ -1,14 +1,11 @@
 -- `words::or_of` meets its contract: the or of the words so far is 0 where each of them is.
 -- Assumes nothing.
-use Prim.Native.Nat.{◌-◌, ◌≤◌}
-use mathlib.Core.Path.{◌≡◌, refl, ap, ◌∙◌}
+use Prim.Native.Nat.{◌-◌}
+use mathlib.Core.Path.{refl, ap, ◌∙◌}
 use native.Mathlib.Omega.{arith}
-use lib.Dec.{eqb}
-use lib.ListN.{length, take}
 use lib.Seq.{take_all}
 use Rattle.lists.specs.Lists.{all_zero}
 use Rattle.words.specs.Scan.{zero_more}
-use borrow.Author.Rules.{rules}
 use Rattle.words.proofs.or_of.Goals as goal
 
 pub loop-i-init : goal.loop-i-init

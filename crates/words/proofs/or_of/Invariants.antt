@@ -1,14 +1,10 @@
 -- `words::or_of` meets its contract: the or of the words so far is 0 where each of them is.
 -- Assumes nothing.
 use Prim.Native.Nat.{◌-◌, ◌≤◌}
-use mathlib.Core.Path.{◌≡◌, refl, ap, ◌∙◌}
-use native.Mathlib.Omega.{arith}
+use mathlib.Core.Path.{◌≡◌}
 use lib.Dec.{eqb}
 use lib.ListN.{length, take}
-use lib.Seq.{take_all}
 use Rattle.lists.specs.Lists.{all_zero}
-use Rattle.words.specs.Scan.{zero_more}
-use borrow.Author.Rules.{rules}
 use Rattle.words.proofs.or_of.Given as goal
 
 abbrev pub invariant-loop-i : goal.invariant-loop-i

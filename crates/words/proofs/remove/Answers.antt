@@ -1,7 +1,6 @@
 -- `words::remove` meets its contract: zeros behind the run that moved are one run with it.
 -- Assumes nothing.
 use Rattle.lists.specs.Put.{put_out}
-use borrow.Author.Rules.{rules}
 use Rattle.words.proofs.remove.Goals as goal
 
 pub returns : goal.returns

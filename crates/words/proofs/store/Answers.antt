@@ -1,14 +1,13 @@
 -- `words::store` meets its contract: after i iterations the first i of the words are put.
 -- Assumes nothing.
-use Prim.Native.Nat.{ℕ, ◌+◌, ◌-◌, ◌≤◌}
-use mathlib.Core.Path.{◌≡◌, refl, ap, ◌∙◌}
+use Prim.Native.Nat.{ℕ, ◌+◌, ◌-◌}
+use mathlib.Core.Path.{refl, ap, ◌∙◌}
 use mathlib.Core.List.{List}
 use native.Mathlib.Omega.{arith}
-use lib.ListN.{length, take, set, get_or, length-set}
+use lib.ListN.{set, get_or, length-set}
 use lib.Seq.{take_all}
 use Rattle.lists.specs.Lists.{put}
 use Rattle.lists.specs.Put.{put-none, put-take}
-use borrow.Author.Rules.{rules}
 use Rattle.words.proofs.store.Goals as goal
 
 pub loop-i-init : goal.loop-i-init

@@ -1,15 +1,14 @@
 -- `words::walk_down` meets its contract: after i iterations the first i words are put, and those that are read still stand.
 -- Assumes nothing.
-use Prim.Native.Nat.{ℕ, ◌+◌, ◌-◌, ◌≤◌}
-use mathlib.Core.Path.{◌≡◌, refl, ap, ◌∙◌}
+use Prim.Native.Nat.{ℕ, ◌+◌, ◌-◌}
+use mathlib.Core.Path.{refl, ap, ◌∙◌}
 use mathlib.Core.List.{List}
 use native.Mathlib.Omega.{arith}
-use lib.ListN.{length, take, set, get_or, length-set}
+use lib.ListN.{set, get_or, length-set}
 use lib.Seq.{take_all}
 use Rattle.lists.specs.Lists.{put, span}
 use Rattle.lists.specs.Rows.{length-span}
 use Rattle.lists.specs.Put.{put-none, put-down}
-use borrow.Author.Rules.{rules}
 use Rattle.words.proofs.walk_down.Goals as goal
 
 pub loop-i-init : goal.loop-i-init

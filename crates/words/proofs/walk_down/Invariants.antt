@@ -1,15 +1,9 @@
 -- `words::walk_down` meets its contract: after i iterations the first i words are put, and those that are read still stand.
 -- Assumes nothing.
-use Prim.Native.Nat.{ℕ, ◌+◌, ◌-◌, ◌≤◌}
-use mathlib.Core.Path.{◌≡◌, refl, ap, ◌∙◌}
-use mathlib.Core.List.{List}
-use native.Mathlib.Omega.{arith}
-use lib.ListN.{length, take, set, get_or, length-set}
-use lib.Seq.{take_all}
+use Prim.Native.Nat.{◌-◌, ◌≤◌}
+use mathlib.Core.Path.{◌≡◌}
+use lib.ListN.{length, take}
 use Rattle.lists.specs.Lists.{put, span}
-use Rattle.lists.specs.Rows.{length-span}
-use Rattle.lists.specs.Put.{put-none, put-down}
-use borrow.Author.Rules.{rules}
 use Rattle.words.proofs.walk_down.Given as goal
 
 abbrev pub invariant-loop-i : goal.invariant-loop-i

@@ -1,15 +1,14 @@
 -- `words::walk_up_32` meets its contract, as `walk_up` does.
 -- Assumes nothing.
-use Prim.Native.Nat.{ℕ, ◌+◌, ◌-◌, ◌≤◌}
+use Prim.Native.Nat.{ℕ, ◌+◌, ◌-◌}
 use mathlib.Core.Path.{◌≡◌, refl, ap, ◌∙◌}
 use mathlib.Core.List.{List}
 use native.Mathlib.Omega.{arith}
-use lib.ListN.{length, drop, set, get_or, length-set, drop_of_length-le}
+use lib.ListN.{set, get_or, length-set, drop_of_length-le}
 use native.Mathlib.Nat.{add-zero}
-use Rattle.lists.specs.Lists.{put, span}
+use Rattle.lists.specs.Lists.{span}
 use Rattle.lists.specs.Rows.{length-span}
 use Rattle.lists.specs.Put.{put-none, put_up}
-use borrow.Author.Rules.{rules}
 use Rattle.words.proofs.walk_up_32.Goals as goal
 
 pub loop-i-init : goal.loop-i-init

@@ -3,7 +3,6 @@
 use mathlib.Core.Path.{◌≡◌, refl, sym, ap, ◌∙◌}
 use mathlib.Core.Bool.{true}
 use native.Mathlib.Omega.{arith}
-use borrow.Author.Tests.{not-true, not-false}
 use Rattle.call_reply.specs.Answer.{numbers_in}
 use Rattle.interface4.specs.Made.{made_gave}
 use Rattle.interface4.specs.Changing.{change_fits, EnoughBytes, fits, changed-no, emitted-room, still, changed-yes}

@@ -1,7 +1,6 @@
 -- `interface4::changing::give_back` meets its contract.
 -- Assumes nothing.
 use Rattle.interface4.specs.Changing.{state-back}
-use borrow.Author.Rules.{rules}
 use Rattle.interface4.proofs.changing.give_back.Goals as goal
 
 pub returns-then-kept : goal.returns-then-kept

@@ -4,7 +4,6 @@ use Prim.Native.Nat.{ℕ}
 use mathlib.Core.Path.{sym, ap, ◌∙◌}
 use Rattle.call_dispatch.specs.Numbered.{change_at}
 use Rattle.interface4.specs.Changing.{still-rest}
-use borrow.Author.Rules.{rules}
 use Rattle.interface4.proofs.changing.still.Goals as goal
 
 pub returns-in-5 : goal.returns-in-5

@@ -1,7 +1,6 @@
 -- `interface4::masks::as_bytes` meets its contract.
 -- Assumes nothing.
 use Rattle.interface4.specs.Mask.{bytes_back}
-use borrow.Author.Rules.{rules}
 use Rattle.interface4.proofs.masks.as_bytes.Goals as goal
 
 pub returns : goal.returns

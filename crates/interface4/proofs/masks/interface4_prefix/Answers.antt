@@ -4,7 +4,6 @@ use mathlib.Core.Path.{ap, ◌∙◌}
 use Rattle.netmask.specs.declared.Prefix.{Prefix}
 use Rattle.call_reply.specs.Answer.{reply_from, prefix_by}
 use Rattle.interface4.specs.Mask.{prefix-said}
-use borrow.Author.Rules.{rules}
 use Rattle.interface4.proofs.masks.interface4_prefix.Goals as goal
 
 pub returns : goal.returns

@@ -6,7 +6,6 @@ use Rattle.call_change.specs.Emitted.{small}
 use Rattle.call_mask.specs.Masked.{add_v4_mask_call}
 use Rattle.call_mask.specs.Laws.{add_v4-mask-emitted}
 use Rattle.call_reply.specs.Answer.{reply_from}
-use borrow.Author.Rules.{rules}
 use Rattle.interface4.proofs.masks.interface4w_add_v4_mask.Goals as goal
 
 pub done-requires : goal.done-requires

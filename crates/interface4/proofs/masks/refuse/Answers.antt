@@ -5,7 +5,6 @@ use native.Mathlib.Omega.{arith}
 use mathlib.Core.Path.{◌≡◌, refl, sym, ap, ◌∙◌}
 use mathlib.Core.Bool.{true}
 use mathlib.Core.List.{List}
-use borrow.Author.Tests.{not-true, not-false}
 use Rattle.lists.specs.Bools.{cond-true, cond-false}
 use Rattle.endian.specs.Endian.{words_of}
 use Rattle.endian.specs.Laws.{words-whole}
@@ -15,7 +14,6 @@ use Rattle.definition.specs.Step.{checked, event_room}
 use Rattle.definition_bytes.specs.Bytes.{with}
 use Rattle.call_reply.specs.Answer.{reply_of}
 use Rattle.interface4.specs.Mask.{state-long}
-use borrow.Author.Rules.{rules}
 use Rattle.interface4.proofs.masks.refuse.Goals as goal
 
 abbrev number : ℕ → List ℕ → ℕ

@@ -2,7 +2,6 @@
 -- Assumes nothing.
 use mathlib.Core.Path.{ap, ◌∙◌}
 use Rattle.call_reply.specs.Answer.{reply_from}
-use borrow.Author.Rules.{rules}
 use Rattle.interface4.proofs.messages.interface4w_read.Goals as goal
 
 pub returns : goal.returns

@@ -4,7 +4,6 @@ use Prim.Native.Nat.{ℕ}
 use mathlib.Core.Path.{ap, ◌∙◌}
 use Rattle.definition.specs.Call.{refusal}
 use Rattle.call_reply.specs.Answer.{reply_of}
-use borrow.Author.Rules.{rules}
 use Rattle.interface4.proofs.on_words.interface4w_check.Goals as goal
 
 pub returns : goal.returns

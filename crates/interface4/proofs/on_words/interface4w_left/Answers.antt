@@ -2,7 +2,6 @@
 -- Assumes nothing.
 use mathlib.Core.Path.{ap, ◌∙◌}
 use Rattle.call_reply.specs.Answer.{reply_of}
-use borrow.Author.Rules.{rules}
 use Rattle.interface4.proofs.on_words.interface4w_left.Goals as goal
 
 pub returns : goal.returns

@@ -8,7 +8,6 @@ use Rattle.endian.specs.Laws.{words-whole}
 use Rattle.definition.specs.Words.{state_size}
 use Rattle.call_reply.specs.Answer.{numbers_in}
 use Rattle.interface4.specs.Reading.{row-part, asked-no, asked-yes}
-use borrow.Author.Rules.{rules}
 use Rattle.interface4.proofs.reading.ask.Goals as goal
 
 pub returns-then-state-ne-STATE_BYTES : goal.returns-then-state-ne-STATE_BYTES

@@ -5,7 +5,6 @@ use native.Mathlib.Omega.{arith}
 use mathlib.Core.Path.{◌≡◌, refl, ap}
 use mathlib.Core.Bool.{true}
 use lib.ListN.{length}
-use borrow.Author.Tests.{not-true, not-false}
 use Rattle.endian.specs.Laws.{words-whole}
 use Rattle.definition.specs.Words.{state_size}
 use Rattle.definition_bytes.specs.Bytes.{with}
@@ -13,7 +12,6 @@ use Rattle.call_reply.specs.Answer.{numbers_in}
 use lib.Dec.{eqb}
 use Rattle.layout.specs.Route as Route
 use Rattle.interface4.specs.Reading.{EnoughRoom, fits, found-no, one, found-yes}
-use borrow.Author.Rules.{rules}
 use Rattle.interface4.proofs.reading.find.Goals as goal
 
 pub returns-then-not-state-row : goal.returns-then-not-state-row

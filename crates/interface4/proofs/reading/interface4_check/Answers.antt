@@ -13,7 +13,6 @@ use Rattle.definition.specs.Call.{refusal}
 use Rattle.definition_bytes.specs.Bytes.{state_fits}
 use Rattle.call_reply.specs.Answer.{reply_of}
 use Rattle.interface4.specs.Answer.{check_reply}
-use borrow.Author.Rules.{rules}
 use Rattle.interface4.proofs.reading.interface4_check.Goals as goal
 
 pub returns-then-state-ne-STATE_BYTES : goal.returns-then-state-ne-STATE_BYTES

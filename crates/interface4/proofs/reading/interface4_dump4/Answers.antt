@@ -5,14 +5,12 @@ use native.Mathlib.Omega.{arith}
 use mathlib.Core.Path.{◌≡◌, refl, ap}
 use mathlib.Core.Bool.{true}
 use lib.ListN.{length}
-use borrow.Author.Tests.{not-true, not-false}
 use Rattle.endian.specs.Laws.{words-whole}
 use Rattle.definition.specs.Words.{state_size}
 use Rattle.definition_bytes.specs.Bytes.{with}
 use Rattle.call_reply.specs.Answer.{numbers_in}
 use Rattle.definition.specs.Step.{listing_room}
 use Rattle.interface4.specs.Reading.{EnoughRoom, fits, listed-no, listing-room, listed-yes}
-use borrow.Author.Rules.{rules}
 use Rattle.interface4.proofs.reading.interface4_dump4.Goals as goal
 
 pub returns-then-not-state-listing : goal.returns-then-not-state-listing

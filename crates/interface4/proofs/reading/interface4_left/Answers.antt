@@ -8,7 +8,6 @@ use Rattle.endian.specs.Laws.{words-whole}
 use Rattle.definition.specs.Step.{left_call}
 use Rattle.call_reply.specs.Answer.{reply_of}
 use Rattle.interface4.specs.Reading.{row-no, row-yes}
-use borrow.Author.Rules.{rules}
 use Rattle.interface4.proofs.reading.interface4_left.Goals as goal
 
 pub returns-then-row-ne-ADDRESS_BYTES : goal.returns-then-row-ne-ADDRESS_BYTES

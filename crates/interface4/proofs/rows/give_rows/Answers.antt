@@ -2,7 +2,6 @@
 -- Assumes nothing.
 use Prim.Native.Nat.{◌*◌}
 use Rattle.interface4.specs.Made.{part-back}
-use borrow.Author.Rules.{rules}
 use Rattle.interface4.proofs.rows.give_rows.Goals as goal
 
 pub returns : goal.returns

@@ -1,7 +1,6 @@
 -- `kind::Kind::code` meets its contract: each arm's number is the code of its variant.
 -- Assumes nothing.
 use mathlib.Core.Path.{sym, ap}
-use borrow.Author.Rules.{rules}
 use Rattle.kind.specs.Kind.{code_of}
 use Rattle.kind.proofs.Kind.code.Goals as goal
 

@@ -1,6 +1,5 @@
 -- `kind::Kind::error` meets its contract: the error of its code.
 -- Assumes nothing.
-use borrow.Author.Rules.{rules}
 use mathlib.Core.Path.{◌∙◌, ap}
 use Rattle.kind.specs.Kind.{error_of}
 use Rattle.kind.proofs.Kind.error.Goals as goal

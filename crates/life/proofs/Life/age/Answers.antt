@@ -2,7 +2,6 @@
 -- Assumes nothing.
 use mathlib.Core.Path.{ap}
 use native.Mathlib.Omega.{arith}
-use borrow.Author.Rules.{rules}
 use Rattle.life.specs.Life.{age, seconds}
 use Rattle.life.proofs.Life.age.Goals as goal
 

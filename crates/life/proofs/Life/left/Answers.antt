@@ -1,6 +1,5 @@
 -- `life::Life::left` meets its contract, by the tests that led to each answer.
 -- Assumes nothing.
-use borrow.Author.Rules.{rules}
 use borrow.Author.Tests.{eq-eqb, ne_eqb}
 use Rattle.life.specs.Life.{left_preferred, left_valid}
 use Rattle.life.proofs.Life.left.Goals as goal

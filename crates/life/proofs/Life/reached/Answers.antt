@@ -1,6 +1,5 @@
 -- `life::Life::reached` meets its contract, each answer by the law of its comparison.
 -- Assumes nothing.
-use borrow.Author.Rules.{rules}
 use borrow.Author.Tests.{eq-eqb}
 use Rattle.life.specs.Life.{reached}
 use Rattle.life.proofs.Reached.{behind_for_long, behind, old-enough, early_enough}

@@ -1,6 +1,5 @@
 -- `life::Life::set` meets its contract, by what `stored` ensures of each lifetime.
 -- Assumes nothing.
-use borrow.Author.Rules.{rules}
 use Rattle.life.proofs.Life.set.Goals as goal
 
 pub returns : goal.returns

@@ -1,7 +1,6 @@
 -- `life::Nanoseconds::of_words` meets its contract: what it computes is the definition.
 -- Assumes nothing.
 use mathlib.Core.Path.{refl}
-use borrow.Author.Rules.{rules}
 use Rattle.life.proofs.Nanoseconds.of_words.Goals as goal
 
 pub returns : goal.returns

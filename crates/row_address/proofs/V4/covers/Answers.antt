@@ -1,7 +1,6 @@
 -- `row_address::V4::covers` meets its contract: that of `same_network` for its address and prefix.
 -- Assumes nothing.
 use mathlib.Core.Path.{◌∙◌}
-use borrow.Author.Rules.{rules}
 use Rattle.row_address.specs.Covers.{covers-all}
 use Rattle.row_address.proofs.V4.covers.Goals as goal
 

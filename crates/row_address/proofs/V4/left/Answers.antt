@@ -4,7 +4,6 @@ use mathlib.Core.Path.{◌≡◌, sym, ap, ◌∙◌}
 use mathlib.Core.Bool.{true, false, not}
 use borrow.Author.Tests.{eq-eqb, ne_eqb}
 use Rattle.layout.specs.Flags.{has_bit}
-use borrow.Author.Rules.{rules}
 use Rattle.layout.specs.Bits.{has_and}
 use Rattle.row_address.proofs.V4.left.Goals as goal
 

@@ -1,14 +1,8 @@
 -- `row_route::Route4::words` meets its contract.
 -- Assumes nothing.
-use Prim.Native.Nat.{ℕ}
-use mathlib.Core.Path.{◌≡◌, refl, sym, ◌∙◌}
-use lib.ListN.{length, length-map, replicate}
-use denote.Laws.{Is}
-use denote.Struct.Laws as LL
-use Rattle.row_route.specs.declared.Route4.{Route4}
+use mathlib.Core.Path.{refl}
+use lib.ListN.{replicate}
 use Rattle.row_route.specs.Route4.{head-room, written}
-use Rattle.row_route.specs.contracts.Route4 as T
-use Rattle.row_route.proofs.Route4.TheLaws as T'
 use borrow.Author.Rules.{rules}
 use Rattle.row_route.proofs.Route4.words.Goals as goal
 
@@ -19,7 +13,7 @@ store-requires-2 c =
 
 pub returns : goal.returns
 returns c =
-     let both = written c.args.self c.code.result c.mark.result c.value.result c.mark-2.result c.value-2.result c.bit.result c.bit-2.result c.bit-3.result
+    let both = written c.args.self c.code.result c.mark.result c.value.result c.mark-2.result c.value-2.result c.bit.result c.bit-2.result c.bit-3.result
     (replicate 32 0) c.store.new.s c.store-2.new.s refl (search rules)
     c.code.ensures c.mark.ensures c.value.ensures c.mark-2.ensures c.value-2.ensures c.bit.ensures c.bit-2.ensures c.bit-3.ensures
     c.store.ensures c.store-2.ensures in
