@@ -10,7 +10,6 @@ use Rattle.lists.specs.Lists.{put}
 use Rattle.app_show.specs.Show.{shown, shown_words}
 use Rattle.endian.specs.Laws.{words-whole}
 use Rattle.app_show.specs.Laws.{shown-words, shown-other, counts-put}
-use borrow.Author.Rules.{rules}
 use Rattle.definition.specs.Words.{state_size}
 use Rattle.app_show.proofs.show.Goals as goal
 

@@ -11,7 +11,6 @@ use lib.Seq.{length-take-le}
 use Rattle.definition.specs.Words.{decode}
 use Rattle.definition.specs.Reference.Source.{dump4}
 use Rattle.text.specs.Print.{render}
-use borrow.Author.Rules.{rules}
 use Rattle.app_show.proofs.show_listing.Goals as goal
 
 pub overflow_mul-e : goal.overflow_mul-e

@@ -9,7 +9,6 @@ use lib.ListN.{length}
 use Rattle.lists.specs.Lists.{put}
 use Rattle.definition.proofs.Preservation.Step.{base-long}
 use Rattle.app_show.specs.Laws.{shown-well, shown_ill}
-use borrow.Author.Rules.{rules}
 use Rattle.app_show.proofs.show_words.Goals as goal
 
 pub slice_bounds-well_formed-end : goal.slice_bounds-well_formed-end
