@@ -9,6 +9,7 @@ ghost use Rattle.text.specs.Print.{render};
 ghost use Rattle.app_show.specs.Show.{shown, shown_words};
 
 use layout::{BASE_WORDS, LISTING_BUFFER, ROUTE_WORDS, STATE_WORDS};
+use std::io::Read;
 
 // The bytes of a state.
 const STATE_BYTES: usize = 4 * STATE_WORDS;
@@ -53,32 +54,24 @@ pub fn show(bytes: &[u8], out: &mut [u8; 19220]) -> usize
     show_words(&s, out)
 }
 
-// Whether nothing is left to read. A read that fails is no end.
-fn at_end(fd: i32) -> bool {
-    let mut byte = [0u8; 1];
-    libc::read(fd, &mut byte) == 0
-}
-
-fn write(text: &[u8]) {
-    if !io::write_all(1, text) {
-        os::fail(b"standard output");
+fn write(rt: &(impl Print + Eprint), text: &[u8]) {
+    if let Err(e) = rt.write_all(text) {
+        streams::fail(rt, "standard output", &e);
     }
 }
 
-fn print_bytes(bytes: &[u8]) {
+fn print_bytes(rt: &(impl Print + Eprint), bytes: &[u8]) {
     let mut text = [0u8; 19220];
     let k = show(bytes, &mut text);
-    write(&text[..k]);
+    write(rt, &text[..k]);
 }
 
 // Prints what an input says, on standard output. One byte more than a state is read, so that an input with too many is seen. An input
 // that can't be read is no short one: nothing is printed of it, and standard error says why, as it does of a write that fails.
-pub fn print(fd: i32, name: &[u8]) {
+pub fn print(rt: &(impl Print + Eprint), input: &mut impl Read, name: &str) {
     let mut bytes = [0u8; 38029];
-    let n = io::read_full(fd, &mut bytes);
-    if (n < 38029) & !at_end(fd) {
-        os::fail(name);
-        return;
+    match streams::read_full(input, &mut bytes) {
+        Ok(n) => print_bytes(rt, &bytes[..n]),
+        Err(e) => streams::fail(rt, name, &e),
     }
-    print_bytes(&bytes[..n]);
 }

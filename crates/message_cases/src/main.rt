@@ -5,6 +5,7 @@
 ghost use Rattle.std.specs.Prelude.{◌≤◌, length};
 
 use call_message::Asked;
+use std::io::Read;
 
 // The words of the buffer of which a part is lent, and what each of them holds.
 const ROOM: usize = 51;
@@ -17,34 +18,25 @@ const MOST: usize = 1024;
 // The head's first word, "NKM1" in its bytes.
 const MAGIC: u32 = 827149134;
 
-fn say(text: &[u8]) {
-    io::write_all(1, text);
+fn say(rt: &impl Print, text: &str) {
+    let _ = print!(rt; "{text}");
 }
 
-fn say_number(n: u32) {
-    io::print_decimal(1, n as u64);
-}
-
-fn say_asked(asked: Asked) {
+fn say_asked(rt: &impl Print, asked: Asked) {
     match asked {
-        Asked::Refused(n) => say_number(n),
+        Asked::Refused(n) => {
+            let _ = print!(rt; "{n}");
+        }
         Asked::Request { kind, words } => {
-            say(b"type ");
-            say_number(kind);
-            say(b", ");
-            say_number(words);
-            say(b" words");
+            let _ = print!(rt; "type {kind}, {words} words");
         }
     }
 }
 
-fn say_line(i: u32, asked: Asked, check: u32) {
-    say_number(i);
-    say(b": ");
-    say_asked(asked);
-    say(b", check ");
-    say_number(check);
-    say(b"\n");
+fn say_line(rt: &impl Print, i: u32, asked: Asked, check: u32) {
+    let _ = print!(rt; "{i}: ");
+    say_asked(rt, asked);
+    let _ = print!(rt; ", check {check}\n");
 }
 
 // The reading with so many words of the request lent.
@@ -54,19 +46,18 @@ fn read_lent(message: &[u8], request: &mut [u32], lent: usize, up: u32) -> Asked
     call_message::read(message, &mut request[..lent], up)
 }
 
-fn replay_message(i: u32, message: &[u8], lent: usize, up: u32)
+fn replay_message(rt: &impl Print, i: u32, message: &[u8], lent: usize, up: u32)
     requires { lent ≤ 51 }
 {
     let mut request = [PATTERN; ROOM];
     let asked = read_lent(message, &mut request, lent, up);
-    say_line(i, asked, recorded::check(&request));
+    say_line(rt, i, asked, recorded::check(&request));
 }
 
 // Three words: what begins the list, and each record. False where the input ends sooner.
-fn read_head(head: &mut [u32; 3]) -> bool {
+fn read_head(input: &mut impl Read, head: &mut [u32; 3]) -> bool {
     let mut bytes = [0u8; 12];
-    let got = io::read_full(0, &mut bytes);
-    if got < 12 {
+    if input.read_exact(&mut bytes).is_err() {
         return false;
     }
     endian::words_of(&bytes, head);
@@ -74,21 +65,27 @@ fn read_head(head: &mut [u32; 3]) -> bool {
 }
 
 // A record behind its head: as many bytes as there is room for. False where the input ends sooner.
-fn replay_bytes(i: u32, message: &mut [u8], lent: usize, up: u32) -> bool
+fn replay_bytes(
+    rt: &impl Print,
+    input: &mut impl Read,
+    i: u32,
+    message: &mut [u8],
+    lent: usize,
+    up: u32,
+) -> bool
     requires { lent ≤ 51 }
 {
-    let got = io::read_full(0, message);
-    if got < message.len() {
+    if input.read_exact(message).is_err() {
         return false;
     }
-    replay_message(i, message, lent, up);
+    replay_message(rt, i, message, lent, up);
     true
 }
 
 // The next record: the message's bytes, the words that are lent, `up`, and the message. False where there is none.
-fn replay_record(i: u32) -> bool {
+fn replay_record(rt: &impl Print, input: &mut impl Read, i: u32) -> bool {
     let mut head = [0u32; 3];
-    if !read_head(&mut head) {
+    if !read_head(input, &mut head) {
         return false;
     }
     let n = words::wide(head[0]);
@@ -99,15 +96,15 @@ fn replay_record(i: u32) -> bool {
     if ROOM < lent {
         return false;
     }
-    let mut bytes = io::buffer();
-    replay_bytes(i, &mut bytes[..n], lent, head[2])
+    let mut bytes = [0u8; MOST];
+    replay_bytes(rt, input, i, &mut bytes[..n], lent, head[2])
 }
 
 // How many of the records are there.
-fn replay_records(records: u32) -> u32 {
+fn replay_records(rt: &impl Print, input: &mut impl Read, records: u32) -> u32 {
     let mut i = 0u32;
     while i < records {
-        if !replay_record(i) {
+        if !replay_record(rt, input, i) {
             return i;
         }
         i += 1;
@@ -115,31 +112,29 @@ fn replay_records(records: u32) -> u32 {
     records
 }
 
-fn at_end() -> bool {
+fn at_end(input: &mut impl Read) -> bool {
     let mut byte = [0u8; 1];
-    io::read_full(0, &mut byte) == 0
+    input.read_exact(&mut byte).is_err()
 }
 
-fn report(records: u32, there: u32) {
-    say_number(there);
-    say(b" messages of ");
-    say_number(records);
-    say(b"\n");
-    if !at_end() {
-        say(b"there is more behind the last record\n");
+fn report(rt: &impl Print, input: &mut impl Read, records: u32, there: u32) {
+    let _ = println!(rt; "{there} messages of {records}");
+    if !at_end(input) {
+        say(rt, "there is more behind the last record\n");
     }
 }
 
-fn main() {
+fn main(rt: HostRuntime) {
+    let mut input = rt.stdin();
     let mut head = [0u32; 3];
-    if !read_head(&mut head) {
-        say(b"no list of messages\n");
+    if !read_head(&mut input, &mut head) {
+        say(&rt, "no list of messages\n");
         return;
     }
     if head[0] != MAGIC {
-        say(b"no list of messages\n");
+        say(&rt, "no list of messages\n");
         return;
     }
-    let there = replay_records(head[2]);
-    report(head[2], there);
+    let there = replay_records(&rt, &mut input, head[2]);
+    report(&rt, &mut input, head[2], there);
 }

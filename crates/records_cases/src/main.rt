@@ -10,49 +10,41 @@ use layout::{ADDRESS_COUNT, ADDRESS_LIMIT, ADDRESS_WORDS, ADDRESSES_AT, STATE_WO
 use row_address::V4;
 use rows_source::Selected;
 
-fn say(text: &[u8]) {
-    io::write_all(1, text);
+fn say(rt: &impl Print, text: &str) {
+    let _ = print!(rt; "{text}");
 }
 
-fn say_number(n: u32) {
-    io::print_decimal(1, n as u64);
+fn say_ip(rt: &impl Print, a: u32) {
+    let first = a / 16777216;
+    let second = a / 65536 % 256;
+    let third = a / 256 % 256;
+    let fourth = a % 256;
+    let _ = print!(rt; " {first}.{second}.{third}.{fourth}");
 }
 
-fn say_ip(a: u32) {
-    say(b" ");
-    say_number(a / 16777216);
-    say(b".");
-    say_number(a / 65536 % 256);
-    say(b".");
-    say_number(a / 256 % 256);
-    say(b".");
-    say_number(a % 256);
+fn say_refused(rt: &impl Print, n: u32) {
+    let _ = print!(rt; " refused {n}");
 }
 
-fn say_refused(n: u32) {
-    say(b" refused ");
-    say_number(n);
-}
-
-fn say_selected(r: Selected) {
+fn say_selected(rt: &impl Print, r: Selected) {
     match r {
-        Selected::Local(a) => say_ip(a),
-        Selected::Nothing => say(b" none"),
+        Selected::Local(a) => say_ip(rt, a),
+        Selected::Nothing => say(rt, " none"),
     }
 }
 
-fn say_chosen(r: Chosen) {
+fn say_chosen(rt: &impl Print, r: Chosen) {
     match r {
-        Chosen::Refused(n) => say_refused(n),
-        Chosen::Nothing => say(b" none"),
-        Chosen::Address(a) => say_ip(a),
+        Chosen::Refused(n) => say_refused(rt, n),
+        Chosen::Nothing => say(rt, " none"),
+        Chosen::Address(a) => say_ip(rt, a),
     }
 }
 
-fn say_sourced(r: Sourced) {
+fn say_sourced(rt: &impl Print, r: Sourced) {
     match r {
-        Sourced::Refused(n) => say_refused(n),
-        Sourced::Address(a) => say_ip(a),
+        Sourced::Refused(n) => say_refused(rt, n),
+        Sourced::Address(a) => say_ip(rt, a),
     }
 }
 
@@ -122,22 +114,29 @@ fn count(list: List) -> usize
     list.n as usize
 }
 
-fn select(name: &[u8], list: List, present: bool, dst: u32, scope: u32) {
-    say(name);
-    say(b":");
-    say_selected(call_records::lend_select4(records(list), count(list), present, dst, scope));
+fn select(rt: &impl Print, name: &str, list: List, present: bool, dst: u32, scope: u32) {
+    let _ = print!(rt; "{name}:");
+    say_selected(
+        rt,
+        call_records::lend_select4(records(list), count(list), present, dst, scope),
+    );
     let s = state(list);
-    say_chosen(call_records::select4_words(&s, present as u32, dst, scope));
-    say(b"\n");
+    say_chosen(
+        rt,
+        call_records::select4_words(&s, present as u32, dst, scope),
+    );
+    say(rt, "\n");
 }
 
-fn primary(name: &[u8], list: List, a: [u32; 20]) {
-    say(name);
-    say(b":");
-    say_ip(call_records::lend_primary_of(records(list), count(list), record(a)));
+fn primary(rt: &impl Print, name: &str, list: List, a: [u32; 20]) {
+    let _ = print!(rt; "{name}:");
+    say_ip(
+        rt,
+        call_records::lend_primary_of(records(list), count(list), record(a)),
+    );
     let s = state(list);
-    say_sourced(call_records::primary_of_words(&s, &a));
-    say(b"\n");
+    say_sourced(rt, call_records::primary_of_words(&s, &a));
+    say(rt, "\n");
 }
 
 // 10.1.0.5/24, 10.2.0.5/24 and 10.2.0.6/24, the last a secondary.
@@ -160,49 +159,55 @@ fn other() -> List {
     }
 }
 
-fn selects() {
-    select(b"none there", three(0), false, 0, 0);
-    select(b"two, no destination", three(2), false, 0, 0);
+fn selects(rt: &impl Print) {
+    select(rt, "none there", three(0), false, 0, 0);
+    select(rt, "two, no destination", three(2), false, 0, 0);
     select(
-        b"two, a destination of the first",
+        rt,
+        "two, a destination of the first",
         three(2),
         true,
         0x0a010063,
         0,
     );
     select(
-        b"two, a destination of the second",
+        rt,
+        "two, a destination of the second",
         three(2),
         true,
         0x0a020063,
         0,
     );
     select(
-        b"two, a destination of neither",
+        rt,
+        "two, a destination of neither",
         three(2),
         true,
         0x0a030063,
         0,
     );
     select(
-        b"a destination of a secondary too",
+        rt,
+        "a destination of a secondary too",
         three(3),
         true,
         0x0a020006,
         0,
     );
     select(
-        b"a destination of a secondary alone",
+        rt,
+        "a destination of a secondary alone",
         other(),
         true,
         0x0a010063,
         0,
     );
-    select(b"a secondary first, scope 252", other(), false, 0, 252);
-    select(b"a secondary first, scope 253", other(), false, 0, 253);
-    select(b"by the peer's subnet", other(), true, 0x0a090063, 253);
+    select(rt, "a secondary first, scope 252", other(), false, 0, 252);
+    select(rt, "a secondary first, scope 253", other(), false, 0, 253);
+    select(rt, "by the peer's subnet", other(), true, 0x0a090063, 253);
     select(
-        b"not by the local address's",
+        rt,
+        "not by the local address's",
         other(),
         true,
         0x0a030063,
@@ -210,60 +215,67 @@ fn selects() {
     );
 }
 
-fn primaries() {
+fn primaries(rt: &impl Print) {
     primary(
-        b"a primary",
+        rt,
+        "a primary",
         three(3),
         row(0x0a010005, 0x0a010005, 24, 0, 0),
     );
     primary(
-        b"a secondary of the second",
+        rt,
+        "a secondary of the second",
         three(3),
         row(0x0a020006, 0x0a020006, 24, 0, 1),
     );
     primary(
-        b"a secondary of none",
+        rt,
+        "a secondary of none",
         three(3),
         row(0x0a030006, 0x0a030006, 24, 0, 1),
     );
     primary(
-        b"a secondary of another prefix",
+        rt,
+        "a secondary of another prefix",
         three(3),
         row(0x0a020006, 0x0a020006, 25, 0, 1),
     );
     primary(
-        b"a secondary beside secondaries",
+        rt,
+        "a secondary beside secondaries",
         other(),
         row(0x0a010006, 0x0a010006, 24, 0, 1),
     );
     primary(
-        b"a secondary by its peer",
+        rt,
+        "a secondary by its peer",
         three(3),
         row(0x0a010007, 0x0a020007, 24, 0, 1),
     );
     primary(
-        b"a secondary where none is",
+        rt,
+        "a secondary where none is",
         three(0),
         row(0x0a020006, 0x0a020006, 24, 0, 1),
     );
 }
 
 // What only words can be: a state or a row that isn't one.
-fn refusals() {
+fn refusals(rt: &impl Print) {
     let s = state(three(3));
     let a = row(0x0a020006, 0x0a020006, 24, 0, 1);
-    say(b"a state of 9,506 words:");
-    say_chosen(call_records::select4_words(&s[1..], 0, 0, 0));
-    say_sourced(call_records::primary_of_words(&s[1..], &a));
-    say(b"\na row of 19 words:");
-    say_sourced(call_records::primary_of_words(&s, &a[1..]));
-    say(b"\na scope of 256:");
-    say_chosen(call_records::select4_words(&s, 0, 0, 256));
-    say(b"\n");
+    say(rt, "a state of 9,506 words:");
+    say_chosen(rt, call_records::select4_words(&s[1..], 0, 0, 0));
+    say_sourced(rt, call_records::primary_of_words(&s[1..], &a));
+    say(rt, "\na row of 19 words:");
+    say_sourced(rt, call_records::primary_of_words(&s, &a[1..]));
+    say(rt, "\na scope of 256:");
+    say_chosen(rt, call_records::select4_words(&s, 0, 0, 256));
+    say(rt, "\n");
 }
 
-fn main() {
-    selects();
-    primaries();
-    refusals();
+fn main(rt: HostRuntime) {
+    selects(&rt);
+    primaries(&rt);
+    refusals(&rt);
 }

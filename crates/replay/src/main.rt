@@ -2,19 +2,21 @@
 // the records that the calls don't answer as recorded, how many of each call they do, and how many in all.
 #![tactic(auto)]
 
-ghost use Rattle.std.specs.Prelude.{◌≡◌, ℕ, ◌+◌, ◌*◌, ◌%◌, ◌^◌, ◌<◌, ◌≤◌, length, slice_index, slice_set};
+ghost use Rattle.std.specs.Prelude.{◌≡◌, ℕ, ◌+◌, ◌*◌, ◌%◌, ◌^◌, ◌<◌, ◌≤◌, length, take, slice_index, slice_set, IfSome};
 ghost use Rattle.definition.specs.Step.{event_room};
-ghost use Rattle.io.specs.Counts.{IsPrefixLen};
 
 use layout::EVENT_BUFFER;
 use recorded::{HELD_WORDS, Verdict, record};
+use std::env::FillError;
+use std::io::Read;
+use std::rt::{Env, Files};
+use std::{fs, str};
 
 // Words of as many bytes; false where the input ends sooner.
-fn read_bytes(fd: i32, bytes: &mut [u8], out: &mut [u32]) -> bool
+fn read_bytes(input: &mut impl Read, bytes: &mut [u8], out: &mut [u32]) -> bool
     requires { length bytes.old ≤ 4 * length out.old }
 {
-    let got = io::read_full(fd, bytes);
-    if got < bytes.len() {
+    if input.read_exact(bytes).is_err() {
         return false;
     }
     endian::words_of(bytes, out);
@@ -22,20 +24,20 @@ fn read_bytes(fd: i32, bytes: &mut [u8], out: &mut [u32]) -> bool
 }
 
 // As many words as there is room for; false where the input ends sooner.
-fn read_words(fd: i32, out: &mut [u32]) -> bool
+fn read_words(input: &mut impl Read, out: &mut [u32]) -> bool
     requires { length out.old ≤ 4096 }
 {
-    let mut bytes = io::large_buffer();
+    let mut bytes = [0u8; 16384];
     let k = 4 * out.len();
-    read_bytes(fd, &mut bytes[..k], out)
+    read_bytes(input, &mut bytes[..k], out)
 }
 
 // The next record, at the start of the words; how many they are, 0 where there is no record. Its second word says how many.
-fn next(fd: i32, r: &mut [u32]) -> usize
+fn next(input: &mut impl Read, r: &mut [u32]) -> usize
     requires { length r.old ≡ 4096 }
-    ensures { IsPrefixLen result r.new }
+    ensures { (result ≤ length r.new) × (result ≡ length (take result r.new)) }
 {
-    if !read_words(fd, &mut r[..2]) {
+    if !read_words(input, &mut r[..2]) {
         return 0;
     }
     let n = words::wide(r[record::LENGTH]);
@@ -45,7 +47,7 @@ fn next(fd: i32, r: &mut [u32]) -> usize
     if 4096 < n {
         return 0;
     }
-    if !read_words(fd, &mut r[2..n]) {
+    if !read_words(input, &mut r[2..n]) {
         return 0;
     }
     n
@@ -63,51 +65,41 @@ fn fill(buffer: &mut [u32])
     }
 }
 
-fn say(text: &[u8]) {
-    io::write_all(1, text);
+fn say(rt: &impl Print, text: &str) {
+    let _ = print!(rt; "{text}");
 }
 
-fn say_number(n: u64) {
-    io::print_decimal(1, n);
-}
-
-fn say_call(code: u32) {
+fn say_call(rt: &impl Print, code: u32) {
     match code {
-        1 => say(b"up"),
-        2 => say(b"down"),
-        3 => say(b"add_v4"),
-        4 => say(b"del_v4"),
-        5 => say(b"expire"),
-        6 => say(b"add_route4"),
-        7 => say(b"del_route4"),
-        8 => say(b"dump4"),
-        9 => say(b"lookup4"),
-        10 => say(b"lookup4_flow"),
-        11 => say(b"local4"),
-        12 => say(b"source4"),
-        13 => say(b"source"),
-        14 => say(b"select4"),
-        _ => say(b"left"),
+        1 => say(rt, "up"),
+        2 => say(rt, "down"),
+        3 => say(rt, "add_v4"),
+        4 => say(rt, "del_v4"),
+        5 => say(rt, "expire"),
+        6 => say(rt, "add_route4"),
+        7 => say(rt, "del_route4"),
+        8 => say(rt, "dump4"),
+        9 => say(rt, "lookup4"),
+        10 => say(rt, "lookup4_flow"),
+        11 => say(rt, "local4"),
+        12 => say(rt, "source4"),
+        13 => say(rt, "source"),
+        14 => say(rt, "select4"),
+        _ => say(rt, "left"),
     }
 }
 
-fn say_record(i: u32, what: &[u8]) {
-    say(b"record ");
-    say_number(i as u64);
-    say(what);
+fn say_record(rt: &impl Print, i: u32, what: &str) {
+    let _ = print!(rt; "record {i}{what}");
 }
 
 // A line for a kind of call that the list has.
-fn say_kind(code: u32, same: u64, other: u64) {
+fn say_kind(rt: &impl Print, code: u32, same: u64, other: u64) {
     if (same == 0) & (other == 0) {
         return;
     }
-    say_call(code);
-    say(b": ");
-    say_number(same);
-    say(b" as recorded, ");
-    say_number(other);
-    say(b" not\n");
+    say_call(rt, code);
+    let _ = print!(rt; ": {same} as recorded, {other} not\n");
 }
 
 // One more of a kind of call.
@@ -123,6 +115,7 @@ fn count(counts: &mut [u64; 16], code: u32)
 
 // A record of some words: whether the list can be read on behind it.
 fn iteration(
+    rt: &impl Print,
     i: u32,
     record: &[u32],
     held: &mut [u32; HELD_WORDS],
@@ -135,13 +128,13 @@ fn iteration(
     let code = recorded::code(record);
     match verdict {
         Verdict::Damaged => {
-            say_record(i, b" is damaged\n");
+            say_record(rt, i, " is damaged\n");
             false
         }
         Verdict::Other => {
-            say_record(i, b", ");
-            say_call(code);
-            say(b", is not as recorded\n");
+            say_record(rt, i, ", ");
+            say_call(rt, code);
+            say(rt, ", is not as recorded\n");
             count(other, code);
             true
         }
@@ -153,24 +146,26 @@ fn iteration(
 }
 
 fn step(
-    fd: i32,
+    rt: &impl Print,
+    input: &mut impl Read,
     i: u32,
     held: &mut [u32; HELD_WORDS],
     same: &mut [u64; 16],
     other: &mut [u64; 16],
 ) -> bool {
     let mut record = [0u32; 4096];
-    let n = next(fd, &mut record);
+    let n = next(input, &mut record);
     if n == 0 {
-        say_record(i, b" is not there\n");
+        say_record(rt, i, " is not there\n");
         return false;
     }
-    iteration(i, &record[..n], held, same, other)
+    iteration(rt, i, &record[..n], held, same, other)
 }
 
 // The records one after the other: whether all can be read.
 fn run(
-    fd: i32,
+    rt: &impl Print,
+    input: &mut impl Read,
     records: u32,
     held: &mut [u32; HELD_WORDS],
     same: &mut [u64; 16],
@@ -178,7 +173,7 @@ fn run(
 ) -> bool {
     let mut i = 0u32;
     while i < records {
-        if !step(fd, i, held, same, other) {
+        if !step(rt, input, i, held, same, other) {
             return false;
         }
         i += 1;
@@ -187,35 +182,33 @@ fn run(
 }
 
 // A record that was not read is not as recorded.
-fn report(same: &[u64; 16], other: &[u64; 16], records: u32) {
+fn report(rt: &impl Print, same: &[u64; 16], other: &[u64; 16], records: u32) {
     let mut total = 0u64;
     let mut k = 1u32;
     while k < 16 {
-        say_kind(k, same[k as usize], other[k as usize]);
+        say_kind(rt, k, same[k as usize], other[k as usize]);
         total = std::num::wrapping_add_u64(total, same[k as usize]);
         k += 1;
     }
-    say_number(total);
-    say(b" calls as recorded, ");
-    say_number(std::num::wrapping_sub_u64(records as u64, total));
-    say(b" not\n");
+    let not = std::num::wrapping_sub_u64(records as u64, total);
+    let _ = print!(rt; "{total} calls as recorded, {not} not\n");
 }
 
-fn at_end(fd: i32) -> bool {
+fn at_end(input: &mut impl Read) -> bool {
     let mut byte = [0u8; 1];
-    io::read_full(fd, &mut byte) == 0
+    input.read_exact(&mut byte).is_err()
 }
 
 // A list whose head is right.
-fn replay_records(fd: i32, records: u32) {
+fn replay_records(rt: &impl Print, input: &mut impl Read, records: u32) {
     let mut held = [0u32; HELD_WORDS];
     let mut same = [0u64; 16];
     let mut other = [0u64; 16];
-    let all = run(fd, records, &mut held, &mut same, &mut other);
-    report(&same, &other, records);
+    let all = run(rt, input, records, &mut held, &mut same, &mut other);
+    report(rt, &same, &other, records);
     if all {
-        if !at_end(fd) {
-            say(b"there is more behind the last record\n");
+        if !at_end(input) {
+            say(rt, "there is more behind the last record\n");
         }
     }
 }
@@ -223,46 +216,59 @@ fn replay_records(fd: i32, records: u32) {
 // The head's first word, "NKV2" in its bytes.
 const MAGIC: u32 = 844516174;
 
-fn replay(fd: i32) {
+fn replay(rt: &impl Print, input: &mut impl Read) {
     let mut head = [0u32; 5];
-    if !read_words(fd, &mut head) {
-        say(b"no list of answers\n");
+    if !read_words(input, &mut head) {
+        say(rt, "no list of answers\n");
         return;
     }
     if (head[0] != MAGIC) | (head[4] != recorded::check(&head[..4])) {
-        say(b"no list of answers\n");
+        say(rt, "no list of answers\n");
         return;
     }
-    replay_records(fd, head[3]);
+    replay_records(rt, input, head[3]);
 }
 
-fn replay_file(path: &[u8]) {
-    say(path);
-    say(b":\n");
-    let fd = os::open_read(path);
-    if fd < 0 {
-        os::fail(path);
+fn replay_file(rt: &(impl Files + Print + Eprint), path: &str) {
+    match fs::open(rt, path) {
+        Ok(mut input) => replay(rt, &mut input),
+        Err(e) => streams::fail(rt, path, &e),
+    }
+}
+
+// An argument that isn't UTF-8 names no file.
+fn replay_argument(rt: &(impl Files + Print + Eprint), argument: &[u8]) {
+    let _ = rt.write_all(argument);
+    say(rt, ":\n");
+    match str::from_utf8(argument) {
+        Ok(path) => replay_file(rt, path),
+        Err(_) => {
+            let _ = eprintln!(rt; "a path that isn't UTF-8 can't be opened");
+        }
+    }
+}
+
+// The argument's bytes at the start of a buffer, none of one that is too long; how many they are, or that there is no such argument.
+fn argument(rt: &impl Env, i: usize, bytes: &mut [u8; 4096]) -> Option<usize>
+    ensures { IfSome result (λ n. (n ≤ length bytes.new) × (n ≡ length (take n bytes.new))) }
+{
+    match rt.arg(i, bytes) {
+        Ok(n) => Some(n),
+        Err(FillError::TooLong) => Some(0),
+        Err(FillError::NotPresent) => None,
+    }
+}
+
+fn main(rt: HostRuntime) {
+    let mut bytes = [0u8; 4096];
+    if argument(&rt, 1, &mut bytes).is_none() {
+        replay(&rt, &mut rt.stdin());
         return;
     }
-    replay(fd);
-    libc::close(fd);
-}
-
-fn replay_argument(i: usize) {
-    let mut path = io::buffer();
-    let n = os::arg(i, &mut path);
-    replay_file(&path[..n]);
-}
-
-fn main() {
-    let n = os::arg_count();
-    if n < 2 {
-        replay(0);
-        return;
-    }
-    let mut i = 1usize;
-    while i < n {
-        replay_argument(i);
-        i += 1;
+    for i in 1..usize::MAX {
+        match argument(&rt, i, &mut bytes) {
+            Some(n) => replay_argument(&rt, &bytes[..n]),
+            None => return,
+        }
     }
 }

@@ -2,26 +2,25 @@
 // which can be opened and not read.
 #![tactic(auto)]
 
-fn print(path: &[u8]) {
-    io::write_all(1, path);
-    io::write_all(1, b"\n");
-    let fd = os::open_read(path);
-    if fd < 0 {
-        os::fail(path);
-        return;
+use std::fs;
+use std::rt::Files;
+
+fn print(rt: &(impl Files + Print + Eprint), path: &str) {
+    let _ = println!(rt; "{path}");
+    match fs::open(rt, path) {
+        Ok(mut input) => app_show::print(rt, &mut input, path),
+        Err(e) => streams::fail(rt, path, &e),
     }
-    app_show::print(fd, path);
-    libc::close(fd);
 }
 
-fn main() {
-    print(b"empty");
-    print(b"tables");
-    print(b"full");
-    print(b"short");
-    print(b"long");
-    print(b"nothing");
-    print(b"unordered");
-    print(b"kind4");
-    print(b".");
+fn main(rt: HostRuntime) {
+    print(&rt, "empty");
+    print(&rt, "tables");
+    print(&rt, "full");
+    print(&rt, "short");
+    print(&rt, "long");
+    print(&rt, "nothing");
+    print(&rt, "unordered");
+    print(&rt, "kind4");
+    print(&rt, ".");
 }
