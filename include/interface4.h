@@ -1,7 +1,7 @@
 /*
  * IPv4 on a guest's loopback: addresses, routes, source choice, and requests
  * as they come off an rtnetlink socket. The functions of libinterface4.a
- * (`rt staticlib interface4`), for x86-64 Linux, to be used from C99 or C++.
+ * (`rt lib` in crates/interface4), for x86-64 Linux, to be used from C99 or C++.
  * Each is proved to do what documents 01 and 02 say for any lent words at all.
  *
  * Each call is there twice: interface4w_* on words of 32 bits where they are,

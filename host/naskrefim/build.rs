@@ -1,13 +1,13 @@
 //! Finds the port's static library, sees that it exports every function,
 //! and has it linked. NASKREFIM_LIB names the file; without it, it is looked
-//! for where `rt staticlib interface4` writes it. A target for which there
-//! is no library stops the build.
+//! for where `rt lib` in crates/interface4 writes it. A target for which
+//! there is no library stops the build.
 
 use std::path::{Path, PathBuf};
 use std::{env, fs, process};
 
 /// From the repository's root.
-const DEFAULT: &str = "target/staticlib/libinterface4.a";
+const DEFAULT: &str = "crates/interface4/out/libinterface4.a";
 /// What it exports, behind each prefix: on bytes and on words.
 const PREFIXES: [&str; 2] = ["interface4_", "interface4w_"];
 const CALLS: &str = "up down add_v4 del_v4 expire add_route4 del_route4 dump4 lookup4 \
@@ -54,7 +54,7 @@ fn build() -> Result<(), String> {
     println!("cargo::rerun-if-changed={}", library.display());
     let library = library.canonicalize().map_err(|e| {
         format!(
-            "the port's library cannot be found ({named} {}): {e}. `rt staticlib interface4` writes it; \
+            "the port's library cannot be found ({named} {}): {e}. `rt lib` in crates/interface4 writes it; \
              set NASKREFIM_LIB to the file, as a whole path",
             library.display()
         )

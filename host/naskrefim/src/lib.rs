@@ -35,8 +35,8 @@
 //!
 //! # What a build needs
 //!
-//! The library: `rt staticlib interface4` writes it where it is looked for,
-//! and NASKREFIM_LIB names another file. It is for 64-bit x86 Linux (words
+//! The library: `rt lib` in crates/interface4 writes it where it is looked
+//! for, and NASKREFIM_LIB names another file. It is for 64-bit x86 Linux (words
 //! little-endian); a build for another target stops and says so. The crate
 //! needs `alloc` and no `std`, and Rust 1.88 (`slice::as_chunks`). The
 //! library itself calls `memcpy`, `memmove`, `memset` and nothing else.
