@@ -1,6 +1,6 @@
 -- `replay::fill` meets its contract: the words below i are as they are to be.
 -- Assumes nothing.
-use Rattle.std.proofs.Common.{◌-◌, refl, ◌∙◌, arith, length-set}
+use Rattle.std.proofs.Common.{refl, ◌∙◌, arith, length-set}
 use Rattle.replay.specs.Fill.{filled}
 use Rattle.replay.proofs.fill.Goals as goal
 
