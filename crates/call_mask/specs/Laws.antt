@@ -1,4 +1,5 @@
--- A call with a good mask is the base's call with its prefix, whole; one with another is refused by 207, after 200 and 201.
+-- A call with a good mask is the base's call with its prefix, whole; that one with another is refused by 207, after 200 and 201, is
+-- proved in proofs/Laws.antt.
 -- Assumes nothing.
 use Rattle.std.specs.Prelude.{ℕ, ◌≡◌, Bool, cond, ◌&&◌, List, eqb, length, set}
 use Rattle.std.proofs.Common.{arith, sym, ap, subst, ◌∙◌}
@@ -9,7 +10,6 @@ use Rattle.std.proofs.Math.ListN.{length-set}
 use borrow.Author.Tests.{ne_eqb, eq-eqb, eqb-true}
 use Rattle.lists.specs.Lists.{Row}
 use Rattle.lists.specs.Bools.{test-case, cond-true, cond-false}
-use Rattle.layout.specs.Request.{add_v4_size, del_v4_size}
 use Rattle.netmask.specs.declared.Prefix.TheVariants.{Length}
 use Rattle.netmask.specs.declared.Prefix.TheVariants.{Refused as PrefixRefused}
 use Rattle.netmask.specs.Netmask.{good, bad_mask, prefix_of}
@@ -19,7 +19,6 @@ use Rattle.definition.specs.Call as Call
 use Rattle.definition.specs.Call.{refusal}
 use Rattle.definition.specs.Step.{Result, Semantics, semantics, perform, Checks, checks, checked, refuses, unless, events_fit, request_is, add_v4_call, del_v4_call}
 use Rattle.definition.proofs.Preservation.Step.{perform-case}
-use Rattle.call_read.specs.Laws.{call-refused}
 use Rattle.call_change.specs.Answer.{Answers}
 use Rattle.call_change.specs.Emitted.{EmittedRows, add_v4-emitted, del_v4-emitted}
 use Rattle.call_change.specs.declared.Done.{Done}
@@ -48,27 +47,6 @@ module _ (q : Row) (events : ℕ) (w : List ℕ) where
   del_v4-prefix p m =
       del_v4-good (ap good m.same ∙ good-mask p m.fits)
       ∙ ap (λ (n : ℕ). del_v4_call (set q del_v4_mask n) events w) (its_ones (mask_at del_v4_mask q) p m)
-
--- ---- another mask: 207 behind 200 and 201, whatever else is wrong with the request
-bad_is : (s : Semantics) (b : Bool) (w : List ℕ) → b ≡ false → (eqb (length w) state_size && s.checks.buffers) ≡ true → (formed w && s.checks.row) ≡ true
-    → perform (masked b s) w ≡ refuses bad_mask w
-bad_is s b w e h i = call-refused (masked b s) w (rw (h, i, e) refl) (λ z. omega arith)
-
-module _ (q : Row) (events : ℕ) (w : List ℕ) where
-  -- behind 200 and 201
-  pub add_v4_bad : (now : ℕ) → good (mask_at add_v4_mask q) ≡ false → (eqb (length w) state_size && (request_is add_v4_size q && events_fit events)) ≡ true → formed w ≡ true
-      → add_v4_mask_call q events now w ≡ refuses bad_mask w
-  unfolding add_v4_mask_call
-  add_v4_bad now b h i =
-      let own = length-set q add_v4_mask (ones (mask_at add_v4_mask q)) in
-      bad_is (semantics (Call.add_v4 (prefixed add_v4_mask q) events now)) (good (mask_at add_v4_mask q)) w b (rw own h) (rw i refl)
-
-  pub del_v4_bad : good (mask_at del_v4_mask q) ≡ false → (eqb (length w) state_size && (request_is del_v4_size q && events_fit events)) ≡ true → formed w ≡ true
-      → del_v4_mask_call q events w ≡ refuses bad_mask w
-  unfolding del_v4_mask_call
-  del_v4_bad b h i =
-      let own = length-set q del_v4_mask (ones (mask_at del_v4_mask q)) in
-      bad_is (semantics (Call.del_v4 (prefixed del_v4_mask q) events)) (good (mask_at del_v4_mask q)) w b (rw own h) (rw i refl)
 
 -- ---- the checks: 200 for a request of other words; 200, 201 or the mask's number where that isn't 0
 -- the mask's number says whether it is good

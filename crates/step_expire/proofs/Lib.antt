@@ -1,2 +1,2 @@
-pub mod Iteration
+pub mod Iterations
 pub mod Loop

@@ -31,7 +31,7 @@ use Rattle.step_drop_routes.specs.Iterations.{step-facts}
 use Rattle.lists.specs.Front.{any_here}
 use Rattle.step_remove_v4.specs.One.{address_row, lent-address, put-row}
 use Rattle.step_expire.specs.Iteration.{expire_turn, next_place}
-use Rattle.step_expire.proofs.Iteration.{Quiet, expire-iteration, expire-none, live-lighter, iteration_fewer}
+use Rattle.step_expire.proofs.Iterations.{Quiet, expire-iteration, expire-none, live-lighter, iteration_fewer}
 
 -- ---- the tests
 pub due-is : (allowance now : ℕ) (a : Row) (over : Bool) → over ≡ reached allowance (valid a) (changed a) now

@@ -1,5 +1,5 @@
 -- `expire` address by address: one that is due goes and all begins again, one that fades is marked. That these iterations are
--- `expire` itself is proved in proofs/Iteration.antt.
+-- `expire` itself is proved in proofs/Iterations.antt.
 -- Assumes nothing.
 use Rattle.std.specs.Prelude.{ℕ, ◌+◌, cond, [], ◌∷◌, ltb, get_or, set}
 use Rattle.layout.specs.Event.{new_addr4}
