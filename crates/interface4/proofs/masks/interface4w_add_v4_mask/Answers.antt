@@ -4,7 +4,7 @@ use mathlib.Core.Path.{ap, ◌∙◌}
 use lib.ListN.{length}
 use Rattle.call_change.specs.Emitted.{small}
 use Rattle.call_mask.specs.Masked.{add_v4_mask_call}
-use Rattle.call_mask.specs.Laws.{add_v4-mask-emitted}
+use Rattle.call_mask.proofs.Emitted.{add_v4-mask-emitted}
 use Rattle.call_reply.specs.Answer.{reply_from}
 use Rattle.interface4.proofs.masks.interface4w_add_v4_mask.Goals as goal
 

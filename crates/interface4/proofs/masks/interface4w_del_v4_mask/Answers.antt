@@ -4,7 +4,7 @@ use mathlib.Core.Path.{ap, ◌∙◌}
 use lib.ListN.{length}
 use Rattle.call_change.specs.Emitted.{small}
 use Rattle.call_mask.specs.Masked.{del_v4_mask_call}
-use Rattle.call_mask.specs.Laws.{del_v4-mask-emitted}
+use Rattle.call_mask.proofs.Emitted.{del_v4-mask-emitted}
 use Rattle.call_reply.specs.Answer.{reply_from}
 use Rattle.interface4.proofs.masks.interface4w_del_v4_mask.Goals as goal
 
