@@ -24,6 +24,12 @@ pub const ROUTE_WORDS: usize = 32;
 
 pub const EVENT_WORDS: usize = 34;
 
+pub type AddressRow = [u32; ADDRESS_WORDS];
+
+pub type RouteRow = [u32; ROUTE_WORDS];
+
+pub type EventRow = [u32; EVENT_WORDS];
+
 // The metrics of a route.
 pub const METRICS: usize = 17;
 
@@ -35,6 +41,14 @@ pub const DEL_V4_WORDS: usize = 11;
 pub const ADD_ROUTE4_WORDS: usize = 34;
 
 pub const DEL_ROUTE4_WORDS: usize = 49;
+
+pub type AddV4 = [u32; ADD_V4_WORDS];
+
+pub type DelV4 = [u32; DEL_V4_WORDS];
+
+pub type AddRoute4 = [u32; ADD_ROUTE4_WORDS];
+
+pub type DelRoute4 = [u32; DEL_ROUTE4_WORDS];
 
 // The state: three counts, then the rows of each list.
 pub const ADDRESS_COUNT: usize = 0;
