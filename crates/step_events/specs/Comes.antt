@@ -1,7 +1,7 @@
 -- What a step comes to: its answer by the definition's outcome, and what it leaves unless a list passed its limit.
 -- Assumes nothing.
 use Rattle.std.specs.Prelude.{ℕ, max, ◌≡◌, refl, Bool, true, false, cond, ◌&&◌, leb, List, length, Result, Ok, Err}
-use Rattle.std.proofs.Common.{sym, ap, ◌∙◌, arith, leb-true, leb-false, le-leb}
+use Rattle.std.proofs.Common.{sym, ◌∙◌, arith, leb-true, leb-false, le-leb}
 use Rattle.std.proofs.lemmas.Bool.{lt-leb}
 use Rattle.refusal.specs.declared.Refusal.{Refusal}
 use Rattle.refusal.specs.declared.Refusal.TheVariants.{Full, Errno}

@@ -1,6 +1,6 @@
 -- What a step leaves of a change to a state, and how one step after another is one.
 -- Assumes nothing.
-use Rattle.std.specs.Prelude.{ℕ, ◌+◌, ◌-◌, ◌*◌, ◌≤◌, ◌≡◌, refl, true, List, [], ◌∷◌, ◌++◌, eqb, length}
+use Rattle.std.specs.Prelude.{ℕ, ◌+◌, ◌*◌, ◌≤◌, ◌≡◌, refl, true, List, [], ◌∷◌, ◌++◌, eqb, length}
 use Rattle.std.proofs.Common.{sym, ap, ◌∙◌, arith, length-append, eq-eqb}
 use Rattle.lists.specs.Lists.{Row, flat, put}
 use Rattle.lists.specs.Bools.{and_both}
@@ -10,7 +10,7 @@ use Rattle.lists.specs.Put.{put-none, put-behind}
 use Rattle.lists.specs.At.{flat_append}
 use Rattle.definition.specs.State.{State, Out, becomes, stays, also}
 use Rattle.state.specs.Represents.{Represents}
-use Rattle.step_events.specs.Tells.{SamePlaces, Tells}
+use Rattle.step_events.specs.Tells.{Tells}
 use Rattle.step_events.specs.declared.change.Change.{Change}
 
 -- b holds o's state, and tells the rows that o emits more than a
@@ -74,4 +74,14 @@ does-also {o} t f u =
       holds = u.holds;
       wide = all_append (λ r. eqb (length r) 34) o.emitted (f o.state).emitted t.wide u.wide;
       tells = tells-also t.wide u.wide t.tells u.tells;
+    }
+
+-- what is told, whatever became of the state behind it
+pub tells-behind : {rows : List Row} {a m b : Change} → Tells rows a m → b.told ≡ m.told → b.events.now ≡ m.events.now → b.state.ghost_name ≡ m.state.ghost_name → b.events.ghost_name ≡ m.events.ghost_name → Tells rows a b
+tells-behind t e f g h =
+    record {
+      told = e ∙ t.told;
+      words = f ∙ t.words;
+      long = ap length f ∙ t.long;
+      places = record { state = g ∙ t.places.state; events = h ∙ t.places.events };
     }

@@ -1,7 +1,7 @@
 -- Steps that emit within a weight that bounds how many rows may still come: what a step emits and the weight that it leaves never
 -- pass the weight before, so one inequality at the start gives room at every level.
 -- Assumes nothing.
-use Rattle.std.specs.Prelude.{ℕ, ◌+◌, ◌*◌, ◌≤◌, ◌≡◌, List, [], ◌∷◌, length}
+use Rattle.std.specs.Prelude.{ℕ, ◌+◌, ◌*◌, ◌≤◌, ◌≡◌, [], ◌∷◌, length}
 use Rattle.std.proofs.Common.{arith, length-append}
 use Rattle.lists.specs.Lists.{Row}
 use Rattle.definition.specs.State.{State, Out, becomes, stays, also}

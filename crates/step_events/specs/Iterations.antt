@@ -1,6 +1,6 @@
 -- A step that a loop makes iteration by iteration: what is done so far, and what remains to be done from there.
 -- Assumes nothing.
-use Rattle.std.specs.Prelude.{ℕ, ◌+◌, ◌-◌, ◌*◌, ◌≡◌, refl, List, [], ◌∷◌, ◌++◌, length, take, drop}
+use Rattle.std.specs.Prelude.{ℕ, ◌≡◌, refl, List, [], ◌∷◌, ◌++◌}
 use Rattle.std.proofs.Common.{sym, ap, ◌∙◌, append-nil, append_assoc}
 use Rattle.lists.specs.Lists.{Row}
 use Rattle.definition.specs.State.{State, Out, stays, also, through}

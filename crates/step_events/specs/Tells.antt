@@ -1,5 +1,5 @@
 -- What a change to a state has told.
-use Rattle.std.specs.Prelude.{ℕ, ◌+◌, ◌*◌, ◌≡◌, List, length}
+use Rattle.std.specs.Prelude.{◌+◌, ◌*◌, ◌≡◌, List, length}
 use Rattle.lists.specs.Lists.{Row, flat, put}
 use Rattle.step_events.specs.declared.change.Change.{Change}
 

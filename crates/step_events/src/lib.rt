@@ -32,6 +32,13 @@ fn route_event(kind: u32, flags: u32, r: &RouteRow) -> EventRow
 }
 
 impl Change<'_> {
+    // The words that hold the state, to read.
+    pub fn words(&self) -> &[u32]
+        ensures { result.now ≡ self.now.state.now }
+    {
+        self.state
+    }
+
     // One row more.
     fn tell(&mut self, row: &EventRow)
         requires { 34 * (self.old.told + 1) ≤ length self.old.events.now }

@@ -1,4 +1,4 @@
-use Rattle.std.proofs.Common.{refl, sym, ap, ◌∙◌, List, ℕ, ◌∷◌, append-nil}
+use Rattle.std.proofs.Common.{ap, ◌∙◌, List, ℕ, ◌∷◌, append-nil}
 use Rattle.lists.specs.Lists.{put}
 use Rattle.step_events.proofs.route_event.Goals as goal
 
