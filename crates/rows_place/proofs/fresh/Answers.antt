@@ -1,11 +1,18 @@
-use mathlib.Core.Path.{refl}
-use Rattle.rows_place.specs.Rows.{fit-row-asked, row_fresh, fit-row-second, row-second}
+use Rattle.std.proofs.Common.{ap, ◌∙◌}
+use Rattle.layout.specs.Address.{fit_address}
+use Rattle.definition.specs.Reference.Addresses.{asked, as_secondary}
+use Rattle.definition.specs.Preservation.Rows.{asked-fit, as_secondary-fit}
 use Rattle.rows_place.proofs.fresh.Goals as goal
 
-pub returns-then-not-second : goal.returns-then-not-second
-returns-then-not-second c =
-    record { out_after = fit-row-asked c.args.q.now c.args.clock.0 c.requires.q_len.0 c.requires.q_len.1 c.args.out.now c.requires.out_len c.asked.ensures; out_after_2 = λ l h. row_fresh c.args.q.now c.args.clock.0 c.requires.q_len.0 c.requires.q_len.1 c.args.out.now c.requires.out_len c.asked.ensures l c.in_subnet-second.result (c.in_subnet-second.ensures l h) c.if-not-second.true }
+pub returns-then-in_subnet : goal.returns-then-in_subnet
+returns-then-in_subnet c =
+    let f = asked-fit c.args.q.now c.args.clock.0 c.told-q c.requires in
+    let second = rw c.asked-row.ensures at c.as_secondary.ensures in
+    record { fits = ap fit_address second ∙ as_secondary-fit (asked c.args.q.now c.args.clock.0) f; value = rw (← c.in_subnet.ensures, c.if-in_subnet.true) second }
 
 pub returns : goal.returns
 returns c =
-    record { out_after = fit-row-second c.args.q.now c.args.clock.0 c.requires.q_len.0 c.requires.q_len.1 _ refl c.asked-2.ensures c.args.out.now c.requires.out_len c.as_secondary.ensures; out_after_2 = λ l h. row-second c.args.q.now c.args.clock.0 c.requires.q_len.0 c.requires.q_len.1 _ refl c.asked-2.ensures c.args.out.now c.requires.out_len c.as_secondary.ensures l c.in_subnet-second.result (c.in_subnet-second.ensures l h) c.if-not-second.false }
+    record {
+      fits = ap fit_address c.asked-row.ensures ∙ asked-fit c.args.q.now c.args.clock.0 c.told-q c.requires;
+      value = rw (← c.in_subnet.ensures, c.if-in_subnet.false) c.asked-row.ensures;
+    }
