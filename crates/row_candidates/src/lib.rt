@@ -93,7 +93,7 @@ pub fn kernel_route(dst: u32, len: u32, priority: u32, kind: Kind, source: u32) 
     r[route::DST] = dst;
     r[route::LEN] = len;
     r[route::PRIORITY] = priority;
-    r[route::KIND] = kind.code();
+    r[route::KIND] = u32::from(kind);
     r[route::PROTO] = layout::PROTO_KERNEL;
     r[route::SCOPE] = scope_of(kind);
     r[route::PREFSRC_PRESENT] = 1;

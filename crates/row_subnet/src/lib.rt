@@ -1,11 +1,9 @@
 // Tests of one address row, and the primary whose subnet an address is in.
 #![tactic(auto)]
 
-ghost use Rattle.std.specs.Prelude.{◌≡◌, ◌≤◌, MatchOption};
+ghost use Rattle.std.specs.Prelude.{◌≡◌, ◌≤◌, length};
 ghost use Rattle.std.specs.List.{find};
 ghost use Rattle.std.specs.Option.{option_map};
-ghost use Rattle.std.proofs.Math.Option.{none, some};
-ghost use Rattle.lists.specs.Lists.{first};
 ghost use Rattle.layout.specs.Address.{secondary, no_prefix_route};
 ghost use Rattle.definition.specs.Reference.Addresses.{covers, same_subnet, own_network, names_broadcast, primary_of};
 ghost use Rattle.row_subnet.specs.OwnRoutes.{has_prefix_route, has_broadcast_routes, primary_for};
@@ -38,11 +36,11 @@ pub fn covers(a: &AddressRow, ip: u32) -> bool
 
 // Whether b, an address or a request for one, is in the subnet of a.
 #[tactic(auto, unfolding(definition::specs::Reference::Addresses::same_subnet))]
-pub fn same_subnet<const N: usize>(a: &AddressRow, b: &[u32; N]) -> bool
-    requires { 14 ≤ N }
+pub fn same_subnet(a: &AddressRow, b: &[u32]) -> bool
+    requires { 14 ≤ length b.now }
     ensures { result ≡ same_subnet a.now b.now }
 {
-    (a[address::PREFIX] == b[address::PREFIX]) & covers(a, b[address::ADDRESS])
+    a[address::PREFIX] == b[address::PREFIX] && covers(a, b[address::ADDRESS])
 }
 
 // Whether it names a broadcast address other than 0.0.0.0 and 255.255.255.255.

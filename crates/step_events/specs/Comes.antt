@@ -1,6 +1,6 @@
 -- What a step comes to: its answer by the definition's outcome, and what it leaves unless a list passed its limit.
 -- Assumes nothing.
-use Rattle.std.specs.Prelude.{ℕ, max, ◌≡◌, refl, Bool, true, false, cond, ◌&&◌, leb, List, length, Result, Ok, Err}
+use Rattle.std.specs.Prelude.{ℕ, max, ◌≡◌, refl, Bool, true, false, cond, ◌&&◌, leb, List, [], length, Result, Ok, Err}
 use Rattle.std.proofs.Common.{sym, ◌∙◌, arith, leb-true, leb-false, le-leb}
 use Rattle.std.proofs.lemmas.Bool.{lt-leb}
 use Rattle.refusal.specs.declared.Refusal.{Refusal}
@@ -11,7 +11,8 @@ use Rattle.definition.specs.Words.{within}
 use Rattle.definition.specs.Reference.Addresses.{Outcome, goes, refused, out_of}
 use Rattle.definition.specs.Step.{roomy}
 use Rattle.state.specs.Represents.{Represents}
-use Rattle.step_events.specs.Emits.{Emits, does-none, does-also}
+use Rattle.step_events.specs.Emits.{Emits, does-none, does-quiet, does-also}
+use Rattle.step_events.specs.Tells.{Tells}
 use Rattle.step_events.specs.declared.change.Change.{Change}
 
 abbrev pub Answer : Type 0
@@ -118,6 +119,9 @@ goes-made e d = comes-made e refl d
 
 pub refused-made : (n : ℕ) {st : State} {a : Change} → Represents a.state.now st → Comes (refused n st) a a (Err (Errno n))
 refused-made n {st} {a} h = comes-made (holds-within h) refl (does-none st a h)
+
+pub adds-quiet : (st : State) {a b : Change} → Represents b.state.now st → Tells [] a b → Comes (goes (stays st)) a b (Ok tt)
+adds-quiet st h t = goes-made (holds-within h) (does-quiet st h t)
 
 pub adds_none : (st : State) {a : Change} → Represents a.state.now st → Comes (goes (stays st)) a a (Ok tt)
 adds_none st {a} h = goes-made (holds-within h) (does-none st a h)

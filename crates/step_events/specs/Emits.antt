@@ -61,6 +61,10 @@ tells-also {l} {m} {a} {b} {c} w x t u =
 pub does-none : (st : State) (a : Change) → Represents a.state.now st → Emits (stays st) a a
 does-none st a h = record { holds = h; wide = refl; tells = tells-none a }
 
+-- another state, of which nothing is told
+pub does-quiet : (st : State) {a b : Change} → Represents b.state.now st → Tells [] a b → Emits (stays st) a b
+does-quiet st h t = record { holds = h; wide = refl; tells = t }
+
 -- one row
 pub does-one : (st : State) (row : Row) {a b : Change} → Represents b.state.now st → length row ≡ 34 → Tells (row ∷ []) a b → Emits (becomes st (row ∷ [])) a b
 does-one st row h e t =
@@ -84,4 +88,14 @@ tells-behind t e f g h =
       words = f ∙ t.words;
       long = ap length f ∙ t.long;
       places = record { state = g ∙ t.places.state; events = h ∙ t.places.events };
+    }
+
+-- or before
+pub tells-ahead : {rows : List Row} {a m b : Change} → Tells rows m b → m.told ≡ a.told → m.events.now ≡ a.events.now → m.state.ghost_name ≡ a.state.ghost_name → m.events.ghost_name ≡ a.events.ghost_name → Tells rows a b
+tells-ahead {rows} {a} {m} {b} t e f g h =
+    record {
+      told = rw e at t.told;
+      words = rw (e, f) at t.words;
+      long = rw f at t.long;
+      places = record { state = t.places.state ∙ g; events = t.places.events ∙ h };
     }
