@@ -1,14 +1,11 @@
 -- Where an address goes, and the row that a request becomes.
 -- Assumes nothing.
-use Rattle.std.specs.Prelude.{ℕ, ◌≤◌, ◌≡◌, Bool, true, false, cond, List, [], length, take, drop}
-use Rattle.std.proofs.Common.{arith, ap, ◌∙◌, drop_of_length-le, take_all}
-use Rattle.lists.specs.Lists.{Row, any, put}
+use Rattle.std.specs.Prelude.{ℕ, ◌≡◌, true, false, cond, List, [], length, take, drop}
+use Rattle.std.proofs.Common.{arith, drop_of_length-le, take_all}
+use Rattle.lists.specs.Lists.{Row, any}
 use Rattle.lists.specs.At.{insert_at}
-use Rattle.lists.specs.Put.{put_whole}
-use Rattle.layout.specs.Address.{secondary, fit_address}
-use Rattle.layout.specs.Request.{fit_add_v4}
+use Rattle.layout.specs.Address.{secondary}
 use Rattle.definition.specs.Reference.Addresses.{yields, place4, same_subnet, asked, as_secondary}
-use Rattle.definition.specs.Preservation.Rows.{asked-fit, as_secondary-fit}
 use Rattle.rows_place.specs.Behind.{behind_of, behind-at}
 
 -- ---- the place
