@@ -18,3 +18,4 @@ pub mod Cut
 pub mod Mapped
 pub mod Next
 pub mod Front
+pub mod Optional

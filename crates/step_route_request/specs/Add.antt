@@ -1,5 +1,6 @@
 -- The ways out of an addition.
 -- Assumes nothing.
+use Rattle.std.specs.Prelude as Prelude
 use Rattle.std.specs.Prelude.{ℕ, ◌≤◌, ◌<◌, Bool, ◌&&◌, eqb, length}
 use Rattle.std.proofs.Math.Path.{◌≡◌, sym, ap}
 use Rattle.std.proofs.Common.{◌∙◌, arith, eqb-true}
@@ -30,9 +31,8 @@ use Rattle.step_insert.specs.Plan.{answer_of, rows_after, InsertedInto}
 use Rattle.step_insert.specs.declared.Inserted.{Inserted}
 use Rattle.step_insert.specs.declared.Inserted.TheVariants.{Put, Nothing, Refused, Full}
 use Rattle.request_gateway.specs.Rows.{reached_of}
-use Rattle.request_gateway.specs.declared.Reached.{Reached}
-use Rattle.request_gateway.specs.declared.Reached.TheVariants as Reached
-use Rattle.request_gateway.specs.declared.Reached.TheVariants.{By}
+use Rattle.refusal.specs.Refusal.{number_of}
+use Rattle.refusal.specs.declared.Refusal.{Refusal}
 use Rattle.step_events.specs.Row.{new_route-long}
 use Rattle.step_events.specs.Comes.{ComesWhole, whole-full}
 use Rattle.step_route_request.specs.Ways.{request-refused, request-none, request-emitted}
@@ -171,7 +171,7 @@ room-kept t rows h k room = rw (tables-at k) (rw (tables-at h) at room)
 pub asked_new : (x r init : List ℕ) → x ≡ put 0 r init → fit_route r ≡ true → length init ≡ 32 → x ≡ r
 asked_new x r init e f long = e ∙ put_whole r init (length-route r f ∙ sym long)
 
-pub by-checked : (x : Reached) (linked : Bool) → x ≡ By linked → (r : Routes.Reached) → reached_of x ≡ r → by linked ≡ r
+pub by-checked : (x : Prelude.Result Bool Refusal) (linked : Bool) → x ≡ Prelude.Ok linked → (r : Routes.Reached) → reached_of x ≡ r → by linked ≡ r
 by-checked x linked e r h = sym (ap reached_of e) ∙ h
 
 -- ---- the ways out, as the code has them
@@ -189,13 +189,13 @@ module _ (q : Row) (linked : Bool) (t : ℕ) (st : State) {w : List ℕ} (ev x :
   way_on fit room f h g =
       added (asked_route q linked) t st ev (length-route (asked_route q linked) fit) room (insert4 (asked_route q linked) (nlm_flags q) st.routes) i into.answer f (rw new at h) (rw new at g)
 
-module _ (q : Row) (t : ℕ) (st : State) {w : List ℕ} (ev : List ℕ) (x : Reached) (named : t ≡ table_named q) (e : reached_of x ≡ check_all q (create4 (table_named q) st)) where
-  pub way_refused : (n : ℕ) → x ≡ Reached.Refused n → Represents w (create4 t st) → ComesWhole st (add_route4 q st) w ev ev (Done.Refused n)
+module _ (q : Row) (t : ℕ) (st : State) {w : List ℕ} (ev : List ℕ) (x : Prelude.Result Bool Refusal) (named : t ≡ table_named q) (e : reached_of x ≡ check_all q (create4 (table_named q) st)) where
+  pub way_refused : (n : Refusal) → x ≡ Prelude.Err n → Represents w (create4 t st) → ComesWhole st (add_route4 q st) w ev ev (Done.Refused (number_of n))
   way_refused n f h =
-      let is : check_all q (create4 (table_named q) st) ≡ Routes.unreached n = sym e ∙ ap reached_of f in
-      rw (add_goes q st, is) (request-refused st ev (create4 (table_named q) st) (rw named at h) n)
+      let is : check_all q (create4 (table_named q) st) ≡ Routes.unreached (number_of n) = sym e ∙ ap reached_of f in
+      rw (add_goes q st, is) (request-refused st ev (create4 (table_named q) st) (rw named at h) (number_of n))
 
-  pub way_added : {ev' : List ℕ} {r : Result.Done} (linked : Bool) → x ≡ By linked
+  pub way_added : {ev' : List ℕ} {r : Result.Done} (linked : Bool) → x ≡ Prelude.Ok linked
       → ComesWhole st (inserted_as (asked_route q linked) (insert4 (asked_route q linked) (nlm_flags q) st.routes) (create4 t st)) w ev ev' r
       → ComesWhole st (add_route4 q st) w ev ev' r
   unfolding create4
