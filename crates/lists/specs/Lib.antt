@@ -4,6 +4,7 @@ pub mod All
 pub mod Rows
 pub mod Chop
 pub mod Place
+pub mod Library
 pub mod Parts
 pub mod Laid
 pub mod Pass
@@ -18,4 +19,3 @@ pub mod Cut
 pub mod Mapped
 pub mod Next
 pub mod Front
-pub mod Optional

@@ -10,7 +10,7 @@ use Rattle.kind.specs.Kind.{error_of}
 use Rattle.layout.specs.Route.{kind, scope, gateway_present, gateway}
 use Rattle.layout.specs.Request.{oif, up_at_add_route4}
 use Rattle.definition.specs.State.{State}
-use Rattle.definition.specs.Reference.Lookup.{Flow, Found, fits, longest, main_table, answer, together, lookup_in, addr_type4, listed, type_set, local_table, default_table, unicast_kind, local_kind}
+use Rattle.definition.specs.Reference.Lookup.{Flow, Found, fits, longest, main_table, answer, together, lookup_in, addr_type4, listed, type_set, local_table, default_table, unicast_kind}
 use Rattle.definition.specs.Reference.Addresses.{link_scope, host_scope}
 use Rattle.definition.specs.Reference.Routes as Routes
 use Rattle.definition.specs.Reference.Routes.{by, unreached, table_named, onlink_flag, then, refuse, onlink_check, to_gateway, usable, found_or, gateway_route, reached_by, gateway4, plain, reach_check}

@@ -2,7 +2,7 @@
 #![tactic(auto)]
 
 ghost use Rattle.std.specs.Prelude.{◌≡◌, ◌<◌, max, length};
-ghost use Rattle.lists.specs.Optional.{lent};
+ghost use Rattle.lists.specs.Library.{lent};
 ghost use Rattle.layout.specs.Route.{scope};
 ghost use Rattle.definition.specs.Reference.Lookup.{route, answer, together};
 ghost use Rattle.definition.specs.Reference.Routes.{to_gateway, reached_by};
@@ -25,10 +25,7 @@ fn onlink_check(routes: Routes<'_>, q: &[u32], local_listed: bool) -> Result<boo
         q[route::SCOPE] < layout::SCOPE_LINK,
         Refusal::Errno(layout::INVALID),
     )?;
-    unless(
-        q[add_route4::OIF] == 1,
-        Refusal::Errno(layout::NO_DEVICE),
-    )?;
+    unless(q[add_route4::OIF] == 1, Refusal::Errno(layout::NO_DEVICE))?;
     unless(q[add_route4::UP] != 0, Refusal::Errno(layout::NET_DOWN))?;
     let kind = request_prefsrc::addr_type(
         routes,
@@ -82,7 +79,7 @@ fn gateway_route<'a>(
 {
     let f = to_gateway(q);
     match own_route(routes, request_route::table_named(q), f) {
-        Some(r) if kind::error_of(r[route::KIND]) == 0 => Ok(r),
+        Some(r) if !kind::rejects(r[route::KIND]) => Ok(r),
         _ => rows_lookup::lookup4_in(routes, default_listed, f),
     }
 }
@@ -133,7 +130,7 @@ pub fn reach_check(
     let no_device = Refusal::Errno(layout::NO_DEVICE);
     let gatewayed = q[route::GATEWAY_PRESENT] == 1;
     let device = q[add_route4::OIF];
-    if kind::error_of(q[route::KIND]) != 0 {
+    if kind::rejects(q[route::KIND]) {
         unless(!gatewayed & (device == 0), invalid)?;
         return Ok(false);
     }

@@ -1,7 +1,7 @@
 -- The best row so far, as a pass over the rows keeps it: one row more at the end.
 use Rattle.std.specs.Prelude.{ℕ, ◌+◌, ◌≤◌, ◌<◌, ◌≡◌, Bool, true, false, cond, ◌&&◌, List, [], ◌∷◌, ◌++◌, leb, ltb, length, get_or, take}
-use Rattle.std.proofs.Common.{le_refl, add-one, arith, ap, ◌∙◌, append-nil, take-suc, take_all, ltb-true, ltb-false}
-use Rattle.std.proofs.Math.Path.{refl, sym}
+use Rattle.std.proofs.Common.{add-one, arith, ap, ◌∙◌, append-nil, take-suc, take_all, ltb-true, ltb-false}
+use Rattle.std.proofs.Math.Path.{refl}
 use Rattle.std.proofs.Math.Option.{Option, none, some}
 use Rattle.std.proofs.Math.Dec.{leb-zero}
 use Rattle.lists.specs.Lists.{Row, keep}

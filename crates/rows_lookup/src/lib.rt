@@ -2,7 +2,7 @@
 #![tactic(auto)]
 
 ghost use Rattle.std.specs.Prelude.{◌≡◌, ◌&&◌, ◌≤◌, leb, MatchOption};
-ghost use Rattle.lists.specs.Optional.{lent};
+ghost use Rattle.lists.specs.Library.{lent};
 ghost use Rattle.layout.specs.Route.{table, len};
 ghost use Rattle.definition.specs.Reference.Lookup.{fits, answer, flow_to, settled, ruling};
 ghost use Rattle.rows_lookup.specs.Flow.{flow_of, set_of};
@@ -75,22 +75,20 @@ pub const LOWER: Tables = Tables {
 // Whether a row fits the flow. Most rows are to other destinations, so that is asked first, and the rest without a branch.
 #[tactic(auto, unfolding(definition::specs::Reference::Lookup::fits))]
 pub fn fits(r: &RouteRow, f: Flow) -> bool
-    requires { len r.now ≤ 32 }
     ensures { result ≡ fits (flow_of f) r.now }
 {
     if r[route::DST] != prefix::network4(f.ip, r[route::LEN]) {
         return false;
     }
     let tos = prefix::flow_tos(f.tos);
-    let error = kind::error_of(r[route::KIND]);
+    let rejects = kind::rejects(r[route::KIND]);
     ((r[route::TOS] == 0) | (r[route::TOS] == tos))
         & (f.scope <= r[route::SCOPE])
-        & ((error != 0) | (f.oif == 0) | ((f.oif == 1) & (r[route::DEVICE] == 1)))
+        & (rejects | (f.oif == 0) | ((f.oif == 1) & (r[route::DEVICE] == 1)))
 }
 
 // Whether a row of the set fits the flow and is long enough.
 fn better(r: &RouteRow, set: Tables, f: Flow, least: u32) -> bool
-    requires { len r.now ≤ 32 }
     ensures { result ≡ (set_of set (table r.now) && fits (flow_of f) r.now && leb least (len r.now)) }
 {
     let fit = fits(r, f);
@@ -118,9 +116,9 @@ fn ruled<'a>(found: Option<&'a RouteRow>) -> Option<Result<&'a RouteRow, Refusal
 {
     let r = found?;
     match kind::error_of(r[route::KIND]) {
-        0 => Some(Ok(r)),
-        layout::AGAIN => None,
-        error => Some(Err(Refusal::Errno(error))),
+        None => Some(Ok(r)),
+        Some(layout::AGAIN) => None,
+        Some(error) => Some(Err(Refusal::Errno(error))),
     }
 }
 
@@ -152,7 +150,7 @@ pub fn addr_type4(routes: Routes<'_>, listed: bool, set: Tables, ip: u32) -> u32
         return layout::KIND_BROADCAST;
     }
     match table_lookup4(routes, set, Flow::to(ip)) {
-        Some(r) if kind::error_of(r[route::KIND]) == 0 => r[route::KIND],
+        Some(r) if !kind::rejects(r[route::KIND]) => r[route::KIND],
         _ => layout::KIND_UNICAST,
     }
 }

@@ -1,19 +1,17 @@
 -- What is answered for a route's row and for a destination.
-use Rattle.std.specs.Prelude.{ℕ, ◌+◌, ◌-◌, ◌*◌, ◌<◌, ◌≡◌, Bool, false, List, [], length, get_or, take, drop}
-use Rattle.std.proofs.Common.{arith, sym, ap, ◌∙◌, length-take, length-drop}
+use Rattle.std.specs.Prelude.{ℕ, ◌≡◌, false, List}
+use Rattle.std.proofs.Common.{◌∙◌}
 use Rattle.std.proofs.Math.Bool.{true}
 use Rattle.std.proofs.Math.Option.{some}
 use Rattle.std.proofs.Math.Dec.{eqb}
 use borrow.Author.Tests.{eq-eqb, ne_eqb}
 use Rattle.lists.specs.Lists.{Row}
 use Rattle.lists.specs.Bools.{test-case}
-use Rattle.lists.specs.Laid.{Laid, laid-length, laid-part}
-use Rattle.layout.specs.Route.{kind, prefsrc_present, prefsrc, gateway_present, gateway, scope, fit_route}
-use Rattle.definition.specs.Reference.Lookup.{Found, flow_to, local_kind}
-use Rattle.definition.specs.Reference.Source.{select4, source4, or_value}
+use Rattle.layout.specs.Route.{kind, prefsrc_present, prefsrc, gateway_present, gateway, scope}
+use Rattle.definition.specs.Reference.Lookup.{local_kind}
+use Rattle.definition.specs.Reference.Source.{select4, source4}
 use Rattle.rows_source.specs.declared.Selected.{Selected}
-use Rattle.rows_source.specs.declared.Selected.TheVariants.{Local, Nothing}
-use Rattle.rows_source.specs.Selected.{wanted, local_in, source_rows}
+use Rattle.rows_source.specs.Selected.{wanted, local_in}
 
 -- ---- by a route's row
 module _ (l : List Row) (r : Row) (ip : ℕ) where
@@ -35,4 +33,3 @@ module _ (l : List Row) (r : Row) (ip : ℕ) where
         → local_in s ≡ source4 l r ip
     unfolding source4
     source4-other e s k = k ∙ rw (ne_eqb (kind r) local_kind e, t)
-

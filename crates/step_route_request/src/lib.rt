@@ -47,13 +47,7 @@ pub fn del_route4(s: &mut [u32], ev: &mut [u32], q: &[u32]) -> Done
 }
 
 // The preferred source, once the table is listed.
-fn prefsrc_check(
-    s: &[u32],
-    q: &[u32],
-    t: u32,
-    local: bool,
-    linked: bool,
-) -> Result<bool, Refusal>
+fn prefsrc_check(s: &[u32], q: &[u32], t: u32, local: bool, linked: bool) -> Result<bool, Refusal>
     requires represents_some { RepresentsSome s.now }
     requires q_len { (length q.now ≡ 34) × (t ≡ table_named q.now) }
     ensures { (st : State) → Represents s.now st → local ≡ (listed 255 st || eqb 255 t) → reached_of result ≡ prefsrc_check q.now (by linked) (create4 (table_named q.now) st) }
@@ -63,7 +57,7 @@ fn prefsrc_check(
     }
     let own = request_prefsrc::prefsrc_table(t);
     let own_listed = state_tables::listed(s, own) | (own == t);
-    let routes = rows::rows_of(state_read::routes(s));
+    let routes = state::routes(s);
     if request_prefsrc::valid_prefsrc4(routes, q, own_listed, local) {
         return Ok(linked);
     }
@@ -83,7 +77,7 @@ fn check(s: &[u32], q: &[u32]) -> Result<bool, Refusal>
     let t = request_route::table_named(q);
     let local = state_tables::listed(s, layout::TABLE_LOCAL) | (layout::TABLE_LOCAL == t);
     let default = state_tables::listed(s, layout::TABLE_DEFAULT) | (layout::TABLE_DEFAULT == t);
-    let routes = rows::rows_of(state_read::routes(s));
+    let routes = state::routes(s);
     let linked = request_gateway::reach_check(routes, q, local, default)?;
     prefsrc_check(s, q, t, local, linked)
 }

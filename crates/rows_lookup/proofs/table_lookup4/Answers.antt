@@ -1,6 +1,6 @@
-use Rattle.std.proofs.Common.{arith, sym, ◌∙◌, [], ◌≤◌, get_or}
+use Rattle.std.proofs.Common.{arith, sym, ◌∙◌, []}
 use Rattle.lists.specs.At.{all-at}
-use Rattle.layout.specs.Route.{len, fit_route}
+use Rattle.layout.specs.Route.{fit_route}
 use Rattle.definition.specs.Preservation.Fit.{route-len}
 use Rattle.definition.specs.Reference.Lookup.{answer}
 use Rattle.rows_lookup.specs.Best.{best-start, best_taken, best-stays, best-end}
@@ -9,9 +9,6 @@ use Rattle.rows_lookup.proofs.table_lookup4.Goals.{then-better, else-better}
 
 pub loop-r-init : goal.loop-r-init
 loop-r-init c = best-start _ _
-
-pub better-requires : goal.better-requires
-better-requires c = route-len _ (all-at fit_route c.loop-r.r-index c.args.routes.rows.now [] c.loop-r-test.true c.args.routes.fit)
 
 pub overflow_add-least : goal.overflow_add-least
 overflow_add-least c =

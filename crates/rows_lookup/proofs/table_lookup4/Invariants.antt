@@ -1,6 +1,6 @@
 use Rattle.std.proofs.Common.{◌&&◌}
 use Rattle.lists.specs.Lists.{Row}
-use Rattle.lists.specs.Optional.{lent}
+use Rattle.lists.specs.Library.{lent}
 use Rattle.layout.specs.Route.{table}
 use Rattle.definition.specs.Reference.Lookup.{fits}
 use Rattle.rows_lookup.specs.Flow.{flow_of, set_of}
