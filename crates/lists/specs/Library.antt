@@ -7,6 +7,7 @@ use Rattle.std.proofs.Math.Option as Own
 use Rattle.std.proofs.Math.Option.{none, some}
 use Rattle.std.specs.List.{find, list_any, list_all, position_or_len}
 use Rattle.std.proofs.lemmas.List.Recursion.{is_position_or_len}
+use denote.Ref.{Bor}
 use Rattle.lists.specs.Lists.{all, any, keep, first}
 use Rattle.lists.specs.Place.{place_of, place_le}
 
@@ -14,6 +15,11 @@ use Rattle.lists.specs.Place.{place_of, place_le}
 abbrev pub own : {A : Type 0} → Option A → Own.Option A
 own None = none
 own (Some x) = some x
+
+-- the value behind the reference, if there is one
+abbrev pub lent : {A : Type 0} → Option (Bor A) → Own.Option A
+lent None = none
+lent (Some x) = some x.now
 
 module _ {A : Type 0} (p : A → Bool) where
   pub first_find : (l : List A) → first p l ≡ own (find p l)

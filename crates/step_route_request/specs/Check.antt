@@ -1,6 +1,6 @@
 -- The checks before an insertion, on the state with the table listed, by what is listed before that.
 -- Assumes nothing.
-use Rattle.std.specs.Prelude.{ℕ, ◌<◌, ◌≡◌, refl, Bool, true, false, cond, not, ◌&&◌, ◌||◌, List, eqb}
+use Rattle.std.specs.Prelude.{ℕ, ◌<◌, ◌≡◌, refl, Bool, true, false, cond, not, ◌&&◌, ◌||◌, List, eqb, Result}
 use Rattle.std.proofs.Math.Path.{sym}
 use Rattle.std.proofs.Common.{ap, ◌∙◌, eq-eqb, ne_eqb, eqb-true, ltb-true}
 use Rattle.std.proofs.Math.Bool.{or-false, and-false}
@@ -20,8 +20,7 @@ use Rattle.state_tables.specs.Listed.{tables_of}
 use Rattle.state_read.specs.Parts.{listed-there}
 use Rattle.request_prefsrc.specs.Rows.{prefsrc_table, prefsrc_rows, prefsrc-rows}
 use Rattle.request_gateway.specs.Rows.{reached_of, reach_rows, reach-rows}
-use Rattle.request_gateway.specs.declared.Reached.{Reached}
-use Rattle.request_gateway.specs.declared.Reached.TheVariants.{By, Refused}
+use Rattle.refusal.specs.declared.Refusal.{Refusal}
 
 -- a preferred source behind the check of device and gateway
 abbrev pub prefsrc_check : Row → Routes.Reached → State → Routes.Reached
@@ -134,12 +133,9 @@ module _ (q : Row) (st : State) (t : ℕ) (named : t ≡ table_named q) where
     check_form h = rw (← form, ne_eqb n 0 h)
 
     module _ (z : n ≡ 0) (a b : Bool) (e : a ≡ (listed local_table st || eqb local_table t)) (f : b ≡ (listed default_table st || eqb default_table t))
-        (x : Reached) (g : reached_of x ≡ reach_rows q a b st.routes) where
+        (x : Result Bool Refusal) (g : reached_of x ≡ reach_rows q a b st.routes) where
       reached-is : reach_check q (create4 (table_named q) st) ≡ reached_of x
       reached-is = made-reach a b e f ∙ sym g
 
-      pub check-refused : (m : ℕ) → x ≡ Refused m → unreached m ≡ check_all q (create4 (table_named q) st)
-      check-refused m k = rw (← form, eq-eqb n 0 z, reached-is, k)
-
-      pub check-on : (linked : Bool) → x ≡ By linked → (r : Routes.Reached) → r ≡ prefsrc_check q (by linked) (create4 (table_named q) st) → r ≡ check_all q (create4 (table_named q) st)
-      check-on linked k r h = rw (← form, eq-eqb n 0 z, reached-is, k) h
+      pub check-goes : check_all q (create4 (table_named q) st) ≡ prefsrc_check q (reached_of x) (create4 (table_named q) st)
+      check-goes = rw (← form, eq-eqb n 0 z, reached-is)

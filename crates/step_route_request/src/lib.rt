@@ -18,11 +18,11 @@ ghost use Rattle.step_route_request.specs.Check.{prefsrc_check, check_all};
 
 use layout::{ROUTE_WORDS, ROUTES_AT, TABLE_LIMIT, add_route4, route};
 use refusal::Refusal;
-use request_gateway::Reached;
+use step_events::Done;
 use step_insert::Inserted;
 
 // The first row that the request names goes. No table is listed.
-pub fn del_route4(s: &mut [u32], ev: &mut [u32], q: &[u32]) -> Result<usize, Refusal>
+pub fn del_route4(s: &mut [u32], ev: &mut [u32], q: &[u32]) -> Done
     requires represents_some { RepresentsSome s.old }
     requires q_len { (length q.now ≡ 49) × (fit_del_route4 q.now ≡ true) }
     requires in_bounds { 34 ≤ length ev.old }
@@ -30,59 +30,56 @@ pub fn del_route4(s: &mut [u32], ev: &mut [u32], q: &[u32]) -> Result<usize, Ref
 {
     let t = request_route::table_named(q);
     if !state_tables::listed(s, t) {
-        return Err(Refusal::Errno(layout::NO_SUCH));
+        return Done::Refused(layout::NO_SUCH);
     }
     if request_route::bad_prefix(q) {
-        return Err(Refusal::Errno(layout::INVALID));
+        return Done::Refused(layout::INVALID);
     }
     let n = state::route_count(s);
     let place = request_select::select_route(state_read::routes(s), n, q);
     if n <= place {
-        return Err(Refusal::Errno(layout::NO_SUCH));
+        return Done::Refused(layout::NO_SUCH);
     }
     let at = ROUTES_AT + ROUTE_WORDS * place;
     step_events::del_route4(ev, &s[at..at + ROUTE_WORDS]);
     state::remove_route(s, place);
-    Ok(1)
+    Done::Rows(1)
 }
 
 // The preferred source, once the table is listed.
-fn prefsrc_check(s: &[u32], q: &[u32], t: u32, local: bool, linked: bool) -> Reached
+fn prefsrc_check(s: &[u32], q: &[u32], t: u32, local: bool, linked: bool) -> Result<bool, Refusal>
     requires represents_some { RepresentsSome s.now }
     requires q_len { (length q.now ≡ 34) × (t ≡ table_named q.now) }
     ensures { (st : State) → Represents s.now st → local ≡ (listed 255 st || eqb 255 t) → reached_of result ≡ prefsrc_check q.now (by linked) (create4 (table_named q.now) st) }
 {
     if q[route::PREFSRC_PRESENT] != 1 {
-        return Reached::By(linked);
+        return Ok(linked);
     }
     let own = request_prefsrc::prefsrc_table(t);
     let own_listed = state_tables::listed(s, own) | (own == t);
-    let n = state::route_count(s);
-    if request_prefsrc::valid_prefsrc4(state_read::routes(s), n, q, own_listed, local) {
-        return Reached::By(linked);
+    let routes = state::routes(s);
+    if request_prefsrc::valid_prefsrc4(routes, q, own_listed, local) {
+        return Ok(linked);
     }
-    Reached::Refused(layout::INVALID)
+    Err(Refusal::Errno(layout::INVALID))
 }
 
 // Every check before the insertion, as it comes out once the table is listed: nothing is written yet.
-fn check(s: &[u32], q: &[u32]) -> Reached
+fn check(s: &[u32], q: &[u32]) -> Result<bool, Refusal>
     requires represents_some { RepresentsSome s.now }
     requires q_len { (length q.now ≡ 34) × (fit_add_route4 q.now ≡ true) }
     ensures { (st : State) → Represents s.now st → reached_of result ≡ check_all q.now (create4 (table_named q.now) st) }
 {
     let number = request_route::form_check(q);
     if number != 0 {
-        return Reached::Refused(number);
+        return Err(Refusal::Errno(number));
     }
     let t = request_route::table_named(q);
     let local = state_tables::listed(s, layout::TABLE_LOCAL) | (layout::TABLE_LOCAL == t);
     let default = state_tables::listed(s, layout::TABLE_DEFAULT) | (layout::TABLE_DEFAULT == t);
-    let n = state::route_count(s);
-    let reached = request_gateway::reach_check(state_read::routes(s), n, q, local, default);
-    match reached {
-        Reached::Refused(error) => Reached::Refused(error),
-        Reached::By(linked) => prefsrc_check(s, q, t, local, linked),
-    }
+    let routes = state::routes(s);
+    let linked = request_gateway::reach_check(routes, q, local, default)?;
+    prefsrc_check(s, q, t, local, linked)
 }
 
 fn full(i: Inserted) -> bool
@@ -97,29 +94,23 @@ fn full(i: Inserted) -> bool
 }
 
 // What an insertion comes to, with the event of a row put in.
-fn tell(ev: &mut [u32], new: &[u32], i: Inserted) -> Result<usize, Refusal>
+fn tell(ev: &mut [u32], new: &[u32], i: Inserted) -> Done
     requires { (34 ≤ length ev.old) × (length new.now ≡ 32) }
     ensures { Emission new.now i ev.old ev.new result }
 {
     match i {
         Inserted::Put(flags) => {
             step_events::new_route4(ev, new, flags);
-            Ok(1)
+            Done::Rows(1)
         }
-        Inserted::Nothing => Ok(0),
-        Inserted::Refused(error) => Err(Refusal::Errno(error)),
-        Inserted::Full => Err(Refusal::Full),
+        Inserted::Nothing => Done::Rows(0),
+        Inserted::Refused(error) => Done::Refused(error),
+        Inserted::Full => Done::Full,
     }
 }
 
 // The row is put in before its table is listed: where it has no room, nothing is written.
-fn add_checked(
-    s: &mut [u32],
-    ev: &mut [u32],
-    q: &[u32],
-    t: u32,
-    linked: bool,
-) -> Result<usize, Refusal>
+fn add_checked(s: &mut [u32], ev: &mut [u32], q: &[u32], t: u32, linked: bool) -> Done
     requires represents_fit { RepresentsFit s.old }
     requires s_len_bound { length (list_table t (tables_of s.old)) ≤ 32 }
     requires q_len { (length q.now ≡ 34) × (fit_route (asked_route q.now linked) ≡ true) }
@@ -130,14 +121,14 @@ fn add_checked(
     request_route::asked_route(q, linked, &mut new);
     let inserted = step_insert::insert4(s, &new, q[add_route4::REQUEST]);
     if full(inserted) {
-        return Err(Refusal::Full);
+        return Done::Full;
     }
     state_tables::list_table(s, t);
     tell(ev, &new, inserted)
 }
 
 // The table is listed whatever comes of it, unless a list has no room.
-pub fn add_route4(s: &mut [u32], ev: &mut [u32], q: &[u32]) -> Result<usize, Refusal>
+pub fn add_route4(s: &mut [u32], ev: &mut [u32], q: &[u32]) -> Done
     requires represents_fit { RepresentsFit s.old }
     requires q_len { (length q.now ≡ 34) × (fit_add_route4 q.now ≡ true) }
     requires in_bounds { 34 ≤ length ev.old }
@@ -145,14 +136,13 @@ pub fn add_route4(s: &mut [u32], ev: &mut [u32], q: &[u32]) -> Result<usize, Ref
 {
     let t = request_route::table_named(q);
     if TABLE_LIMIT < state_tables::tables_after(s, t) {
-        return Err(Refusal::Full);
+        return Done::Full;
     }
-    let checked = check(s, q);
-    match checked {
-        Reached::Refused(error) => {
+    match check(s, q) {
+        Err(error) => {
             state_tables::list_table(s, t);
-            Err(Refusal::Errno(error))
+            Done::Refused(error.number())
         }
-        Reached::By(linked) => add_checked(s, ev, q, t, linked),
+        Ok(linked) => add_checked(s, ev, q, t, linked),
     }
 }

@@ -1,6 +1,6 @@
 use Rattle.std.proofs.Common.{ap, ◌∙◌}
 use Rattle.layout.specs.Address.{fit_address}
-use Rattle.definition.specs.Reference.Addresses.{asked, as_secondary}
+use Rattle.definition.specs.Reference.Addresses.{asked}
 use Rattle.definition.specs.Preservation.Rows.{asked-fit, as_secondary-fit}
 use Rattle.rows_place.proofs.fresh.Goals as goal
 
