@@ -18,11 +18,11 @@ prefsrc_check-requires c = record { represents_some = c.requires.represents_some
 pub returns-in_err-linked : goal.returns-in_err-linked
 returns-in_err-linked c = λ st h.
     let reached = rw (c.routes-routes.ensures.rows st h) at c.reach_check.ensures in
-    let goes = check-goes c.args.q.now st c.table_named-t.result c.table_named-t.ensures c.form_check-number.result c.form_check-number.ensures c.if-number-ne0.false (c.listed.result || eqb 255 c.table_named-t.result) (c.listed-2.result || eqb 253 c.table_named-t.result) (or_listed h 255 c.table_named-t.result c.listed.result c.listed.ensures) (or_listed h 253 c.table_named-t.result c.listed-2.result c.listed-2.ensures) c.reach_check.result reached in
-    rw (goes, c.in_err-linked.was) (grind (arith, common_steps))
+    let goes = check-goes c.args.q.now st c.table_named-t.result c.table_named-t.ensures c.form_check-number.result c.form_check-number.ensures c.if-number-ne0.false (c.listed.result || eqb 255 c.table_named-t.result) (c.listed-2.result || eqb 253 c.table_named-t.result) (or_listed h 255 c.table_named-t.result c.listed.result c.listed.ensures) (or_listed h 253 c.table_named-t.result c.listed-2.result c.listed-2.ensures) in
+    ?
 
 pub returns : goal.returns
 returns c = λ st h.
     let reached = rw (c.routes-routes.ensures.rows st h) at c.reach_check.ensures in
-    let goes = check-goes c.args.q.now st c.table_named-t.result c.table_named-t.ensures c.form_check-number.result c.form_check-number.ensures c.if-number-ne0.false (c.listed.result || eqb 255 c.table_named-t.result) (c.listed-2.result || eqb 253 c.table_named-t.result) (or_listed h 255 c.table_named-t.result c.listed.result c.listed.ensures) (or_listed h 253 c.table_named-t.result c.listed-2.result c.listed-2.ensures) c.reach_check.result reached in
-    rw (goes, c.in_ok-linked.was) (c.prefsrc_check.ensures st h (or_listed h 255 c.table_named-t.result c.listed.result c.listed.ensures))
+    let goes = check-goes c.args.q.now st c.table_named-t.result c.table_named-t.ensures c.form_check-number.result c.form_check-number.ensures c.if-number-ne0.false (c.listed.result || eqb 255 c.table_named-t.result) (c.listed-2.result || eqb 253 c.table_named-t.result) (or_listed h 255 c.table_named-t.result c.listed.result c.listed.ensures) (or_listed h 253 c.table_named-t.result c.listed-2.result c.listed-2.ensures) in
+    ?
