@@ -1,8 +1,7 @@
 -- Adding steps from whatever fit state the words hold.
 -- Assumes nothing.
-use Rattle.std.specs.Prelude.{ℕ, Ok, Err, ◌+◌, ◌-◌, ◌*◌, ◌≤◌, length, drop, ◌≡◌, refl, true, List, [], ◌∷◌}
-use Rattle.std.proofs.Common.{length-drop, length-take-le, arith, ◌∙◌}
-use Rattle.step_events.specs.Emits.{rest}
+use Rattle.std.specs.Prelude.{◌≡◌, refl, true, List, [], ◌∷◌, length, Ok}
+use Rattle.std.proofs.Common.{◌∙◌}
 use Rattle.lists.specs.Lists.{Row}
 use Rattle.definition.specs.State.{State, Out, stays, also, through}
 use Rattle.definition.specs.Words.{fit_state}
@@ -11,29 +10,28 @@ use Rattle.definition.specs.Reference.Insert.{create4, insert4, inserted, kernel
 use Rattle.definition.specs.Reference.Addresses.{goes}
 use Rattle.definition.specs.Preservation.Keeps.{Keeps, keeps_fit}
 use Rattle.state.specs.Represents.{Represents, RepresentsFit}
-use Rattle.step_events.specs.Comes.{Came, Comes, rows_of, joined, comes-rows}
+use Rattle.step_events.specs.Comes.{Answer, Comes, comes-ok}
+use Rattle.step_events.specs.declared.change.Change.{Change}
 use Rattle.layout.specs.Route.{table}
 
--- what is left of a buffer
-pub rest-room : (t n : ℕ) (ev : List ℕ) → 34 * t + n ≤ length ev → n ≤ length (rest t ev)
-rest-room t n ev h =
-    let l : length (rest t ev) ≡ length ev - 34 * t = length-take-le (length ev - 34 * t) (drop (34 * t) ev) (rw length-drop (omega arith)) in
-    omega arith
-
-abbrev pub AddsFrom : (State → Out) → List ℕ → List ℕ → List ℕ → List ℕ → Came → Type 0
-AddsFrom f w₀ w ev₀ ev r = (st : State) → Represents w₀ st → fit_state st ≡ true → Comes (goes (f st)) w ev₀ ev r
+abbrev pub AddsFrom : (State → Out) → Change → Change → Answer → Type 0
+AddsFrom f a b r = (st : State) → Represents a.state.now st → fit_state st ≡ true → Comes (goes (f st)) a b r
 
 -- a step that had room leaves words that hold a fit state
-pub adds-holds : (f : State → Out) {w₀ w ev₀ ev : List ℕ} {k : ℕ} → AddsFrom f w₀ w ev₀ ev (Ok k) → (st : State) → Represents w₀ st → fit_state st ≡ true → Represents w (f st).state
-adds-holds f a st h g = (comes-rows (a st h g)).1.holds
+pub adds-holds : (f : State → Out) {a b : Change} → AddsFrom f a b (Ok tt) → (st : State) → Represents a.state.now st → fit_state st ≡ true → Represents b.state.now (f st).state
+adds-holds f s st h g = (comes-ok (s st h g)).1.holds
 
-pub adds-sound : (f : State → Out) → Keeps f → {w₀ w ev₀ ev : List ℕ} {k : ℕ} → AddsFrom f w₀ w ev₀ ev (Ok k) → RepresentsFit w₀ → RepresentsFit w
-adds-sound f k a s =
+pub adds-sound : (f : State → Out) → Keeps f → {a b : Change} → AddsFrom f a b (Ok tt) → RepresentsFit a.state.now → RepresentsFit b.state.now
+adds-sound f k s v =
     record {
-      state = (f s.state).state;
-      holds = adds-holds f a s.state s.holds s.fits;
-      fits = keeps_fit f k s.state s.fits;
+      state = (f v.state).state;
+      holds = adds-holds f s v.state v.holds v.fits;
+      fits = keeps_fit f k v.state v.fits;
     }
+
+-- it leaves as much room for events
+pub adds-long : (f : State → Out) {a b : Change} → AddsFrom f a b (Ok tt) → RepresentsFit a.state.now → length b.events.now ≡ length a.events.now
+adds-long f s v = (comes-ok (s v.state v.holds v.fits)).1.tells.long
 
 -- ---- steps that leave the addresses
 pub record Leaves (f : State → Out) : Type 0 where
@@ -60,20 +58,3 @@ kernel_add4-leaves new =
     go new (Insert.placed rows emitted) made = refl
     go new Insert.nothing made = refl
     go new (Insert.unplaced n) made = refl
-
--- ---- answers
-pub rows_are : (n : ℕ) (t : Came) (m : ℕ) → t ≡ Ok m → rows_of t ≤ n → m ≤ n
-rows_are n t m e h = rw e at h
-
-pub joined-room : (k : ℕ) (t : Came) (m : ℕ) → t ≡ Ok m → k + rows_of t ≤ 1000 → k + m ≤ 1000
-joined-room k t m e h = rw e at h
-
-pub joined-rows : (k : ℕ) (t : Came) (m : ℕ) → t ≡ Ok m → Ok (k + m) ≡ joined k t
-joined-rows k t m e = rw e
-
-pub joined_le : (k n : ℕ) (t : Came) → rows_of t ≤ n → rows_of (joined k t) ≤ k + n
-joined_le k n (Ok m) h = omega arith
-joined_le k n (Err e) h = omega arith
-
-pub joined-few : (k n : ℕ) (t r : Came) → r ≡ joined k t → rows_of t ≤ n → rows_of r ≤ k + n
-joined-few k n t r e h = rw e (joined_le k n t h)
