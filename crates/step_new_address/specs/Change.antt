@@ -1,7 +1,7 @@
 -- An address that is there changed, and its prefix route moved before.
 -- Assumes nothing.
-use Rattle.std.specs.Prelude.{ℕ, Ok, Err, ◌≤◌, ◌<◌, ◌≡◌, refl, true, false, List, [], ◌∷◌, length, get_or, set}
-use Rattle.std.proofs.Common.{arith, sym, ap, subst, ◌∙◌}
+use Rattle.std.specs.Prelude.{ℕ, Ok, Err, ◌≡◌, refl, true, false, List, [], ◌∷◌, length, set}
+use Rattle.std.proofs.Common.{sym, ap, subst, ◌∙◌}
 use Rattle.lists.specs.Lists.{Row, replace_first}
 use Rattle.lists.specs.Place.{place_of, replace_at}
 use Rattle.lists.specs.Bools.{cond-case}
@@ -16,7 +16,6 @@ use Rattle.definition.specs.Reference.Insert.{kernel_add4, kernel_del4}
 use Rattle.definition.specs.Reference.Addresses.{goes, prefix_route, changed_to, reroutes, moved, change_v4, same_address}
 use Rattle.definition.specs.Preservation.Fit.{length-address, fields_address}
 use Rattle.definition.specs.Preservation.Rows.{subnet_fit, changed_to-fit}
-use Rattle.definition.specs.Preservation.Addresses.{moved_keeps}
 use Rattle.definition.specs.Preservation.Shrinking.{kernel_del4_away}
 use Rattle.definition.proofs.Preservation.Peaks.{kernel_del4-under}
 use Rattle.definition.proofs.Preservation.Step.{covered}
@@ -27,7 +26,7 @@ use Rattle.step_events.specs.Tells.{Tells}
 use Rattle.step_events.specs.Emits.{Emits, does-one}
 use Rattle.step_events.specs.Comes.{Answer, Comes, holds-within, goes-made, adds_none, adds-also, adds-stop, comes-ok}
 use Rattle.step_events.specs.declared.change.Change.{Change}
-use Rattle.step_new_address.specs.Adding.{AddsFrom, adds-holds, adds-sound, also-leaves, kernel_add4-leaves}
+use Rattle.step_new_address.specs.Adding.{AddsFrom, adds-holds, also-leaves, kernel_add4-leaves}
 use Rattle.step_new_address.specs.New.{length-emitted}
 
 -- the prefix route that an address gets
@@ -67,41 +66,39 @@ module _ (q old : Row) where
       (λ e. (also-leaves (kernel_add4 (subnet_route (Address.priority q) (local old) old)) (kernel_del4 (prefix_route (local old) old)) (kernel_add4-leaves (subnet_route (Address.priority q) (local old) old)) (record { same = λ s. (kernel_del4_away (prefix_route (local old) old) s).same_addresses })).same st)
       (λ e. refl)
 
-  -- ---- the address itself
-  module _ (clock : ℕ) {a b : Change} {r : Answer} (m : AddsFrom (moved q old) a b r) where
-    pub change-other : {x : Refusal} → r ≡ Err x → {c : Change} → AddsFrom (change_v4 q old clock) a c r
+  -- ---- the address itself, at its place
+  module _ (clock : ℕ) {there : Row} (z : old ≡ there) {a b : Change} {r : Answer} (m : AddsFrom (moved q old) a b r) where
+    pub change-other : {x : Refusal} → r ≡ Err x → {c : Change} → AddsFrom (change_v4 q there clock) a c r
     unfolding change_v4
     change-other f st h g =
-        rw f
+        rw (← z, f)
         (adds-stop (rw f at (m st h g)) (λ later. becomes (with_addresses (replace_first (same_address q) (changed_to q old clock) later.addresses) later) (new_addr4 (changed_to q old clock) ∷ [])))
 
     module _ (f : r ≡ Ok tt) where
       went : AddsFrom (moved q old) a b (Ok tt)
       went = rw f at m
 
-      pub change-sound : fit_address old ≡ true → RepresentsFit a.state.now → RepresentsFit b.state.now
-      change-sound fit v = adds-sound (moved q old) (moved_keeps q old fit) went v
-
       pub change-count : RepresentsFit a.state.now → address_count b.state.now ≡ address_count a.state.now
       change-count v =
           count-addresses (adds-holds (moved q old) went v.state v.holds v.fits) ∙ ap length (moved-leaves v.state) ∙ sym (count-addresses v.holds)
 
-      pub change-done : fit_address old ≡ true → fit_add_v4 q ≡ true → (i : ℕ) {c : Change}
-          → ((st : State) → Represents b.state.now st → Represents c.state.now (with_addresses (set st.addresses i (changed_to q old clock)) st))
-          → Tells (new_addr4 (changed_to q old clock) ∷ []) b c
+      pub change-done : fit_address old ≡ true → fit_add_v4 q ≡ true → (row : Row) → row ≡ changed_to q old clock → (i : ℕ) {c : Change}
+          → ((st : State) → Represents b.state.now st → Represents c.state.now (with_addresses (set st.addresses i row) st))
+          → Tells (new_addr4 row ∷ []) b c
           → (st : State) → Represents a.state.now st → fit_state st ≡ true → i ≡ place_of (same_address q) st.addresses
-          → Comes (goes (change_v4 q old clock st)) a c (Ok tt)
+          → Comes (goes (change_v4 q there clock st)) a c (Ok tt)
       unfolding change_v4
-      change-done fit g i {c} s told st h k at =
+      change-done fit g row e i {c} s told st h k at =
           let new = changed_to q old clock in
           let later = (moved q old st).state in
           let first = went st h k in
-          let place : replace_first (same_address q) new later.addresses ≡ set later.addresses i new =
-          replace_at (same_address q) new later.addresses ∙ ap (λ (n : ℕ). set later.addresses n new) (ap (place_of (same_address q)) (moved-leaves st) ∙ sym at)
+          let place : replace_first (same_address q) new later.addresses ≡ set later.addresses i row =
+          replace_at (same_address q) new later.addresses ∙ ap (λ (n : ℕ). set later.addresses n new) (ap (place_of (same_address q)) (moved-leaves st) ∙ sym at) ∙ ap (set later.addresses i) (sym e)
           in
-          let there : Represents c.state.now (with_addresses (replace_first (same_address q) new later.addresses) later) =
+          let holds : Represents c.state.now (with_addresses (replace_first (same_address q) new later.addresses) later) =
           subst (λ (l : List Row). Represents c.state.now (with_addresses l later)) (sym place) (s later (comes-ok first).1.holds)
           in
-          adds-also first (λ later. becomes (with_addresses (replace_first (same_address q) new later.addresses) later) (new_addr4 new ∷ []))
-          (goes-made (holds-within there)
-          (does-one (with_addresses (replace_first (same_address q) new later.addresses) later) (new_addr4 new) there (length-emitted new (length-address new (changed_to-fit q old clock g fit))) told))
+          rw (← z)
+          (adds-also first (λ later. becomes (with_addresses (replace_first (same_address q) new later.addresses) later) (new_addr4 new ∷ []))
+          (goes-made (holds-within holds)
+          (does-one (with_addresses (replace_first (same_address q) new later.addresses) later) (new_addr4 new) holds (length-emitted new (length-address new (changed_to-fit q old clock g fit))) (rw e at told))))

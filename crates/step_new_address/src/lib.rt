@@ -12,7 +12,7 @@ ghost use Rattle.state.specs.Represents.{Represents, RepresentsFit};
 ghost use Rattle.step_events.specs.Comes.{Comes};
 ghost use Rattle.step_new_address.specs.Adding.{AddsFrom};
 
-use layout::{ADDRESS_LIMIT, ADDRESS_WORDS, AddV4, AddressRow, address};
+use layout::{ADDRESS_LIMIT, AddV4, AddressRow, address};
 use life::Nanoseconds;
 use refusal::Refusal;
 use rows::Routes;
@@ -87,8 +87,7 @@ pub fn change_v4(
     ensures comes { (st : State) → Represents change.old.state.now st → fit_state st ≡ true → i ≡ place_of (same_address q.now) st.addresses → Comes (goes (change_v4 q.now (get_or st.addresses i []) clock.0 st)) change.old change.new result }
 {
     let old = state::addresses(change.words()).rows[i];
-    let mut row = [0; ADDRESS_WORDS];
-    row_update::changed_to(q, &old, clock, &mut row);
+    let row = row_update::changed_to(q, &old, clock);
     moved(change, q, &old)?;
     state::replace_address(change.state, i, &row);
     change.new_addr4(&row);

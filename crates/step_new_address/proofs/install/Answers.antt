@@ -1,4 +1,3 @@
-use Rattle.std.proofs.Common.{arith}
 use Rattle.refusal.specs.Refusal.{passed_on}
 use Rattle.step_new_address.specs.Install.{installed-start, installed-next, installed-other, installed-end}
 use Rattle.step_new_address.proofs.install.Goals as goal

@@ -1,15 +1,9 @@
-use Rattle.std.proofs.Common.{arith, refl, sym, ap, subst, ◌∙◌, ◌≡◌, true, List}
-use Rattle.lists.specs.Lists.{Row, all}
-use Rattle.lists.specs.At.{insert_at}
-use Rattle.layout.specs.Route.{fit_route}
-use Rattle.definition.specs.State.{State}
-use Rattle.definition.specs.Words.{fit_state}
-use Rattle.definition.specs.Reference.Addresses.{candidates, install, place4}
+use Rattle.std.proofs.Common.{refl, ap, ◌∙◌, ◌≡◌, List}
+use Rattle.lists.specs.Lists.{Row}
+use Rattle.definition.specs.Reference.Addresses.{candidates, place4}
 use Rattle.definition.specs.Preservation.Fit.{fields_address}
 use Rattle.definition.specs.Preservation.Rows.{candidates-fit}
-use Rattle.state.specs.Represents.{Represents, count-addresses}
 use Rattle.step_events.specs.Emits.{tells-behind}
-use Rattle.step_new_address.specs.Adding.{AddsFrom}
 use Rattle.step_new_address.specs.New.{placed, new_full, placed-fit, placed-holds, new_done}
 use Rattle.step_new_address.proofs.new_address.Goals as goal
 
