@@ -14,6 +14,7 @@ use rows::Addresses;
 use std::marker::Model;
 
 // At most four routes, in order.
+#[derive(Drop)]
 pub struct Block {
     rows: [RouteRow; 4],
     count: usize,
