@@ -65,14 +65,11 @@ pub fn fresh(addresses: Addresses<'_>, q: &AddV4, clock: Nanoseconds) -> Address
     ensures fits { fit_address result ≡ true }
     ensures value { result ≡ fresh_row addresses.entry.rows.now q.now clock.0 }
 {
-    let mut row = [0; ADDRESS_WORDS];
-    row_update::asked(q, clock, &mut row);
-    if !in_subnet(addresses, q) {
-        return row;
+    let row = row_update::asked(q, clock);
+    if in_subnet(addresses, q) {
+        return row_update::as_secondary(&row);
     }
-    let mut second = [0; ADDRESS_WORDS];
-    row_update::as_secondary(&row, &mut second);
-    second
+    row
 }
 
 // Whether a request moves an address's prefix route: to another priority, while the loopback is up.
