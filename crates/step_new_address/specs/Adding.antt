@@ -3,6 +3,7 @@
 use Rattle.std.specs.Prelude.{◌≡◌, refl, true, List, [], ◌∷◌, length, Ok}
 use Rattle.std.proofs.Common.{◌∙◌}
 use Rattle.lists.specs.Lists.{Row}
+use Rattle.layout.specs.Route.{table}
 use Rattle.definition.specs.State.{State, Out, stays, also, through}
 use Rattle.definition.specs.Words.{fit_state}
 use Rattle.definition.specs.Reference.Insert as Insert
@@ -12,26 +13,26 @@ use Rattle.definition.specs.Preservation.Keeps.{Keeps, keeps_fit}
 use Rattle.state.specs.Represents.{Represents, RepresentsFit}
 use Rattle.step_events.specs.Comes.{Answer, Comes, comes-ok}
 use Rattle.step_events.specs.declared.change.Change.{Change}
-use Rattle.layout.specs.Route.{table}
 
 abbrev pub AddsFrom : (State → Out) → Change → Change → Answer → Type 0
 AddsFrom f a b r = (st : State) → Represents a.state.now st → fit_state st ≡ true → Comes (goes (f st)) a b r
 
--- a step that had room leaves words that hold a fit state
-pub adds-holds : (f : State → Out) {a b : Change} → AddsFrom f a b (Ok tt) → (st : State) → Represents a.state.now st → fit_state st ≡ true → Represents b.state.now (f st).state
-adds-holds f s st h g = (comes-ok (s st h g)).1.holds
+module _ (f : State → Out) {a b : Change} (t : AddsFrom f a b (Ok tt)) where
+  -- a step that had room leaves words that hold a fit state
+  pub adds-holds : (st : State) → Represents a.state.now st → fit_state st ≡ true → Represents b.state.now (f st).state
+  adds-holds st h g = (comes-ok (t st h g)).1.holds
 
-pub adds-sound : (f : State → Out) → Keeps f → {a b : Change} → AddsFrom f a b (Ok tt) → RepresentsFit a.state.now → RepresentsFit b.state.now
-adds-sound f k s v =
-    record {
-      state = (f v.state).state;
-      holds = adds-holds f s v.state v.holds v.fits;
-      fits = keeps_fit f k v.state v.fits;
-    }
+  pub adds-sound : Keeps f → RepresentsFit a.state.now → RepresentsFit b.state.now
+  adds-sound k s =
+      record {
+        state = (f s.state).state;
+        holds = adds-holds s.state s.holds s.fits;
+        fits = keeps_fit f k s.state s.fits;
+      }
 
--- it leaves as much room for events
-pub adds-long : (f : State → Out) {a b : Change} → AddsFrom f a b (Ok tt) → RepresentsFit a.state.now → length b.events.now ≡ length a.events.now
-adds-long f s v = (comes-ok (s v.state v.holds v.fits)).1.tells.long
+  -- and as much room for events
+  pub adds-long : RepresentsFit a.state.now → length b.events.now ≡ length a.events.now
+  adds-long s = (comes-ok (t s.state s.holds s.fits)).1.tells.long
 
 -- ---- steps that leave the addresses
 pub record Leaves (f : State → Out) : Type 0 where

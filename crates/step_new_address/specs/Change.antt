@@ -1,10 +1,11 @@
 -- An address that is there changed, and its prefix route moved before.
 -- Assumes nothing.
-use Rattle.std.specs.Prelude.{ℕ, Ok, Err, ◌≡◌, refl, true, false, List, [], ◌∷◌, length, set}
+use Rattle.std.specs.Prelude.{ℕ, ◌≡◌, refl, true, false, List, [], ◌∷◌, length, set, Ok, Err}
 use Rattle.std.proofs.Common.{sym, ap, subst, ◌∙◌}
 use Rattle.lists.specs.Lists.{Row, replace_first}
 use Rattle.lists.specs.Place.{place_of, replace_at}
 use Rattle.lists.specs.Bools.{cond-case}
+use Rattle.refusal.specs.declared.Refusal.{Refusal}
 use Rattle.layout.specs.Address as Address
 use Rattle.layout.specs.Address.{fit_address, local}
 use Rattle.layout.specs.Route.{fit_route}
@@ -16,89 +17,94 @@ use Rattle.definition.specs.Reference.Insert.{kernel_add4, kernel_del4}
 use Rattle.definition.specs.Reference.Addresses.{goes, prefix_route, changed_to, reroutes, moved, change_v4, same_address}
 use Rattle.definition.specs.Preservation.Fit.{length-address, fields_address}
 use Rattle.definition.specs.Preservation.Rows.{subnet_fit, changed_to-fit}
+use Rattle.definition.specs.Preservation.Addresses.{moved_keeps}
 use Rattle.definition.specs.Preservation.Shrinking.{kernel_del4_away}
 use Rattle.definition.proofs.Preservation.Peaks.{kernel_del4-under}
 use Rattle.definition.proofs.Preservation.Step.{covered}
 use Rattle.row_candidates.specs.Rows.{subnet_route}
-use Rattle.state.specs.Represents.{Represents, count-addresses, RepresentsFit}
-use Rattle.refusal.specs.declared.Refusal.{Refusal}
+use Rattle.state.specs.Represents.{Represents, RepresentsFit, count-addresses}
 use Rattle.step_events.specs.Tells.{Tells}
 use Rattle.step_events.specs.Emits.{Emits, does-one}
-use Rattle.step_events.specs.Comes.{Answer, Comes, holds-within, goes-made, adds_none, adds-also, adds-stop, comes-ok}
+use Rattle.step_events.specs.Comes.{Comes, holds-within, goes-made, adds_none, adds-also, adds-stop, comes-ok}
 use Rattle.step_events.specs.declared.change.Change.{Change}
-use Rattle.step_new_address.specs.Adding.{AddsFrom, adds-holds, also-leaves, kernel_add4-leaves}
+use Rattle.step_new_address.specs.Adding.{AddsFrom, adds-holds, adds-sound, also-leaves, kernel_add4-leaves}
 use Rattle.step_new_address.specs.New.{length-emitted}
 
--- the prefix route that an address gets
+-- the prefix route that an address gets could stand in a state
 pub route-fits : (old : Row) → fit_address old ≡ true → (priority source : ℕ) → fit_route (subnet_route priority source old) ≡ true
 route-fits old fit priority source = subnet_fit source priority old (fields_address old fit).short
 
--- ---- a route taken out never lacks room
-del_adds : (p : Row) (st : State) {a b : Change} → Represents a.state.now st → Emits (kernel_del4 p st) a b → Comes (goes (kernel_del4 p st)) a b (Ok tt)
+-- a route taken out never lacks room
+pub del_adds : (p : Row) (st : State) {w : List ℕ} {a b : Change} → Represents w st → Emits (kernel_del4 p st) a b → Comes (goes (kernel_del4 p st)) a b (Ok tt)
 del_adds p st h d =
     goes-made (covered (kernel_del4 p st).peak (sizes st) (kernel_del4-under p st).ever (holds-within h)) d
 
 module _ (q old : Row) where
+  -- the route put in, and the one taken out
+  abbrev pub route_in : Row
+  route_in = subnet_route (Address.priority q) (local old) old
+
+  abbrev pub route_out : Row
+  route_out = subnet_route (Address.priority old) (local old) old
+
   pub moved_none : reroutes q old ≡ false → {a : Change} → AddsFrom (moved q old) a a (Ok tt)
   unfolding moved
-  moved_none e st h g = rw e (adds_none st h)
+  moved_none e st h f = rw e (adds_none st h)
 
-  module _ (e : reroutes q old ≡ true) {a b : Change} {r : Answer} (u : AddsFrom (kernel_add4 (subnet_route (Address.priority q) (local old) old)) a b r) where
-    pub moved_other : {x : Refusal} → r ≡ Err x → {c : Change} → AddsFrom (moved q old) a c r
+  module _ (e : reroutes q old ≡ true) {a b : Change} where
+    pub moved_other : {r : Refusal} → AddsFrom (kernel_add4 route_in) a b (Err r) → {c : Change} → AddsFrom (moved q old) a c (Err r)
     unfolding moved
-    moved_other f st h g = rw (e, f) (adds-stop (rw f at (u st h g)) (kernel_del4 (prefix_route (local old) old)))
+    moved_other u st h g = rw e (adds-stop (u st h g) (kernel_del4 (prefix_route (local old) old)))
 
-    pub moved-both : r ≡ Ok tt → {c : Change} → ((st : State) → Represents b.state.now st → Emits (kernel_del4 (subnet_route (Address.priority old) (local old) old) st) b c)
-        → AddsFrom (moved q old) a c (Ok tt)
+    pub moved-both : AddsFrom (kernel_add4 route_in) a b (Ok tt) → {c : Change} → ((st : State) → Represents b.state.now st → Emits (kernel_del4 route_out st) b c) → AddsFrom (moved q old) a c (Ok tt)
     unfolding moved prefix_route
-    moved-both f {c} d st h g =
-        let first = rw f at (u st h g) in
-        let later = (kernel_add4 (subnet_route (Address.priority q) (local old) old) st).state in
-        let there : Represents b.state.now later = (comes-ok first).1.holds in
-        let gone = subnet_route (Address.priority old) (local old) old in
-        rw e (adds-also first (kernel_del4 gone) (del_adds gone later there (d later there)))
+    moved-both u d st h g =
+        let first = u st h g in
+        let later = (kernel_add4 route_in st).state in
+        let there = (comes-ok first).1.holds in
+        rw e (adds-also first (kernel_del4 route_out) (del_adds route_out later there (d later there)))
 
   -- the addresses stay
-  moved-leaves : (st : State) → (moved q old st).state.addresses ≡ st.addresses
+  pub moved-leaves : (st : State) → (moved q old st).state.addresses ≡ st.addresses
   unfolding moved
   moved-leaves st =
       cond-case (λ (o : Out). o.state.addresses ≡ st.addresses) (reroutes q old)
-      (λ e. (also-leaves (kernel_add4 (subnet_route (Address.priority q) (local old) old)) (kernel_del4 (prefix_route (local old) old)) (kernel_add4-leaves (subnet_route (Address.priority q) (local old) old)) (record { same = λ s. (kernel_del4_away (prefix_route (local old) old) s).same_addresses })).same st)
+      (λ e. (also-leaves (kernel_add4 route_in) (kernel_del4 (prefix_route (local old) old)) (kernel_add4-leaves route_in) (record { same = λ s. (kernel_del4_away (prefix_route (local old) old) s).same_addresses })).same st)
       (λ e. refl)
 
-  -- ---- the address itself, at its place
-  module _ (clock : ℕ) {there : Row} (z : old ≡ there) {a b : Change} {r : Answer} (m : AddsFrom (moved q old) a b r) where
-    pub change-other : {x : Refusal} → r ≡ Err x → {c : Change} → AddsFrom (change_v4 q there clock) a c r
+-- ---- the address itself
+module _ (q : Row) (clock : ℕ) (old : Row) (g : fit_add_v4 q ≡ true) (fit : fit_address old ≡ true) where
+  pub changed-fit : fit_address (changed_to q old clock) ≡ true
+  changed-fit = changed_to-fit q old clock g fit
+
+  module _ {a b : Change} where
+    pub change-other : {r : Refusal} → AddsFrom (moved q old) a b (Err r) → {c : Change} (st : State) → Represents a.state.now st → fit_state st ≡ true → Comes (goes (change_v4 q old clock st)) a c (Err r)
     unfolding change_v4
-    change-other f st h g =
-        rw (← z, f)
-        (adds-stop (rw f at (m st h g)) (λ later. becomes (with_addresses (replace_first (same_address q) (changed_to q old clock) later.addresses) later) (new_addr4 (changed_to q old clock) ∷ [])))
+    change-other m st h f =
+        adds-stop (m st h f) (λ later. becomes (with_addresses (replace_first (same_address q) (changed_to q old clock) later.addresses) later) (new_addr4 (changed_to q old clock) ∷ []))
 
-    module _ (f : r ≡ Ok tt) where
-      went : AddsFrom (moved q old) a b (Ok tt)
-      went = rw f at m
+    module _ (m : AddsFrom (moved q old) a b (Ok tt)) where
+      pub change-sound : RepresentsFit a.state.now → RepresentsFit b.state.now
+      change-sound v = adds-sound (moved q old) m (moved_keeps q old fit) v
 
-      pub change-count : RepresentsFit a.state.now → address_count b.state.now ≡ address_count a.state.now
-      change-count v =
-          count-addresses (adds-holds (moved q old) went v.state v.holds v.fits) ∙ ap length (moved-leaves v.state) ∙ sym (count-addresses v.holds)
+      pub change-count : (st : State) → Represents a.state.now st → fit_state st ≡ true → address_count b.state.now ≡ address_count a.state.now
+      change-count st h f =
+          count-addresses (adds-holds (moved q old) m st h f) ∙ ap length (moved-leaves q old st) ∙ sym (count-addresses h)
 
-      pub change-done : fit_address old ≡ true → fit_add_v4 q ≡ true → (row : Row) → row ≡ changed_to q old clock → (i : ℕ) {c : Change}
-          → ((st : State) → Represents b.state.now st → Represents c.state.now (with_addresses (set st.addresses i row) st))
-          → Tells (new_addr4 row ∷ []) b c
-          → (st : State) → Represents a.state.now st → fit_state st ≡ true → i ≡ place_of (same_address q) st.addresses
-          → Comes (goes (change_v4 q there clock st)) a c (Ok tt)
+      pub change-done : (i : ℕ) {c : Change} → ((st : State) → Represents b.state.now st → Represents c.state.now (with_addresses (set st.addresses i (changed_to q old clock)) st))
+          → Tells (new_addr4 (changed_to q old clock) ∷ []) b c → (st : State) → Represents a.state.now st → fit_state st ≡ true → i ≡ place_of (same_address q) st.addresses
+          → Comes (goes (change_v4 q old clock st)) a c (Ok tt)
       unfolding change_v4
-      change-done fit g row e i {c} s told st h k at =
+      change-done i {c} s t st h f at =
           let new = changed_to q old clock in
           let later = (moved q old st).state in
-          let first = went st h k in
-          let place : replace_first (same_address q) new later.addresses ≡ set later.addresses i row =
-          replace_at (same_address q) new later.addresses ∙ ap (λ (n : ℕ). set later.addresses n new) (ap (place_of (same_address q)) (moved-leaves st) ∙ sym at) ∙ ap (set later.addresses i) (sym e)
+          let first : Comes (goes (moved q old st)) a b (Ok tt) = m st h f in
+          let place : replace_first (same_address q) new later.addresses ≡ set later.addresses i new =
+          replace_at (same_address q) new later.addresses ∙ ap (λ (n : ℕ). set later.addresses n new) (ap (place_of (same_address q)) (moved-leaves q old st) ∙ sym at)
           in
-          let holds : Represents c.state.now (with_addresses (replace_first (same_address q) new later.addresses) later) =
+          let there : Represents c.state.now (with_addresses (replace_first (same_address q) new later.addresses) later) =
           subst (λ (l : List Row). Represents c.state.now (with_addresses l later)) (sym place) (s later (comes-ok first).1.holds)
           in
-          rw (← z)
-          (adds-also first (λ later. becomes (with_addresses (replace_first (same_address q) new later.addresses) later) (new_addr4 new ∷ []))
-          (goes-made (holds-within holds)
-          (does-one (with_addresses (replace_first (same_address q) new later.addresses) later) (new_addr4 new) holds (length-emitted new (length-address new (changed_to-fit q old clock g fit))) (rw e at told))))
+          adds-also first (λ later. becomes (with_addresses (replace_first (same_address q) new later.addresses) later) (new_addr4 new ∷ []))
+          (goes-made (holds-within there)
+          (does-one (with_addresses (replace_first (same_address q) new later.addresses) later) (new_addr4 new) there (length-emitted new (length-address new changed-fit)) t))

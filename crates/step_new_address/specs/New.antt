@@ -1,22 +1,23 @@
 -- A new address: put in and told, then the routes that it brings.
 -- Assumes nothing.
-use Rattle.std.specs.Prelude.{ℕ, ◌≤◌, ◌≡◌, Bool, true, ◌&&◌, List, [], ◌∷◌, length, Ok, Err, leb}
+use Rattle.std.specs.Prelude.{◌≤◌, ◌≡◌, Bool, true, false, ◌&&◌, List, [], ◌∷◌, leb, length, ℕ, Ok, Err}
 use Rattle.std.proofs.Common.{arith, sym, subst, length-append}
-use Rattle.std.proofs.Math.Bool.{false}
 use Rattle.std.proofs.lemmas.Bool.{lt-leb}
-use Rattle.lists.specs.Lists.{Row, zeros}
+use Rattle.lists.specs.Lists.{Row, all, zeros}
 use Rattle.lists.specs.Rows.{length-zeros}
 use Rattle.lists.specs.At.{insert_at}
+use Rattle.refusal.specs.declared.Refusal.TheVariants.{Full}
 use Rattle.layout.specs.Address.{fit_address}
+use Rattle.layout.specs.Route.{fit_route}
 use Rattle.layout.specs.Event.{new_addr4}
 use Rattle.definition.specs.State.{State, becomes, with_addresses}
 use Rattle.definition.specs.Words.{fit_state}
 use Rattle.definition.specs.Reference.Addresses.{goes, candidates, install, place4, new_address}
-use Rattle.definition.specs.Preservation.Fit.{fit-state, state-fit, length-address}
+use Rattle.definition.specs.Preservation.Fit.{fit-state, state-fit, length-address, fields_address}
 use Rattle.definition.specs.Preservation.Keeps.{fit-addresses}
+use Rattle.definition.specs.Preservation.Rows.{candidates-fit}
 use Rattle.definition.specs.Preservation.Addresses.{place4-fit}
 use Rattle.definition.specs.Preservation.Growing.{length-place4}
-use Rattle.refusal.specs.declared.Refusal.TheVariants.{Full}
 use Rattle.state.specs.Represents.{Represents}
 use Rattle.step_events.specs.Tells.{Tells}
 use Rattle.step_events.specs.Emits.{does-one}
@@ -46,19 +47,25 @@ module _ (new : Row) (up : Bool) (st : State) where
       in
       adds-stop full (install (candidates (place4 new st.addresses) up new))
 
-  pub placed-fit : fit_address new ≡ true → fit_state st ≡ true → fit_state (placed new st) ≡ true
-  placed-fit g h =
-      let f = fit-state st h in
-      state-fit (placed new st) (fit-addresses st (place4 new st.addresses) f (place4-fit new st.addresses g f.of_addresses))
+  module _ (fit : fit_address new ≡ true) where
+    pub placed-fit : fit_state st ≡ true → fit_state (placed new st) ≡ true
+    placed-fit h =
+        let f = fit-state st h in
+        state-fit (placed new st) (fit-addresses st (place4 new st.addresses) f (place4-fit new st.addresses fit f.of_addresses))
 
-  pub placed-holds : (i : ℕ) (l : List Row) → l ≡ st.addresses → place4 new l ≡ insert_at i new l → {w : List ℕ} → Represents w (with_addresses (insert_at i new st.addresses) st) → Represents w (placed new st)
-  placed-holds i l s e {w} h = subst (λ (m : List Row). Represents w (with_addresses m st)) (sym (rw s at e)) h
+    -- the routes that it brings may be installed
+    pub routes-fit : all fit_route (candidates (place4 new st.addresses) up new) ≡ true
+    routes-fit = candidates-fit (place4 new st.addresses) up new (fields_address new fit).short
 
-  pub new_done : fit_address new ≡ true → fit_state st ≡ true → {a b c : Change} {r : Answer} → Represents b.state.now (placed new st) → Tells (new_addr4 new ∷ []) a b
-      → AddsFrom (install (candidates (place4 new st.addresses) up new)) b c r → Comes (goes (new_address new up st)) a c r
-  unfolding new_address
-  new_done fit f {a} {b} there told u =
-      let first : Comes (goes (becomes (placed new st) (new_addr4 new ∷ []))) a b (Ok tt) =
-      goes-made (holds-within there) (does-one (placed new st) (new_addr4 new) there (length-emitted new (length-address new fit)) told)
-      in
-      adds-also first (install (candidates (place4 new st.addresses) up new)) (u (placed new st) there (placed-fit fit f))
+    module _ (i : ℕ) (e : place4 new st.addresses ≡ insert_at i new st.addresses) where
+      pub placed-holds : {w : List ℕ} → Represents w (with_addresses (insert_at i new st.addresses) st) → Represents w (placed new st)
+      placed-holds {w} h = subst (λ (l : List Row). Represents w (with_addresses l st)) (sym e) h
+
+      pub new_done : fit_state st ≡ true → {a b c : Change} {r : Answer} → Represents b.state.now (placed new st) → Tells (new_addr4 new ∷ []) a b
+          → AddsFrom (install (candidates (place4 new st.addresses) up new)) b c r → Comes (goes (new_address new up st)) a c r
+      unfolding new_address
+      new_done f {a} {b} h t u =
+          let first : Comes (goes (becomes (placed new st) (new_addr4 new ∷ []))) a b (Ok tt) =
+          goes-made (holds-within h) (does-one (placed new st) (new_addr4 new) h (length-emitted new (length-address new fit)) t)
+          in
+          adds-also first (install (candidates (place4 new st.addresses) up new)) (u (placed new st) h (placed-fit f))

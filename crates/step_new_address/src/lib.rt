@@ -1,4 +1,4 @@
-// Routes and addresses put in, and told: routes in order, a new address with what it brings, an address changed.
+// Routes and addresses put in and told: a row of routes, a new address with what it brings, an address changed.
 #![tactic(auto)]
 
 ghost use Rattle.std.specs.Prelude.{◌≡◌, true, [], ◌+◌, ◌*◌, ◌≤◌, ◌<◌, length, get_or};
@@ -15,7 +15,7 @@ ghost use Rattle.step_new_address.specs.Adding.{AddsFrom};
 use layout::{ADDRESS_LIMIT, AddV4, AddressRow, address};
 use life::Nanoseconds;
 use refusal::Refusal;
-use rows::Routes;
+use rows::{Routes, Rows};
 use step_events::Change;
 
 // The routes, in order.
@@ -25,8 +25,8 @@ pub fn install(change: &mut Change<'_>, routes: Routes<'_>) -> Result<(), Refusa
     ensures told { change.new.told ≤ change.old.told + length routes.entry.rows.now }
     ensures adds_from { AddsFrom (install routes.entry.rows.now) change.old change.new result }
 {
-    for r in routes.rows {
-        step_kernel_add::kernel_add4(change, r)?;
+    for row in routes.rows {
+        step_kernel_add::kernel_add4(change, row)?;
     }
     Ok(())
 }
@@ -39,18 +39,20 @@ pub fn new_address(change: &mut Change<'_>, new: &AddressRow, up: bool) -> Resul
     ensures told { change.new.told ≤ change.old.told + 5 }
     ensures adds_from { AddsFrom (new_address new.now up) change.old change.new result }
 {
-    let there = state::addresses(change.words());
-    if ADDRESS_LIMIT <= there.rows.len() {
+    let addresses = state::addresses(change.words());
+    if ADDRESS_LIMIT <= addresses.rows.len() {
         return Err(Refusal::Full);
     }
-    let place = rows_place::place4(there, new);
-    change.new_addr4(new);
+    let place = rows_place::place4(addresses, new);
     state::insert_address(change.state, place, new);
-    let brought = row_candidates::candidates(state::addresses(change.words()), new, up);
-    let routes = Routes {
-        rows: brought.as_slice(),
-    };
-    install(change, routes)
+    change.new_addr4(new);
+    let block = row_candidates::candidates(state::addresses(change.words()), new, up);
+    install(
+        change,
+        Rows {
+            rows: block.as_slice(),
+        },
+    )
 }
 
 // An address's prefix route with a request's priority put in, and then the one with its own taken out.
@@ -64,10 +66,9 @@ fn moved(change: &mut Change<'_>, q: &AddV4, old: &AddressRow) -> Result<(), Ref
     if !rows_place::reroutes(q, old) {
         return Ok(());
     }
-    let source = old[address::LOCAL];
-    let new = row_candidates::prefix_route4(old, q[address::PRIORITY], source);
-    let gone = row_candidates::prefix_route4(old, old[address::PRIORITY], source);
+    let new = row_candidates::prefix_route4(old, q[address::PRIORITY], old[address::LOCAL]);
     step_kernel_add::kernel_add4(change, &new)?;
+    let gone = row_candidates::prefix_route4(old, old[address::PRIORITY], old[address::LOCAL]);
     step_kernel_del::kernel_del4(change, &gone);
     Ok(())
 }
@@ -81,7 +82,7 @@ pub fn change_v4(
 ) -> Result<(), Refusal>
     requires represents_fit { RepresentsFit change.old.state.now }
     requires i_bound { i < address_count change.old.state.now }
-    requires q_fit { fit_add_v4 q.now ≡ true }
+    requires q_value { fit_add_v4 q.now ≡ true }
     requires in_bounds { 34 * (change.old.told + 3) ≤ length change.old.events.now }
     ensures told { change.new.told ≤ change.old.told + 3 }
     ensures comes { (st : State) → Represents change.old.state.now st → fit_state st ≡ true → i ≡ place_of (same_address q.now) st.addresses → Comes (goes (change_v4 q.now (get_or st.addresses i []) clock.0 st)) change.old change.new result }

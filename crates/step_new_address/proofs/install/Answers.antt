@@ -1,18 +1,24 @@
-use Rattle.refusal.specs.Refusal.{passed_on}
-use Rattle.step_new_address.specs.Install.{installed-start, installed-next, installed-other, installed-end}
+use Rattle.std.proofs.Common.{arith, ◌+◌}
+use Rattle.std.proofs.lemmas.Result.{err_from_is_err_and}
+use Rattle.step_new_address.specs.Install.{sofar-start, sofar-next, sofar-other, sofar-end}
 use Rattle.step_new_address.proofs.install.Goals as goal
 
-pub loop-r-init : goal.loop-r-init
-loop-r-init c = installed-start c.args.routes.rows.now c.args.change.now
+pub loop-row-init : goal.loop-row-init
+loop-row-init c = record { adds = sofar-start c.args.routes.rows.now c.args.change.now; told = omega arith }
 
 pub returns-in_err-kernel_add4-clause-adds_from : goal.returns-in_err-kernel_add4-clause-adds_from
 returns-in_err-kernel_add4-clause-adds_from c =
-    rw (passed_on c.in_err-kernel_add4.was c.from_residual.ensures.1)
-    (installed-other c.args.routes.rows.now c.args.routes.fit c.loop-r.invariant c.loop-r-test.true c.kernel_add4.ensures.comes c.in_err-kernel_add4.was)
+    let p = err_from_is_err_and c.from_residual.result c.from_residual.ensures.1 in
+    rw (p.1, p.2)
+    (sofar-other c.args.routes.rows.now (c.loop-row.row-index + 1)
+    (sofar-next c.args.routes.rows.now c.args.routes.fit c.loop-row.row-index c.loop-row.invariant.adds (omega (arith, c.loop-row-test.true)) (λ st h f. c.in_err-kernel_add4.ensures.comes st h f)))
 
-pub loop-r-preserved : goal.loop-r-preserved
-loop-r-preserved c =
-    installed-next c.args.routes.rows.now c.args.routes.fit c.loop-r.invariant c.loop-r-test.true c.kernel_add4.ensures.comes c.in_ok-kernel_add4.was c.kernel_add4.ensures.told
+pub loop-row-preserved : goal.loop-row-preserved
+loop-row-preserved c =
+    record {
+      adds = sofar-next c.args.routes.rows.now c.args.routes.fit c.loop-row.row-index c.loop-row.invariant.adds (omega (arith, c.loop-row-test.true)) (λ st h f. c.in_ok-kernel_add4.ensures.comes st h f);
+      told = omega (arith, c.loop-row.invariant.told, c.kernel_add4.ensures.told);
+    }
 
 pub returns-clause-adds_from : goal.returns-clause-adds_from
-returns-clause-adds_from c = installed-end c.args.routes.rows.now c.loop-r.r-index c.loop-r-test.false c.loop-r.invariant
+returns-clause-adds_from c = sofar-end c.args.routes.rows.now c.args.routes.fit c.loop-row.row-index c.loop-row.invariant.adds (omega (arith, c.loop-row-test.false))

@@ -1,6 +1,10 @@
-use Rattle.std.proofs.Common.{sym, ◌∙◌}
-use Rattle.layout.specs.Address.{local, priority}
-use Rattle.refusal.specs.Refusal.{passed_on}
+use Rattle.std.proofs.Common.{sym, ap, subst, ◌∙◌, Ok, Err}
+use Rattle.std.proofs.lemmas.Result.{err_from_is_err_and}
+use Rattle.lists.specs.Lists.{Row}
+use Rattle.layout.specs.Route.{fit_route}
+use Rattle.definition.specs.Reference.Insert.{kernel_add4, kernel_del4}
+use Rattle.step_events.specs.Emits.{Emits}
+use Rattle.step_new_address.specs.Adding.{AddsFrom}
 use Rattle.step_new_address.specs.Change.{route-fits, moved_none, moved_other, moved-both}
 use Rattle.step_new_address.proofs.moved.Goals as goal
 
@@ -8,15 +12,17 @@ pub returns-then-not-reroutes-clause-adds_from : goal.returns-then-not-reroutes-
 returns-then-not-reroutes-clause-adds_from c = moved_none c.args.q.now c.args.old.now (sym c.reroutes.ensures ∙ c.if-not-reroutes.true)
 
 pub kernel_add4-requires-clause-value : goal.kernel_add4-requires-clause-value
-kernel_add4-requires-clause-value c =
-    rw c.prefix_route4-new.ensures (route-fits c.args.old.now c.requires.value (priority c.args.q.now) (local c.args.old.now))
+kernel_add4-requires-clause-value c = ap fit_route c.prefix_route4-new.ensures ∙ route-fits c.args.old.now c.requires.value _ _
 
 pub returns-in_err-kernel_add4-clause-adds_from : goal.returns-in_err-kernel_add4-clause-adds_from
 returns-in_err-kernel_add4-clause-adds_from c =
-    rw (passed_on c.in_err-kernel_add4.was c.from_residual.ensures.1)
-    (moved_other c.args.q.now c.args.old.now (sym c.reroutes.ensures ∙ c.if-not-reroutes.false) (rw c.prefix_route4-new.ensures at c.kernel_add4.ensures.comes) c.in_err-kernel_add4.was)
+    let p = err_from_is_err_and c.from_residual.result c.from_residual.ensures.1 in
+    rw (p.1, p.2)
+    (moved_other c.args.q.now c.args.old.now (sym c.reroutes.ensures ∙ c.if-not-reroutes.false)
+    (subst (λ (r : Row). AddsFrom (kernel_add4 r) c.args.change.now c.kernel_add4.new.change (Err c.in_err-kernel_add4.field-0.0)) c.prefix_route4-new.ensures (λ st h f. c.in_err-kernel_add4.ensures.comes st h f)))
 
 pub returns-clause-adds_from : goal.returns-clause-adds_from
 returns-clause-adds_from c =
-    moved-both c.args.q.now c.args.old.now (sym c.reroutes.ensures ∙ c.if-not-reroutes.false) (rw c.prefix_route4-new.ensures at c.kernel_add4.ensures.comes) c.in_ok-kernel_add4.was
-    (rw c.prefix_route4-gone.ensures at c.kernel_del4.ensures.emits)
+    moved-both c.args.q.now c.args.old.now (sym c.reroutes.ensures ∙ c.if-not-reroutes.false)
+    (subst (λ (r : Row). AddsFrom (kernel_add4 r) c.args.change.now c.kernel_add4.new.change (Ok tt)) c.prefix_route4-new.ensures (λ st h f. c.in_ok-kernel_add4.ensures.comes st h f))
+    (λ st h. subst (λ (r : Row). Emits (kernel_del4 r st) c.kernel_add4.new.change c.kernel_del4.new.change) c.prefix_route4-gone.ensures (c.kernel_del4.ensures.emits st h))
