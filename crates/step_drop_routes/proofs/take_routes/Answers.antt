@@ -1,8 +1,7 @@
-use Rattle.std.proofs.Common.{refl, ap, sym, ◌∙◌, subst, List, ℕ}
+use Rattle.std.proofs.Common.{refl, ap, ◌∙◌, List}
 use Rattle.lists.specs.Lists.{Row, any}
 use Rattle.definition.specs.State.{through}
 use Rattle.definition.specs.Preservation.Shrinking.{potential}
-use Rattle.state.specs.Represents.{Represents}
 use Rattle.step_events.specs.Emits.{tells-behind}
 use Rattle.step_events.specs.EmitsWithin.{rest-fits}
 use Rattle.step_drop_routes.specs.One.{unless_wanted, loses}
@@ -14,7 +13,7 @@ returns c =
     λ st f.
     let t = c.delete_unwanted.ensures st f in
     let m = (through unless_wanted c.args.rows.now st).state in
-    let left = c.addresses.ensures.rows m (subst (λ (x : List ℕ). Represents x m) (sym c.words.ensures) t.emits.holds) in
+    let left = c.addresses.ensures.rows m (rw c.words.ensures t.emits.holds) in
     routes-gone c.args.ip c.args.rows.now c.loses-lost.result t
     (c.loses-lost.ensures ∙ ap (λ (l : List Row). any (loses l) c.args.rows.now) left) (c.fall.ensures m (rest-fits potential t))
     (λ m w. c.disable.ensures m w) (λ rows k. tells-behind k refl refl refl refl)

@@ -1,5 +1,4 @@
-use Rattle.std.proofs.Common.{sym, ◌∙◌, subst, List, ℕ}
-use Rattle.state.specs.Represents.{Represents}
+use Rattle.std.proofs.Common.{sym, ◌∙◌}
 use Rattle.step_kernel_del.specs.Delete.{deletes, ready_row}
 use Rattle.step_drop_routes.specs.Iterations.{wanted-stays, unwanted-goes}
 use Rattle.step_drop_routes.proofs.unless_wanted.Goals as goal
@@ -7,7 +6,7 @@ use Rattle.step_drop_routes.proofs.unless_wanted.Goals as goal
 pub returns-then-stays : goal.returns-then-stays
 returns-then-stays c =
     λ st f.
-    let rows = c.addresses.ensures.rows st (subst (λ (x : List ℕ). Represents x st) (sym c.words.ensures) f.holds) in
+    let rows = c.addresses.ensures.rows st (rw c.words.ensures f.holds) in
     wanted-stays c.args.r.now f (rw rows at (sym c.wanted-stays.ensures ∙ c.if-stays.true))
 
 pub kernel_del4-requires-clause-in_bounds : goal.kernel_del4-requires-clause-in_bounds
@@ -16,5 +15,5 @@ kernel_del4-requires-clause-in_bounds c = λ b. ready_row c.requires b
 pub returns : goal.returns
 returns c =
     λ st f.
-    let rows = c.addresses.ensures.rows st (subst (λ (x : List ℕ). Represents x st) (sym c.words.ensures) f.holds) in
+    let rows = c.addresses.ensures.rows st (rw c.words.ensures f.holds) in
     unwanted-goes c.args.r.now (rw rows at (sym c.wanted-stays.ensures ∙ c.if-stays.false)) (deletes c.args.r.now f (c.kernel_del4.ensures.emits st f.holds))
