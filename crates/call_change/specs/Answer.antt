@@ -1,11 +1,12 @@
 -- The answers of the calls that change: document 01's number and values for each case, the case for each reply, and what a call
 -- promises by its contract.
-use Rattle.std.specs.Prelude.{◌≡◌, cond, List, ℕ, eqb}
+use Rattle.std.specs.Prelude.{◌≡◌, cond, List, ℕ, Ok, Err, eqb}
 use Rattle.lists.specs.Lists.{flat, put}
 use Rattle.definition.specs.Call.{Reply, Numbers, numbers}
 use Rattle.definition.specs.Step.{Result}
 use Rattle.call_read.specs.Answer.{refused_by, valuing}
-use Rattle.step_events.specs.declared.Done as Step
+use Rattle.refusal.specs.Refusal.{number_of}
+use Rattle.step_events.specs.Comes.{Came}
 use Rattle.call_change.specs.declared.Done.{Done}
 use Rattle.call_change.specs.declared.Done.TheVariants.{Refused, Rows}
 
@@ -25,7 +26,6 @@ pub record Answers (x : Result) (w' ev ev' : List ℕ) (r : Done) : Type 0 where
   pub events : ev' ≡ put 0 (flat x.reply.rows) ev
 
 -- ---- what a step comes to as an answer: 203 where a list would pass its limit
-abbrev pub of_done : Step.Done → Done
-of_done (Step.TheVariants.Rows n) = Rows n
-of_done (Step.TheVariants.Refused n) = Refused n
-of_done Step.TheVariants.Full = Refused 203
+abbrev pub of_done : Came → Done
+of_done (Ok n) = Rows n
+of_done (Err e) = Refused (number_of e)

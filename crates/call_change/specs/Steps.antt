@@ -1,6 +1,6 @@
 -- The answers of calls, by what the step below each comes to.
 -- Assumes nothing.
-use Rattle.std.specs.Prelude.{ℕ, ◌≤◌, ◌≡◌, refl, true, List, ◌++◌, length, drop}
+use Rattle.std.specs.Prelude.{ℕ, ◌≤◌, ◌≡◌, refl, true, Err, List, ◌++◌, length, drop}
 use Rattle.std.proofs.Common.{arith, sym, ap, ◌∙◌, ne_eqb, leb-true}
 use Rattle.lists.specs.Count.{count_most}
 use Rattle.lists.specs.Bools.{and_iff, test-case, cond-true, cond-false}
@@ -15,9 +15,8 @@ use Rattle.definition.specs.Preservation.Encode.{Admissible}
 use Rattle.definition.proofs.Preservation.Numbers.{Numbered}
 use Rattle.state.specs.Represents.{Represents}
 use Rattle.step_events.specs.EmitsWithin.{RoomFor, EmitsWithin}
-use Rattle.step_events.specs.Comes.{Comes, ComesWhole, made}
-use Rattle.step_events.specs.declared.Done as Step
-use Rattle.step_events.specs.declared.Done.TheVariants.{Full}
+use Rattle.step_events.specs.Comes.{Came, Comes, ComesWhole, made}
+use Rattle.refusal.specs.declared.Refusal.TheVariants.{Full}
 use Rattle.call_read.specs.Laws.{Passed}
 use Rattle.call_change.specs.declared.Done.{Done}
 use Rattle.call_change.specs.declared.Done.TheVariants.{Refused, Rows}
@@ -44,14 +43,14 @@ unfolding down
 down_answers w ev p h = answers-made (goes (down (state_of w))) w (down-roomy (state_of w) p.good) h.words refl (put-no-rows ev)
 
 -- ---- a step that may be refused, or find a list full: then it has left the words and the buffer
-module _ {k : Checks} {w v ev ev' : List ℕ} {d : Step.Done} {r : Done} (p : Passed k w) where
+module _ {k : Checks} {w v ev ev' : List ℕ} {d : Came} {r : Done} (p : Passed k w) where
   made-answers : (o : Outcome) → Numbered o → Comes o v ev ev' d → r ≡ of_done d → roomy o ≡ true → Answers (outcome o w) (v ++ drop base_size w) ev ev' r
   made-answers (goes o) m c e h =
       let s = c.does h in
-      answers-made (goes o) w h s.holds.words (e ∙ ap of_done (c.answer ∙ cond-true (within o.peak) (made (goes o)) Full h)) s.words
+      answers-made (goes o) w h s.holds.words (e ∙ ap of_done (c.answer ∙ cond-true (within o.peak) (made (goes o)) (Err Full) h)) s.words
   made-answers (refused n st) m c e h =
       let s = c.does h in
-      let says : r ≡ Refused n = e ∙ ap of_done (c.answer ∙ cond-true (within (sizes st)) (made (refused n st)) Full h) in
+      let says : r ≡ Refused n = e ∙ ap of_done (c.answer ∙ cond-true (within (sizes st)) (made (refused n st)) (Err Full) h) in
       answers-made (refused n st) w h s.holds.words (says ∙ rw (ne_eqb n 0 (λ z. omega (arith, m.positive))) refl) s.words
 
   pub whole-answers : (o : Outcome) → Numbered o → ComesWhole (state_of w) o v ev ev' d → r ≡ of_done d → Answers (outcome o w) (v ++ drop base_size w) ev ev' r
@@ -59,4 +58,4 @@ module _ {k : Checks} {w v ev ev' : List ℕ} {d : Step.Done} {r : Done} (p : Pa
       test-case (roomy o) (made-answers o m t.comes e)
       (λ h.
       let s = t.kept h in
-      answers-full o w h (s.holds.words ∙ sym p.holds.words) (e ∙ ap of_done (t.comes.answer ∙ cond-false (roomy o) (made o) Full h)) s.words)
+      answers-full o w h (s.holds.words ∙ sym p.holds.words) (e ∙ ap of_done (t.comes.answer ∙ cond-false (roomy o) (made o) (Err Full) h)) s.words)

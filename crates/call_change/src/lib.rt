@@ -11,6 +11,7 @@ use layout::{
     ADD_ROUTE4_WORDS, ADD_V4_WORDS, BASE_WORDS, DEL_ROUTE4_WORDS, DEL_V4_WORDS, EVENT_BUFFER,
 };
 use life::Nanoseconds;
+use refusal::Refusal;
 
 // What a changing call answers: a refusal's number, or how many event rows it wrote.
 #[derive(Clone, Copy)]
@@ -20,13 +21,13 @@ pub enum Done {
 }
 
 // What a step comes to as an answer: 203 where a list would pass its limit.
-fn of_done(d: step_events::Done) -> Done
+fn of_done(d: Result<usize, Refusal>) -> Done
     ensures { result ≡ of_done d }
 {
     match d {
-        step_events::Done::Rows(n) => Done::Rows(n),
-        step_events::Done::Refused(n) => Done::Refused(n),
-        step_events::Done::Full => Done::Refused(203),
+        Ok(n) => Done::Rows(n),
+        Err(Refusal::Full) => Done::Refused(203),
+        Err(refusal) => Done::Refused(refusal.number()),
     }
 }
 

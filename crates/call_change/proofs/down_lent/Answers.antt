@@ -5,7 +5,6 @@ use mathlib.Core.Path.{sym}
 use Rattle.definition.specs.Call as Call
 use Rattle.definition.specs.Words.{state_of}
 use Rattle.definition.specs.Step.{semantics, down_call}
-use Rattle.definition.specs.Reference.Addresses.{down}
 use Rattle.call_read.specs.Laws.{passed, lent, valid}
 use Rattle.call_change.specs.Laws.{answers-refused, answers-passed}
 use Rattle.call_change.specs.Steps.{down_answers}
