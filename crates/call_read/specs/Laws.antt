@@ -1,6 +1,6 @@
 -- What a call comes to, by its checks and the reference, and what that makes of the answers of those that read.
 -- Assumes nothing.
-use Rattle.std.specs.Prelude.{ℕ, ◌≡◌, refl, Bool, true, false, cond, ◌&&◌, eqb, length}
+use Rattle.std.specs.Prelude.{Ok, Err, ℕ, ◌≡◌, refl, Bool, true, false, cond, ◌&&◌, eqb, length}
 use Rattle.std.proofs.Common.{arith, ap₂, ◌∙◌, ne_eqb, eqb-true}
 use Rattle.std.proofs.Math.Path.{sym, ap}
 use mathlib.Core.List.{List, append-nil}
@@ -22,6 +22,10 @@ use Rattle.rows_source.specs.declared.Selected as Selected
 use Rattle.rows_source.specs.declared.Selected.{Selected}
 use Rattle.rows_source.specs.Selected.{local_in}
 use Rattle.state.specs.Represents.{Represents, RepresentsSome, holds-decode}
+use Rattle.refusal.specs.Refusal.{number_of}
+use Rattle.refusal.specs.declared.Refusal.{Refusal}
+use Rattle.refusal.specs.declared.Refusal.TheVariants.{Errno}
+use Rattle.rows_lookup.specs.Answer.{answered}
 use Rattle.call_read.specs.declared.Found as Found
 use Rattle.call_read.specs.declared.Local as Local
 use Rattle.call_read.specs.declared.Chosen as Chosen
@@ -182,12 +186,23 @@ module _ (w row : List ℕ) (request : ℕ) (f : Lookup.Flow) where
       writes_passed (looking row request f) w p
       (record { answer = e ∙ t.answer; says = ap found_by e ∙ t.says; rows = g ∙ ap (λ (l : List Row). put 0 (flat l) row) (found_rows x) })
 
--- a row found, and a refusal
+-- what a lookup over rows answers
 module _ (x : Lookup.Found) where
-  pub look-row : (p row row' : List ℕ) → Lookup.route p ≡ x → row' ≡ put 0 p row → (Found.TheVariants.Row ≡ found_in x) × (row' ≡ put 0 (flat (rows_in x)) row)
+  pub look-row : (p row row' : List ℕ) → Ok p ≡ answered x → row' ≡ put 0 p row → (Found.TheVariants.Row ≡ found_in x) × (row' ≡ put 0 (flat (rows_in x)) row)
   unfolding flat
-  look-row p row row' e k =
-      (ap found_in e, k ∙ ap (λ (y : List ℕ). put 0 y row) (sym (append-nil p)) ∙ ap (λ (y : Lookup.Found). put 0 (flat (rows_in y)) row) e)
+  look-row p row row' e k = go x e
+    where
+      go : (y : Lookup.Found) → Ok p ≡ answered y → (Found.TheVariants.Row ≡ found_in y) × (row' ≡ put 0 (flat (rows_in y)) row)
+      go (Lookup.route r) f =
+          let same : p ≡ r = cc in
+          (refl, k ∙ ap (λ (z : List ℕ). put 0 z row) (same ∙ sym (append-nil r)))
+      go (Lookup.no_route n) f = cc
 
-  pub look-refused : (n : ℕ) (row : List ℕ) → Lookup.no_route n ≡ x → (Found.TheVariants.Refused n ≡ found_in x) × (row ≡ put 0 (flat (rows_in x)) row)
-  look-refused n row e = (ap found_in e, put-no-rows row ∙ ap (λ (y : Lookup.Found). put 0 (flat (rows_in y)) row) e)
+  pub look-refused : (e : Refusal) (row : List ℕ) → Err e ≡ answered x → (Found.TheVariants.Refused (number_of e) ≡ found_in x) × (row ≡ put 0 (flat (rows_in x)) row)
+  look-refused e row f = go x f
+    where
+      go : (y : Lookup.Found) → Err e ≡ answered y → (Found.TheVariants.Refused (number_of e) ≡ found_in y) × (row ≡ put 0 (flat (rows_in y)) row)
+      go (Lookup.route r) g = cc
+      go (Lookup.no_route n) g =
+          let same : e ≡ Errno n = cc in
+          rw same (refl, put-no-rows row)

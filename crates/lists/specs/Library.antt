@@ -1,6 +1,6 @@
 -- What the definitions say of lists, in the library's words.
 -- Assumes nothing.
-use Rattle.std.specs.Prelude.{ℕ, ◌≡◌, ◌<◌, refl, Bool, true, false, cond, ◌||◌, ◌&&◌, List, [], ◌∷◌, filter, Option, Some, None, position, length, nat_lt}
+use Rattle.std.specs.Prelude.{ℕ, ◌≡◌, ◌<◌, refl, Bool, true, false, cond, ◌||◌, ◌&&◌, List, [], ◌∷◌, filter, Option, Some, None, Result, Ok, Err, position, length, nat_lt}
 use Rattle.std.proofs.Common.{ap, sym, one-add, arith}
 use Rattle.std.proofs.lemmas.Bool.{ltb-true, ltb-false}
 use Rattle.std.proofs.Math.Option as Own
@@ -20,6 +20,11 @@ own (Some x) = some x
 abbrev pub lent : {A : Type 0} → Option (Bor A) → Own.Option A
 lent None = none
 lent (Some x) = some x.now
+
+-- an answer that lends a value, as one that has it
+abbrev pub lent_ok : {A E : Type 0} → Result (Bor A) E → Result A E
+lent_ok (Ok x) = Ok x.now
+lent_ok (Err e) = Err e
 
 module _ {A : Type 0} (p : A → Bool) where
   pub first_find : (l : List A) → first p l ≡ own (find p l)

@@ -16,13 +16,13 @@ use Rattle.definition.specs.Reference.Routes as Routes
 use Rattle.definition.specs.Reference.Routes.{by, unreached, table_named, onlink_flag, then, refuse, onlink_check, to_gateway, usable, found_or, gateway_route, reached_by, gateway4, plain, reach_check}
 use Rattle.rows_lookup.specs.AddrType.{type_rows}
 use Rattle.rows_lookup.specs.Answer.{lookup_rows}
-use Rattle.refusal.specs.Refusal.{number_of}
 use Rattle.refusal.specs.declared.Refusal.{Refusal}
+use Rattle.refusal.specs.declared.Refusal.TheVariants.{Errno}
 
--- the code's answer, as the definitions have it
-abbrev pub reached_of : Result Bool Refusal → Routes.Reached
-reached_of (Ok b) = by b
-reached_of (Err e) = unreached (number_of e)
+-- a check's answer, as the code has it
+abbrev pub reached : Routes.Reached → Result Bool Refusal
+reached (by b) = Ok b
+reached (unreached n) = Err (Errno n)
 
 abbrev pub settled : ℕ → Bool → Routes.Reached
 settled n b = cond (eqb n 0) (by b) (unreached n)

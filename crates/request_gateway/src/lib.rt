@@ -2,13 +2,13 @@
 #![tactic(auto)]
 
 ghost use Rattle.std.specs.Prelude.{◌≡◌, ◌<◌, max, length};
-ghost use Rattle.lists.specs.Library.{lent};
+ghost use Rattle.lists.specs.Library.{lent, lent_ok};
 ghost use Rattle.layout.specs.Route.{scope};
 ghost use Rattle.definition.specs.Reference.Lookup.{route, answer, together};
 ghost use Rattle.definition.specs.Reference.Routes.{to_gateway, reached_by};
 ghost use Rattle.rows_lookup.specs.Flow.{flow_of};
-ghost use Rattle.rows_lookup.specs.Answer.{found_by};
-ghost use Rattle.request_gateway.specs.Rows.{reached_of, onlink_rows, gateway_rows, gateway4_rows, reach_rows};
+ghost use Rattle.rows_lookup.specs.Answer.{answered};
+ghost use Rattle.request_gateway.specs.Rows.{reached, onlink_rows, gateway_rows, gateway4_rows, reach_rows};
 
 use layout::{RouteRow, add_route4, route};
 use refusal::{Refusal, unless};
@@ -19,7 +19,7 @@ use rows_lookup::Flow;
 #[tactic(auto, unfolding(crate::specs::Rows::onlink_rows))]
 fn onlink_check(routes: Routes<'_>, q: &[u32], local_listed: bool) -> Result<bool, Refusal>
     requires { length q.now ≡ 34 }
-    ensures { reached_of result ≡ onlink_rows q.now local_listed routes.entry.rows.now }
+    ensures { result ≡ reached (onlink_rows q.now local_listed routes.entry.rows.now) }
 {
     unless(
         q[route::SCOPE] < layout::SCOPE_LINK,
@@ -75,7 +75,7 @@ fn gateway_route<'a>(
     default_listed: bool,
 ) -> Result<&'a RouteRow, Refusal>
     requires { (length q.now ≡ 34) × (scope q.now < 256) }
-    ensures { found_by result ≡ gateway_rows q.now default_listed routes.entry.rows.now }
+    ensures { lent_ok result ≡ answered (gateway_rows q.now default_listed routes.entry.rows.now) }
 {
     let f = to_gateway(q);
     match own_route(routes, request_route::table_named(q), f) {
@@ -87,7 +87,7 @@ fn gateway_route<'a>(
 // By a unicast or local route, while up.
 fn reached_by(r: &RouteRow, q: &[u32]) -> Result<bool, Refusal>
     requires { length q.now ≡ 34 }
-    ensures { reached_of result ≡ reached_by q.now (route r.now) }
+    ensures { result ≡ reached (reached_by q.now (route r.now)) }
 {
     let kind = r[route::KIND];
     unless(
@@ -107,7 +107,7 @@ pub fn gateway4(
     default_listed: bool,
 ) -> Result<bool, Refusal>
     requires { (length q.now ≡ 34) × (scope q.now < 256) }
-    ensures { reached_of result ≡ gateway4_rows q.now local_listed default_listed routes.entry.rows.now }
+    ensures { result ≡ reached (gateway4_rows q.now local_listed default_listed routes.entry.rows.now) }
 {
     if request_route::onlink_flag(q) {
         return onlink_check(routes, q, local_listed);
@@ -124,7 +124,7 @@ pub fn reach_check(
     default_listed: bool,
 ) -> Result<bool, Refusal>
     requires { (length q.now ≡ 34) × (scope q.now < 256) }
-    ensures { reached_of result ≡ reach_rows q.now local_listed default_listed routes.entry.rows.now }
+    ensures { result ≡ reached (reach_rows q.now local_listed default_listed routes.entry.rows.now) }
 {
     let invalid = Refusal::Errno(layout::INVALID);
     let no_device = Refusal::Errno(layout::NO_DEVICE);

@@ -8,17 +8,18 @@ use denote.Ref.{Bor}
 use Rattle.lists.specs.Lists.{Row}
 use Rattle.definition.specs.State.{State}
 use Rattle.definition.specs.Reference.Lookup.{Flow, Found, route, no_route, answer, together, settled, ruling, lookup_in, listed, main_table, default_table, net_unreachable}
-use Rattle.refusal.specs.Refusal.{number_of}
 use Rattle.refusal.specs.declared.Refusal.{Refusal}
+use Rattle.refusal.specs.declared.Refusal.TheVariants.{Errno}
+use Rattle.lists.specs.Library.{lent_ok}
 
--- the row that a lookup's answer lends, or a refusal's number
-abbrev pub found_by : Result (Bor Row) Refusal → Found
-found_by (Ok r) = route r.now
-found_by (Err e) = no_route (number_of e)
+-- a lookup's answer, as the code has it
+abbrev pub answered : Found → Result Row Refusal
+answered (route r) = Ok r
+answered (no_route n) = Err (Errno n)
 
 -- what a set's answer comes to, nothing where the search goes on
 abbrev pub rules : Math.Option Row → Option (Result (Bor Row) Refusal) → Type 0
-rules o (Some a) = (settled o ≡ true) × (ruling o ≡ found_by a)
+rules o (Some a) = (settled o ≡ true) × (lent_ok a ≡ answered (ruling o))
 rules o None = settled o ≡ false
 
 -- the two sets, one after the other: what they come to, by whether 253 is listed
@@ -41,25 +42,25 @@ unfolding together
 lower_set f l = ap (λ (p : ℕ → Bool). answer p f l) (fun_ext (λ u. or_self (eqb u 253)))
 
 module _ (l : List Row) (f : Flow) (b : Bool) (u : Math.Option Row) (upper : u ≡ answer (λ v. eqb v 255 || eqb v 254) f l) where
-  pub upper_settles : (a : Result (Bor Row) Refusal) → rules u (Some a) → found_by a ≡ lookup_rows b l f
+  pub upper_settles : (a : Result (Bor Row) Refusal) → rules u (Some a) → lent_ok a ≡ answered (lookup_rows b l f)
   upper_settles a r =
       let e : answer (together main_table) f l ≡ u = sym (upper_set f l) ∙ sym upper in
-      rw (e, r.0, r.1)
+      rw (e, r.0) r.1
 
   module _ (past : settled u ≡ false) where
-    pub upper-last : b ≡ false → no_route net_unreachable ≡ lookup_rows b l f
+    pub upper-last : b ≡ false → answered (no_route net_unreachable) ≡ answered (lookup_rows b l f)
     upper-last q =
         let e : answer (together main_table) f l ≡ u = sym (upper_set f l) ∙ sym upper in
         rw (e, past, q)
 
     module _ (on : b ≡ true) (w : Math.Option Row) (lower : w ≡ answer (λ t. eqb t 253 || eqb t 253) f l) where
-      pub lower_settles : (a : Result (Bor Row) Refusal) → rules w (Some a) → found_by a ≡ lookup_rows b l f
+      pub lower_settles : (a : Result (Bor Row) Refusal) → rules w (Some a) → lent_ok a ≡ answered (lookup_rows b l f)
       lower_settles a r =
           let e : answer (together main_table) f l ≡ u = sym (upper_set f l) ∙ sym upper in
           let k : answer (together default_table) f l ≡ w = sym (lower_set f l) ∙ sym lower in
-          rw (e, k, past, on, r.0, r.1)
+          rw (e, k, past, on, r.0) r.1
 
-      pub lower-last : settled w ≡ false → no_route net_unreachable ≡ lookup_rows b l f
+      pub lower-last : settled w ≡ false → answered (no_route net_unreachable) ≡ answered (lookup_rows b l f)
       lower-last q =
           let e : answer (together main_table) f l ≡ u = sym (upper_set f l) ∙ sym upper in
           let k : answer (together default_table) f l ≡ w = sym (lower_set f l) ∙ sym lower in

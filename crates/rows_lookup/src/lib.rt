@@ -2,11 +2,11 @@
 #![tactic(auto)]
 
 ghost use Rattle.std.specs.Prelude.{◌≡◌, ◌&&◌, ◌≤◌, leb, MatchOption};
-ghost use Rattle.lists.specs.Library.{lent};
+ghost use Rattle.lists.specs.Library.{lent, lent_ok};
 ghost use Rattle.layout.specs.Route.{table, len};
 ghost use Rattle.definition.specs.Reference.Lookup.{fits, answer, flow_to, settled, ruling};
 ghost use Rattle.rows_lookup.specs.Flow.{flow_of, set_of};
-ghost use Rattle.rows_lookup.specs.Answer.{found_by, rules, lookup_rows};
+ghost use Rattle.rows_lookup.specs.Answer.{answered, rules, lookup_rows};
 ghost use Rattle.rows_lookup.specs.AddrType.{type_rows, local_rows};
 
 use layout::{RouteRow, route};
@@ -128,7 +128,7 @@ pub fn lookup4_in<'a>(
     default_listed: bool,
     f: Flow,
 ) -> Result<&'a RouteRow, Refusal>
-    ensures { found_by result ≡ lookup_rows default_listed routes.entry.rows.now (flow_of f) }
+    ensures { lent_ok result ≡ answered (lookup_rows default_listed routes.entry.rows.now (flow_of f)) }
 {
     if let Some(answer) = ruled(table_lookup4(routes, UPPER, f)) {
         return answer;

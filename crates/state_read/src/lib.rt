@@ -3,7 +3,7 @@
 
 ghost use Rattle.std.specs.Prelude.{◌≡◌, ◌+◌, ◌*◌, ◌≤◌, length, true};
 ghost use Rattle.rows_lookup.specs.Flow.{flow_of};
-ghost use Rattle.rows_lookup.specs.Answer.{found_by};
+ghost use Rattle.rows_lookup.specs.Answer.{answered};
 ghost use Rattle.definition.specs.State.{State};
 ghost use Rattle.definition.specs.Words.{decode, well_formed, base_size};
 ghost use Rattle.rows_source.specs.Selected.{local_in, wanted};
@@ -11,6 +11,7 @@ ghost use Rattle.definition.specs.Reference.Lookup.{lookup_in, local4};
 ghost use Rattle.definition.specs.Reference.Source.{select4, source4, source, dump4};
 ghost use Rattle.state.specs.Represents.{Represents, RepresentsSome};
 ghost use Rattle.state_read.specs.Parts.{address_part, route_part};
+ghost use Rattle.lists.specs.Library.{lent_ok};
 ghost use Rattle.lists.specs.Lists.{flat, put};
 ghost use Rattle.definition.specs.Step.{listing_room};
 
@@ -44,10 +45,10 @@ pub fn addresses(s: &[u32]) -> &[u32]
 // The route of a flow.
 pub fn lookup4_in(s: &[u32], f: Flow) -> Result<&RouteRow, Refusal>
     requires { RepresentsSome s.now }
-    ensures { (st : State) → Represents s.now st → found_by result ≡ lookup_in st (flow_of f) }
+    ensures { (st : State) → Represents s.now st → lent_ok result ≡ answered (lookup_in st (flow_of f)) }
 {
     let listed = state_tables::listed(s, layout::TABLE_DEFAULT);
-    rows_lookup::lookup4_in(rows::rows_of(routes(s)), listed, f)
+    rows_lookup::lookup4_in(state::routes(s), listed, f)
 }
 
 // Whether an address is the loopback's.
@@ -56,7 +57,7 @@ pub fn local4(s: &[u32], ip: u32) -> bool
     ensures { (st : State) → Represents s.now st → result ≡ local4 st ip }
 {
     let listed = state_tables::listed(s, layout::TABLE_LOCAL);
-    rows_lookup::local4(rows::rows_of(routes(s)), listed, ip)
+    rows_lookup::local4(state::routes(s), listed, ip)
 }
 
 // The address chosen for a destination (any where it isn't present) and a scope.

@@ -129,18 +129,12 @@ asked-fits q made linked e long fit = asked_route-fit q linked long fit (check-f
 pub room-kept : {w x : List ℕ} {st : State} (t : ℕ) (rows : List Row) → Represents w st → Represents x (with_routes rows st) → length (list_table t (tables_of w)) ≤ 32 → length (list_table t (tables_of x)) ≤ 32
 room-kept t rows h k room = rw (tables-at k) (rw (tables-at h) at room)
 
-pub room-kept : {w x : List ℕ} {st : State} (t : ℕ) (rows : List Row) → Represents w st → Represents x (with_routes rows st) → length (list_table t (tables_of w)) ≤ 32 → length (list_table t (tables_of x)) ≤ 32
-room-kept t rows h k room = rw (tables-at k) (rw (tables-at h) at room)
-
 -- ---- the ways out, as the code has them
-module _ (q : Row) (t : ℕ) (st : State) (x : Result Bool Refusal) (named : t ≡ table_named q) (e : x ≡ reached (check_all q (create4 (table_named q) st))) {a b : Change} where
-  pub checked-linked : (linked : Bool) → x ≡ Ok linked → by linked ≡ check_all q (create4 (table_named q) st)
-  checked-linked linked f = go (check_all q (create4 (table_named q) st)) e
-    where
-      go : (c : Routes.Reached) → x ≡ reached c → by linked ≡ c
-      go (by l) g = let same : ◌≡◌ {A = Result Bool Refusal} (Ok linked) (Ok l) = sym f ∙ g in let is : linked ≡ l = cc in ap by is
-      go (Routes.unreached n) g = let same : ◌≡◌ {A = Result Bool Refusal} (Ok linked) (Err (Errno n)) = sym f ∙ g in cc
+pub checked-linked : {x : Result Bool Refusal} (r : Routes.Reached) → x ≡ reached r → (linked : Bool) → x ≡ Ok linked → by linked ≡ r
+checked-linked (by l) g linked f = let same : ◌≡◌ {A = Result Bool Refusal} (Ok linked) (Ok l) = sym f ∙ g in let is : linked ≡ l = cc in ap by is
+checked-linked (Routes.unreached n) g linked f = let same : ◌≡◌ {A = Result Bool Refusal} (Ok linked) (Err (Errno n)) = sym f ∙ g in cc
 
+module _ (q : Row) (t : ℕ) (st : State) (x : Result Bool Refusal) (named : t ≡ table_named q) (e : x ≡ reached (check_all q (create4 (table_named q) st))) {a b : Change} where
   pub way_refused : (r : Refusal) → x ≡ Err r → Represents b.state.now (create4 t st) → Tells [] a b → ComesWhole st (add_route4 q st) a b (Err r)
   way_refused r f h k = rw (add_goes q st) (go (check_all q (create4 (table_named q) st)) e)
     where
@@ -155,4 +149,4 @@ module _ (q : Row) (t : ℕ) (st : State) (x : Result Bool Refusal) (named : t �
       → ComesWhole st (inserted_as (asked_route q linked) (insert4 (asked_route q linked) (nlm_flags q) st.routes) (create4 t st)) a b r
       → ComesWhole st (add_route4 q st) a b r
   unfolding create4
-  way_added linked f h = rw (add_goes q st, ← (checked-linked linked f)) (rw named at h)
+  way_added linked f h = rw (add_goes q st, ← (checked-linked (check_all q (create4 (table_named q) st)) e linked f)) (rw named at h)

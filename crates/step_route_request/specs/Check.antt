@@ -1,6 +1,6 @@
 -- The checks before an insertion, on the state with the table listed, by what is listed before that.
 -- Assumes nothing.
-use Rattle.std.specs.Prelude.{ℕ, ◌<◌, ◌≡◌, refl, Bool, true, false, cond, not, ◌&&◌, ◌||◌, List, eqb, Result}
+use Rattle.std.specs.Prelude.{ℕ, ◌<◌, ◌≡◌, refl, Bool, true, false, cond, not, ◌&&◌, ◌||◌, List, Result, Ok, Err, eqb, Result}
 use Rattle.std.proofs.Math.Path.{sym}
 use Rattle.std.proofs.Common.{ap, ◌∙◌, eq-eqb, ne_eqb, eqb-true, ltb-true}
 use Rattle.std.proofs.Math.Bool.{or-false, and-false}
@@ -21,6 +21,7 @@ use Rattle.state_read.specs.Parts.{listed-there}
 use Rattle.request_prefsrc.specs.Rows.{prefsrc_table, prefsrc_rows, prefsrc-rows}
 use Rattle.request_gateway.specs.Rows.{reached, reach_rows, reach-rows}
 use Rattle.refusal.specs.declared.Refusal.{Refusal}
+use Rattle.refusal.specs.declared.Refusal.TheVariants.{Errno}
 
 -- a preferred source behind the check of device and gateway
 abbrev pub prefsrc_check : Row → Routes.Reached → State → Routes.Reached
@@ -133,5 +134,20 @@ module _ (q : Row) (st : State) (t : ℕ) (named : t ≡ table_named q) where
     check_form h = rw (← form, ne_eqb n 0 h)
 
     module _ (z : n ≡ 0) (a b : Bool) (e : a ≡ (listed local_table st || eqb local_table t)) (f : b ≡ (listed default_table st || eqb default_table t)) where
-      pub check-goes : check_all q (create4 (table_named q) st) ≡ prefsrc_check q (reach_rows q a b st.routes) (create4 (table_named q) st)
+      check-goes : check_all q (create4 (table_named q) st) ≡ prefsrc_check q (reach_rows q a b st.routes) (create4 (table_named q) st)
       check-goes = rw (← form, eq-eqb n 0 z, made-reach a b e f)
+
+      module _ (x : Result Bool Refusal) (g : x ≡ reached (reach_rows q a b st.routes)) where
+        pub check-refused : (m : Refusal) → x ≡ Err m → x ≡ reached (check_all q (create4 (table_named q) st))
+        check-refused m k = rw check-goes (go (reach_rows q a b st.routes) g)
+          where
+            go : (r : Routes.Reached) → x ≡ reached r → x ≡ reached (prefsrc_check q r (create4 (table_named q) st))
+            go (by l) h = let bad : Ok l ≡ Err m = cc in cc
+            go (unreached i) h = h
+
+        pub check-on : (linked : Bool) → x ≡ Ok linked → check_all q (create4 (table_named q) st) ≡ prefsrc_check q (by linked) (create4 (table_named q) st)
+        check-on linked k = check-goes ∙ ap (λ (r : Routes.Reached). prefsrc_check q r (create4 (table_named q) st)) (go (reach_rows q a b st.routes) g)
+          where
+            go : (r : Routes.Reached) → x ≡ reached r → r ≡ by linked
+            go (by l) h = let same : l ≡ linked = cc in cc
+            go (unreached i) h = cc

@@ -23,18 +23,18 @@ use Rattle.step_events.specs.Comes.{ComesWhole}
 use Rattle.step_events.specs.declared.change.Change.{Change}
 use Rattle.step_route_request.specs.Ways.{request-refused, request-emitted}
 
-module _ (q : Row) {st : State} {a : Change} (h : Represents a.state.now st) (t : ℕ) (e : t ≡ table_named q) where
-  on-off : (b : Bool) → b ≡ among t (tables_of a.state.now) → listed (table_named q) st ≡ b
-  on-off b f = ap (λ (n : ℕ). listed n st) (sym e) ∙ sym (listed-there h t) ∙ sym f
+on-off : (q : Row) {w : List ℕ} {st : State} → Represents w st → (t : ℕ) → t ≡ table_named q → (b : Bool) → b ≡ among t (tables_of w) → listed (table_named q) st ≡ b
+on-off q {st = st} h t e b f = ap (λ (n : ℕ). listed n st) (sym e) ∙ sym (listed-there h t) ∙ sym f
 
+module _ (q : Row) {st : State} {a : Change} (h : Represents a.state.now st) (t : ℕ) (e : t ≡ table_named q) where
   pub del_unlisted : false ≡ among t (tables_of a.state.now) → ComesWhole st (del_route4_request q st) a a (Err (Errno 3))
   unfolding del_route4_request
-  del_unlisted f = rw (on-off false f) (request-refused st st h (tells-none a) 3)
+  del_unlisted f = rw (on-off q h t e false f) (request-refused st st h (tells-none a) 3)
 
   module _ (f : true ≡ among t (tables_of a.state.now)) where
     pub del_bad : true ≡ bad_prefix q → ComesWhole st (del_route4_request q st) a a (Err (Errno 22))
     unfolding del_route4_request
-    del_bad k = rw (on-off true f, ← k) (request-refused st st h (tells-none a) 22)
+    del_bad k = rw (on-off q h t e true f, ← k) (request-refused st st h (tells-none a) 22)
 
     module _ (k : false ≡ bad_prefix q) where
       pub del_none : position (selects q) st.routes ≡ None → ComesWhole st (del_route4_request q st) a a (Err (Errno 3))
@@ -43,7 +43,7 @@ module _ (q : Row) {st : State} {a : Change} (h : Represents a.state.now st) (t 
           let none-there : first (selects q) st.routes ≡ none =
           first-at (selects q) st.routes ∙ ap (get_elem? st.routes) (missing-place (selects q) st.routes m) ∙ nothing-from st.routes (length st.routes) (omega arith)
           in
-          rw (on-off true f, ← k, none-there) (request-refused st st h (tells-none a) 3)
+          rw (on-off q h t e true f, ← k, none-there) (request-refused st st h (tells-none a) 3)
 
       pub del_row : (i : ℕ) → position (selects q) st.routes ≡ Some i → {b : Change} → Represents b.state.now (with_routes (remove_at i st.routes) st) → Tells (del_route4 (get_or st.routes i []) ∷ []) a b
           → ComesWhole st (del_route4_request q st) a b (Ok tt)
@@ -55,5 +55,5 @@ module _ (q : Row) {st : State} {a : Change} (h : Represents a.state.now st) (t 
           let rest : remove_at i st.routes ≡ remove_first (selects q) st.routes = unfold remove_at in
           ap (λ (n : ℕ). remove_at n st.routes) p.0 ∙ sym (remove_at_lem (selects q) st.routes)
           in
-          rw (on-off true f, ← k, there)
+          rw (on-off q h t e true f, ← k, there)
           (request-emitted st (with_routes (remove_first (selects q) st.routes) st) (rw rest at after) (del_route4 r) (del_route-long r (sized-at 32 st.routes i p.1 (sized_r h))) told)

@@ -95,15 +95,22 @@ fn add_checked(change: &mut Change<'_>, q: &AddRoute4, t: u32, linked: bool) -> 
 {
     let mut new = [0u32; ROUTE_WORDS];
     request_route::asked_route(q, linked, &mut new);
-    let inserted = step_insert::insert4(change.state, &new, q[add_route4::REQUEST]);
-    if let Err(Refusal::Full) = inserted {
-        return Err(Refusal::Full);
+    match step_insert::insert4(change.state, &new, q[add_route4::REQUEST]) {
+        Ok(told) => {
+            state_tables::list_table(change.state, t);
+            if let Some(flags) = told {
+                change.new_route4(&new, flags);
+            }
+            Ok(())
+        }
+        Err(refusal) => match refusal {
+            Refusal::Full => Err(Refusal::Full),
+            _ => {
+                state_tables::list_table(change.state, t);
+                Err(refusal)
+            }
+        },
     }
-    state_tables::list_table(change.state, t);
-    if let Some(flags) = inserted? {
-        change.new_route4(&new, flags);
-    }
-    Ok(())
 }
 
 // The table is listed whatever comes of it, unless a list has no room.
