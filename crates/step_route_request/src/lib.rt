@@ -15,7 +15,7 @@ ghost use Rattle.request_gateway.specs.Rows.{reached};
 ghost use Rattle.step_events.specs.Comes.{ComesWhole};
 ghost use Rattle.step_route_request.specs.Check.{prefsrc_check, check_all};
 
-use layout::{AddRoute4, DelRoute4, ROUTE_WORDS, TABLE_LIMIT, add_route4, route};
+use layout::{AddRoute4, DelRoute4, TABLE_LIMIT, add_route4, route};
 use refusal::Refusal;
 use step_events::Change;
 
@@ -73,10 +73,7 @@ fn check(s: &[u32], q: &AddRoute4) -> Result<bool, Refusal>
     requires fit { fit_add_route4 q.now ≡ true }
     ensures { (st : State) → Represents s.now st → result ≡ reached (check_all q.now (create4 (table_named q.now) st)) }
 {
-    let number = request_route::form_check(q);
-    if number != 0 {
-        return Err(Refusal::Errno(number));
-    }
+    request_route::form_check(q)?;
     let t = request_route::table_named(q);
     let local = state_tables::listed(s, layout::TABLE_LOCAL) | (layout::TABLE_LOCAL == t);
     let default = state_tables::listed(s, layout::TABLE_DEFAULT) | (layout::TABLE_DEFAULT == t);
@@ -93,8 +90,7 @@ fn add_checked(change: &mut Change<'_>, q: &AddRoute4, t: u32, linked: bool) -> 
     requires in_bounds { 34 * (change.old.told + 1) ≤ length change.old.events.now }
     ensures { (st : State) → Represents change.old.state.now st → fit_state st ≡ true → ComesWhole st (inserted_as (asked_route q.now linked) (insert4 (asked_route q.now linked) (nlm_flags q.now) st.routes) (create4 t st)) change.old change.new result }
 {
-    let mut new = [0u32; ROUTE_WORDS];
-    request_route::asked_route(q, linked, &mut new);
+    let new = request_route::asked_route(q, linked);
     match step_insert::insert4(change.state, &new, q[add_route4::REQUEST]) {
         Ok(told) => {
             state_tables::list_table(change.state, t);
