@@ -10,7 +10,7 @@ ghost use Rattle.layout.specs.Request.{fit_add_v4};
 ghost use Rattle.definition.specs.Reference.Addresses.{same_address, same_subnet, yields, place4, reroutes};
 ghost use Rattle.rows_place.specs.Rows.{fresh_row};
 
-use layout::{ADDRESS_WORDS, AddV4, AddressRow, add_v4, address};
+use layout::{AddV4, AddressRow, add_v4, address};
 use life::Nanoseconds;
 use rows::Addresses;
 
