@@ -44,20 +44,21 @@ pub sound : {k : Checks} {w : List ℕ} → Passed k w → RepresentsFit (base w
 sound {w = w} p = record { state = state_of w; holds = p.holds; fits = p.good.fits }
 
 -- ---- the answer to a result is the answer to an equal one
-answers_as : {x y : Result} {w' ev ev' : List ℕ} {r : Answer ℕ Refusal} → x ≡ y → Answers y w' ev ev' r → Answers x w' ev ev' r
+pub answers_as : {x y : Result} {w' ev ev' : List ℕ} {r : Answer ℕ Refusal} → x ≡ y → Answers y w' ev ev' r → Answers x w' ev ev' r
 answers_as {w' = w'} {ev} {ev'} {r} e a = subst (λ (z : Result). Answers z w' ev ev' r) (sym e) a
 
 module _ (s : Semantics) (w : List ℕ) where
-  answers-err : (ev : List ℕ) {e : Refusal} → (number_of e ≡ checked s.checks w) × (checked s.checks w ≢ 0) → Answers (perform s w) w ev ev (Err e)
-  answers-err ev h = answers_as (call-refused s w refl h.1) (record { refuses = h; says = ap refused_by h.0; words = refl; events = put-no-rows ev })
+  pub answers-exit : {t : Answer ℕ Refusal} (ev : List ℕ) (e : Refusal) → (number_of e ≡ checked s.checks w) × (checked s.checks w ≢ 0) → IsErrAnd t (λ x. x ≡ e) → Answers (perform s w) w ev ev t
+  answers-exit ev e h x =
+      subst (λ (y : Answer ℕ Refusal). Answers (perform s w) w ev ev y) (sym (exit x))
+      (answers_as (call-refused s w refl h.1) (record { refuses = h; says = ap refused_by h.0; words = refl; events = put-no-rows ev }))
 
   pub answers-refused : {B : Type 0} {r : Answer B Refusal} {t : Answer ℕ Refusal} {e : Refusal} (ev : List ℕ) → Refuses r (checked s.checks w) → r ≡ Err e → IsErrAnd t (λ x. x ≡ e)
       → Answers (perform s w) w ev ev t
-  answers-refused ev c f x = subst (λ (y : Answer ℕ Refusal). Answers (perform s w) w ev ev y) (sym (exit x)) (answers-err ev (refuses_some c f))
+  answers-refused {e = e} ev c f x = answers-exit ev e (refuses_some c f) x
 
   pub answers-unsized : {t : Answer ℕ Refusal} {e : Refusal} (ev : List ℕ) → 200 ≡ checked s.checks w → e ≡ WrongLength → IsErrAnd t (λ x. x ≡ e) → Answers (perform s w) w ev ev t
-  answers-unsized ev n h x =
-      subst (λ (y : Answer ℕ Refusal). Answers (perform s w) w ev ev y) (sym (exit x ∙ ap Err h)) (answers-err ev (n, λ z. omega (arith, n, z)))
+  answers-unsized {e = e} ev n h x = answers-exit ev e (ap number_of h ∙ n, λ z. omega (arith, n, z)) x
 
   pub answers-passed : {w' ev ev' : List ℕ} {r : Answer ℕ Refusal} → Passed s.checks w → Answers (acted s.action w) w' ev ev' r → Answers (perform s w) w' ev ev' r
   answers-passed p a = answers_as (call-passed s w p) a

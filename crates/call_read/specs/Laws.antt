@@ -53,13 +53,14 @@ module _ {A : Type 0} {r : Answer A Refusal} {n : ℕ} (h : Refuses r n) where
 pub exit : {A : Type 0} {t : Answer A Refusal} {e : Refusal} → IsErrAnd t (λ x. x ≡ e) → t ≡ Err e
 exit {t = t} h = let y = err_from_is_err_and t h in y.1 ∙ ap Err y.2
 
+-- what passes a test
+pub unless-went : (b : Bool) (e : Refusal) {r : Answer (Unit {0}) Refusal} {a : Unit {0}} → r ≡ Ok a → r ≡ unless b e → b ≡ true
+unless-went true e f g = refl
+unless-went false e {a = a} f g = let h : Ok a ≡ Err e = sym f ∙ g in cc
+
 -- the first check: the words are as many as a state's
-pub unless_passed : (n : ℕ) (b : Bool) (e : Refusal) {r : Answer (Unit {0}) Refusal} {a : Unit {0}} → r ≡ Ok a → r ≡ unless (eqb n state_size && b) e → n ≡ state_size
-unless_passed n b e {a = a} f g = eqb-true n state_size (and_left (eqb n state_size) b (went (eqb n state_size && b) (sym f ∙ g)))
-  where
-    went : (t : Bool) → Ok a ≡ unless t e → t ≡ true
-    went true h = refl
-    went false h = cc
+pub state-long : (n : ℕ) (b : Bool) (e : Refusal) {r : Answer (Unit {0}) Refusal} {a : Unit {0}} → r ≡ Ok a → r ≡ unless (eqb n state_size && b) e → n ≡ state_size
+state-long n b e f g = eqb-true n state_size (and_left (eqb n state_size) b (unless-went (eqb n state_size && b) e f g))
 
 -- what passing them tells: the first words hold the state
 pub record Passed (k : Checks) (w : List ℕ) : Type 0 where

@@ -1,7 +1,7 @@
 // The calls of the host that read a state, on lent words. Each refuses unfit input and then writes nothing.
 #![tactic(auto)]
 
-ghost use Rattle.std.specs.Prelude.{◌≡◌, ◌≢◌, MatchResult, ℕ, [], ◌≤◌, ◌<◌, length, get_or};
+ghost use Rattle.std.specs.Prelude.{◌≡◌, ◌≢◌, MatchResult, IsOk, ℕ, [], ◌≤◌, ◌<◌, length, get_or};
 ghost use Rattle.refusal.specs.Refusal.{Refuses};
 ghost use Rattle.lists.specs.Lists.{flat, put};
 ghost use Rattle.rows_lookup.specs.Flow.{flow_of};
@@ -33,13 +33,14 @@ pub fn chosen(s: Selected) -> Option<u32>
 }
 
 // What every call asks, in order: the lengths of what it is lent, the state with a row handed over, the request.
-pub fn checked(
+pub fn checked<T: Drop>(
     s: &[u32],
     buffers: bool,
     handed: bool,
-    request: Result<(), Refusal>,
-) -> Result<(), Refusal>
-    ensures { (n : ℕ) → Refuses request n → Refuses result (checked (record { buffers = buffers; row = handed; request = n }) s.now) }
+    request: Result<T, Refusal>,
+) -> Result<T, Refusal>
+    ensures refuses { (n : ℕ) → Refuses request n → Refuses result (checked (record { buffers = buffers; row = handed; request = n }) s.now) }
+    ensures passes { IsOk result → result ≡ request }
 {
     refusal::unless((s.len() == STATE_WORDS) & buffers, Refusal::WrongLength)?;
     refusal::unless(

@@ -23,20 +23,20 @@ pub returns-in_err-checked : goal.returns-in_err-checked
 unfolding add_route4_call
 returns-in_err-checked c =
     answers-refused (semantics (Call.add_route4 c.args.q.now c.args.room)) c.args.state.now c.args.events.now
-    (request-checked add_route4_size c.args.q.now c.args.state.now c.in_ok-q.ensures c.checked.result (events_fit c.args.room) (λ q. unless (fit_add_route4 q) 202) (c.checked.ensures _ (request c.asked-fit.result c.asked-fit.ensures (c.fit_add_route4.ensures (long add_route4_size c.args.q.now c.args.state.now c.in_ok-q.ensures))))) c.in_err-checked.was c.from_residual-in_err-checked.ensures.1
+    (request-checked add_route4_size c.args.q.now c.args.state.now c.in_ok-q.ensures c.checked.result (events_fit c.args.room) (λ q. unless (fit_add_route4 q) 202) (c.checked.ensures.refuses _ (request c.asked-fit.result c.asked-fit.ensures (c.fit_add_route4.ensures (long add_route4_size c.args.q.now c.args.state.now c.in_ok-q.ensures))))) c.in_err-checked.was c.from_residual-in_err-checked.ensures.1
 
 pub slice_bounds-add_route4-end-2 : goal.slice_bounds-add_route4-end-2
 slice_bounds-add_route4-end-2 c =
     sym
     (lent
     (passed (semantics (Call.add_route4 c.args.q.now c.args.room)).checks c.args.state.now
-    (request-checked add_route4_size c.args.q.now c.args.state.now c.in_ok-q.ensures c.checked.result (events_fit c.args.room) (λ q. unless (fit_add_route4 q) 202) (c.checked.ensures _ (request c.asked-fit.result c.asked-fit.ensures (c.fit_add_route4.ensures (long add_route4_size c.args.q.now c.args.state.now c.in_ok-q.ensures))))) c.in_ok-checked.was))
+    (request-checked add_route4_size c.args.q.now c.args.state.now c.in_ok-q.ensures c.checked.result (events_fit c.args.room) (λ q. unless (fit_add_route4 q) 202) (c.checked.ensures.refuses _ (request c.asked-fit.result c.asked-fit.ensures (c.fit_add_route4.ensures (long add_route4_size c.args.q.now c.args.state.now c.in_ok-q.ensures))))) c.in_ok-checked.was))
 
 pub add_route4-requires-clause-represents_fit : goal.add_route4-requires-clause-represents_fit
 add_route4-requires-clause-represents_fit c =
     let p =
     passed (semantics (Call.add_route4 c.args.q.now c.args.room)).checks c.args.state.now
-    (request-checked add_route4_size c.args.q.now c.args.state.now c.in_ok-q.ensures c.checked.result (events_fit c.args.room) (λ q. unless (fit_add_route4 q) 202) (c.checked.ensures _ (request c.asked-fit.result c.asked-fit.ensures (c.fit_add_route4.ensures (long add_route4_size c.args.q.now c.args.state.now c.in_ok-q.ensures))))) c.in_ok-checked.was
+    (request-checked add_route4_size c.args.q.now c.args.state.now c.in_ok-q.ensures c.checked.result (events_fit c.args.room) (λ q. unless (fit_add_route4 q) 202) (c.checked.ensures.refuses _ (request c.asked-fit.result c.asked-fit.ensures (c.fit_add_route4.ensures (long add_route4_size c.args.q.now c.args.state.now c.in_ok-q.ensures))))) c.in_ok-checked.was
     in
     sound p
 
@@ -44,7 +44,7 @@ pub add_route4-requires-clause-in_bounds : goal.add_route4-requires-clause-in_bo
 add_route4-requires-clause-in_bounds c =
     let p =
     passed (semantics (Call.add_route4 c.args.q.now c.args.room)).checks c.args.state.now
-    (request-checked add_route4_size c.args.q.now c.args.state.now c.in_ok-q.ensures c.checked.result (events_fit c.args.room) (λ q. unless (fit_add_route4 q) 202) (c.checked.ensures _ (request c.asked-fit.result c.asked-fit.ensures (c.fit_add_route4.ensures (long add_route4_size c.args.q.now c.args.state.now c.in_ok-q.ensures))))) c.in_ok-checked.was
+    (request-checked add_route4_size c.args.q.now c.args.state.now c.in_ok-q.ensures c.checked.result (events_fit c.args.room) (λ q. unless (fit_add_route4 q) 202) (c.checked.ensures.refuses _ (request c.asked-fit.result c.asked-fit.ensures (c.fit_add_route4.ensures (long add_route4_size c.args.q.now c.args.state.now c.in_ok-q.ensures))))) c.in_ok-checked.was
     in
     omega (arith, c.requires (room add_route4_size c.args.q.now c.args.room p.room))
 
@@ -53,7 +53,7 @@ unfolding add_route4_call
 returns c =
     let p =
     passed (semantics (Call.add_route4 c.args.q.now c.args.room)).checks c.args.state.now
-    (request-checked add_route4_size c.args.q.now c.args.state.now c.in_ok-q.ensures c.checked.result (events_fit c.args.room) (λ q. unless (fit_add_route4 q) 202) (c.checked.ensures _ (request c.asked-fit.result c.asked-fit.ensures (c.fit_add_route4.ensures (long add_route4_size c.args.q.now c.args.state.now c.in_ok-q.ensures))))) c.in_ok-checked.was
+    (request-checked add_route4_size c.args.q.now c.args.state.now c.in_ok-q.ensures c.checked.result (events_fit c.args.room) (λ q. unless (fit_add_route4 q) 202) (c.checked.ensures.refuses _ (request c.asked-fit.result c.asked-fit.ensures (c.fit_add_route4.ensures (long add_route4_size c.args.q.now c.args.state.now c.in_ok-q.ensures))))) c.in_ok-checked.was
     in
     answers-passed (semantics (Call.add_route4 c.args.q.now c.args.room)) c.args.state.now p
     (request-answers p (λ q. add_route4 q (state_of c.args.state.now)) c.in_ok-q.ensures.0 (added-number insert4 insert_number c.args.q.now (state_of c.args.state.now) (unless-passed (fit_add_route4 c.args.q.now) p.fit))

@@ -21,20 +21,20 @@ pub returns-in_err-checked : goal.returns-in_err-checked
 unfolding add_v4_call
 returns-in_err-checked c =
     answers-refused (semantics (Call.add_v4 c.args.q.now (length c.args.events.now) c.args.clock)) c.args.state.now c.args.events.now
-    (request-checked add_v4_size c.args.q.now c.args.state.now c.in_ok-q.ensures c.checked.result (events_fit (length c.args.events.now)) add_v4_refusal (c.checked.ensures _ (request c.asked-fit.result c.asked-fit.ensures (c.fit_add_v4.ensures (long add_v4_size c.args.q.now c.args.state.now c.in_ok-q.ensures))))) c.in_err-checked.was c.from_residual-in_err-checked.ensures.1
+    (request-checked add_v4_size c.args.q.now c.args.state.now c.in_ok-q.ensures c.checked.result (events_fit (length c.args.events.now)) add_v4_refusal (c.checked.ensures.refuses _ (request c.asked-fit.result c.asked-fit.ensures (c.fit_add_v4.ensures (long add_v4_size c.args.q.now c.args.state.now c.in_ok-q.ensures))))) c.in_err-checked.was c.from_residual-in_err-checked.ensures.1
 
 pub slice_bounds-add_v4-end-2 : goal.slice_bounds-add_v4-end-2
 slice_bounds-add_v4-end-2 c =
     sym
     (lent
     (passed (semantics (Call.add_v4 c.args.q.now (length c.args.events.now) c.args.clock)).checks c.args.state.now
-    (request-checked add_v4_size c.args.q.now c.args.state.now c.in_ok-q.ensures c.checked.result (events_fit (length c.args.events.now)) add_v4_refusal (c.checked.ensures _ (request c.asked-fit.result c.asked-fit.ensures (c.fit_add_v4.ensures (long add_v4_size c.args.q.now c.args.state.now c.in_ok-q.ensures))))) c.in_ok-checked.was))
+    (request-checked add_v4_size c.args.q.now c.args.state.now c.in_ok-q.ensures c.checked.result (events_fit (length c.args.events.now)) add_v4_refusal (c.checked.ensures.refuses _ (request c.asked-fit.result c.asked-fit.ensures (c.fit_add_v4.ensures (long add_v4_size c.args.q.now c.args.state.now c.in_ok-q.ensures))))) c.in_ok-checked.was))
 
 pub add_v4-requires-clause-represents_fit : goal.add_v4-requires-clause-represents_fit
 add_v4-requires-clause-represents_fit c =
     let p =
     passed (semantics (Call.add_v4 c.args.q.now (length c.args.events.now) c.args.clock)).checks c.args.state.now
-    (request-checked add_v4_size c.args.q.now c.args.state.now c.in_ok-q.ensures c.checked.result (events_fit (length c.args.events.now)) add_v4_refusal (c.checked.ensures _ (request c.asked-fit.result c.asked-fit.ensures (c.fit_add_v4.ensures (long add_v4_size c.args.q.now c.args.state.now c.in_ok-q.ensures))))) c.in_ok-checked.was
+    (request-checked add_v4_size c.args.q.now c.args.state.now c.in_ok-q.ensures c.checked.result (events_fit (length c.args.events.now)) add_v4_refusal (c.checked.ensures.refuses _ (request c.asked-fit.result c.asked-fit.ensures (c.fit_add_v4.ensures (long add_v4_size c.args.q.now c.args.state.now c.in_ok-q.ensures))))) c.in_ok-checked.was
     in
     sound p
 
@@ -43,7 +43,7 @@ unfolding add_v4_call
 returns c =
     let p =
     passed (semantics (Call.add_v4 c.args.q.now (length c.args.events.now) c.args.clock)).checks c.args.state.now
-    (request-checked add_v4_size c.args.q.now c.args.state.now c.in_ok-q.ensures c.checked.result (events_fit (length c.args.events.now)) add_v4_refusal (c.checked.ensures _ (request c.asked-fit.result c.asked-fit.ensures (c.fit_add_v4.ensures (long add_v4_size c.args.q.now c.args.state.now c.in_ok-q.ensures))))) c.in_ok-checked.was
+    (request-checked add_v4_size c.args.q.now c.args.state.now c.in_ok-q.ensures c.checked.result (events_fit (length c.args.events.now)) add_v4_refusal (c.checked.ensures.refuses _ (request c.asked-fit.result c.asked-fit.ensures (c.fit_add_v4.ensures (long add_v4_size c.args.q.now c.args.state.now c.in_ok-q.ensures))))) c.in_ok-checked.was
     in
     answers-passed (semantics (Call.add_v4 c.args.q.now (length c.args.events.now) c.args.clock)) c.args.state.now p
     (request-answers p (λ q. add_v4 q c.args.clock (state_of c.args.state.now)) c.in_ok-q.ensures.0 (add_v4-number c.args.q.now c.args.clock (state_of c.args.state.now))

@@ -22,20 +22,20 @@ pub returns-in_err-checked : goal.returns-in_err-checked
 unfolding del_route4_call
 returns-in_err-checked c =
     answers-refused (semantics (Call.del_route4 c.args.q.now c.args.room)) c.args.state.now c.args.events.now
-    (request-checked del_route4_size c.args.q.now c.args.state.now c.in_ok-q.ensures c.checked.result (events_fit c.args.room) (λ q. unless (fit_del_route4 q) 202) (c.checked.ensures _ (request c.asked-fit.result c.asked-fit.ensures (c.fit_del_route4.ensures (long del_route4_size c.args.q.now c.args.state.now c.in_ok-q.ensures))))) c.in_err-checked.was c.from_residual-in_err-checked.ensures.1
+    (request-checked del_route4_size c.args.q.now c.args.state.now c.in_ok-q.ensures c.checked.result (events_fit c.args.room) (λ q. unless (fit_del_route4 q) 202) (c.checked.ensures.refuses _ (request c.asked-fit.result c.asked-fit.ensures (c.fit_del_route4.ensures (long del_route4_size c.args.q.now c.args.state.now c.in_ok-q.ensures))))) c.in_err-checked.was c.from_residual-in_err-checked.ensures.1
 
 pub slice_bounds-del_route4-end-2 : goal.slice_bounds-del_route4-end-2
 slice_bounds-del_route4-end-2 c =
     sym
     (lent
     (passed (semantics (Call.del_route4 c.args.q.now c.args.room)).checks c.args.state.now
-    (request-checked del_route4_size c.args.q.now c.args.state.now c.in_ok-q.ensures c.checked.result (events_fit c.args.room) (λ q. unless (fit_del_route4 q) 202) (c.checked.ensures _ (request c.asked-fit.result c.asked-fit.ensures (c.fit_del_route4.ensures (long del_route4_size c.args.q.now c.args.state.now c.in_ok-q.ensures))))) c.in_ok-checked.was))
+    (request-checked del_route4_size c.args.q.now c.args.state.now c.in_ok-q.ensures c.checked.result (events_fit c.args.room) (λ q. unless (fit_del_route4 q) 202) (c.checked.ensures.refuses _ (request c.asked-fit.result c.asked-fit.ensures (c.fit_del_route4.ensures (long del_route4_size c.args.q.now c.args.state.now c.in_ok-q.ensures))))) c.in_ok-checked.was))
 
 pub del_route4-requires-clause-represents_some : goal.del_route4-requires-clause-represents_some
 del_route4-requires-clause-represents_some c =
     let p =
     passed (semantics (Call.del_route4 c.args.q.now c.args.room)).checks c.args.state.now
-    (request-checked del_route4_size c.args.q.now c.args.state.now c.in_ok-q.ensures c.checked.result (events_fit c.args.room) (λ q. unless (fit_del_route4 q) 202) (c.checked.ensures _ (request c.asked-fit.result c.asked-fit.ensures (c.fit_del_route4.ensures (long del_route4_size c.args.q.now c.args.state.now c.in_ok-q.ensures))))) c.in_ok-checked.was
+    (request-checked del_route4_size c.args.q.now c.args.state.now c.in_ok-q.ensures c.checked.result (events_fit c.args.room) (λ q. unless (fit_del_route4 q) 202) (c.checked.ensures.refuses _ (request c.asked-fit.result c.asked-fit.ensures (c.fit_del_route4.ensures (long del_route4_size c.args.q.now c.args.state.now c.in_ok-q.ensures))))) c.in_ok-checked.was
     in
     fit-some (sound p)
 
@@ -43,7 +43,7 @@ pub del_route4-requires-clause-in_bounds : goal.del_route4-requires-clause-in_bo
 del_route4-requires-clause-in_bounds c =
     let p =
     passed (semantics (Call.del_route4 c.args.q.now c.args.room)).checks c.args.state.now
-    (request-checked del_route4_size c.args.q.now c.args.state.now c.in_ok-q.ensures c.checked.result (events_fit c.args.room) (λ q. unless (fit_del_route4 q) 202) (c.checked.ensures _ (request c.asked-fit.result c.asked-fit.ensures (c.fit_del_route4.ensures (long del_route4_size c.args.q.now c.args.state.now c.in_ok-q.ensures))))) c.in_ok-checked.was
+    (request-checked del_route4_size c.args.q.now c.args.state.now c.in_ok-q.ensures c.checked.result (events_fit c.args.room) (λ q. unless (fit_del_route4 q) 202) (c.checked.ensures.refuses _ (request c.asked-fit.result c.asked-fit.ensures (c.fit_del_route4.ensures (long del_route4_size c.args.q.now c.args.state.now c.in_ok-q.ensures))))) c.in_ok-checked.was
     in
     omega (arith, c.requires (room del_route4_size c.args.q.now c.args.room p.room))
 
@@ -52,7 +52,7 @@ unfolding del_route4_call
 returns c =
     let p =
     passed (semantics (Call.del_route4 c.args.q.now c.args.room)).checks c.args.state.now
-    (request-checked del_route4_size c.args.q.now c.args.state.now c.in_ok-q.ensures c.checked.result (events_fit c.args.room) (λ q. unless (fit_del_route4 q) 202) (c.checked.ensures _ (request c.asked-fit.result c.asked-fit.ensures (c.fit_del_route4.ensures (long del_route4_size c.args.q.now c.args.state.now c.in_ok-q.ensures))))) c.in_ok-checked.was
+    (request-checked del_route4_size c.args.q.now c.args.state.now c.in_ok-q.ensures c.checked.result (events_fit c.args.room) (λ q. unless (fit_del_route4 q) 202) (c.checked.ensures.refuses _ (request c.asked-fit.result c.asked-fit.ensures (c.fit_del_route4.ensures (long del_route4_size c.args.q.now c.args.state.now c.in_ok-q.ensures))))) c.in_ok-checked.was
     in
     answers-passed (semantics (Call.del_route4 c.args.q.now c.args.room)) c.args.state.now p
     (request-answers p (λ q. del_route4_request q (state_of c.args.state.now)) c.in_ok-q.ensures.0 (del_route4-number c.args.q.now (state_of c.args.state.now))

@@ -21,20 +21,20 @@ pub returns-in_err-checked : goal.returns-in_err-checked
 unfolding del_v4_call
 returns-in_err-checked c =
     answers-refused (semantics (Call.del_v4 c.args.q.now (length c.args.events.now))) c.args.state.now c.args.events.now
-    (request-checked del_v4_size c.args.q.now c.args.state.now c.in_ok-q.ensures c.checked.result (events_fit (length c.args.events.now)) (λ q. unless (fit_del_v4 q) 202) (c.checked.ensures _ (request c.asked-fit.result c.asked-fit.ensures (c.fit_del_v4.ensures (long del_v4_size c.args.q.now c.args.state.now c.in_ok-q.ensures))))) c.in_err-checked.was c.from_residual-in_err-checked.ensures.1
+    (request-checked del_v4_size c.args.q.now c.args.state.now c.in_ok-q.ensures c.checked.result (events_fit (length c.args.events.now)) (λ q. unless (fit_del_v4 q) 202) (c.checked.ensures.refuses _ (request c.asked-fit.result c.asked-fit.ensures (c.fit_del_v4.ensures (long del_v4_size c.args.q.now c.args.state.now c.in_ok-q.ensures))))) c.in_err-checked.was c.from_residual-in_err-checked.ensures.1
 
 pub slice_bounds-del_v4-end-2 : goal.slice_bounds-del_v4-end-2
 slice_bounds-del_v4-end-2 c =
     sym
     (lent
     (passed (semantics (Call.del_v4 c.args.q.now (length c.args.events.now))).checks c.args.state.now
-    (request-checked del_v4_size c.args.q.now c.args.state.now c.in_ok-q.ensures c.checked.result (events_fit (length c.args.events.now)) (λ q. unless (fit_del_v4 q) 202) (c.checked.ensures _ (request c.asked-fit.result c.asked-fit.ensures (c.fit_del_v4.ensures (long del_v4_size c.args.q.now c.args.state.now c.in_ok-q.ensures))))) c.in_ok-checked.was))
+    (request-checked del_v4_size c.args.q.now c.args.state.now c.in_ok-q.ensures c.checked.result (events_fit (length c.args.events.now)) (λ q. unless (fit_del_v4 q) 202) (c.checked.ensures.refuses _ (request c.asked-fit.result c.asked-fit.ensures (c.fit_del_v4.ensures (long del_v4_size c.args.q.now c.args.state.now c.in_ok-q.ensures))))) c.in_ok-checked.was))
 
 pub del_v4-requires-clause-some_room : goal.del_v4-requires-clause-some_room
 del_v4-requires-clause-some_room c =
     let p =
     passed (semantics (Call.del_v4 c.args.q.now (length c.args.events.now))).checks c.args.state.now
-    (request-checked del_v4_size c.args.q.now c.args.state.now c.in_ok-q.ensures c.checked.result (events_fit (length c.args.events.now)) (λ q. unless (fit_del_v4 q) 202) (c.checked.ensures _ (request c.asked-fit.result c.asked-fit.ensures (c.fit_del_v4.ensures (long del_v4_size c.args.q.now c.args.state.now c.in_ok-q.ensures))))) c.in_ok-checked.was
+    (request-checked del_v4_size c.args.q.now c.args.state.now c.in_ok-q.ensures c.checked.result (events_fit (length c.args.events.now)) (λ q. unless (fit_del_v4 q) 202) (c.checked.ensures.refuses _ (request c.asked-fit.result c.asked-fit.ensures (c.fit_del_v4.ensures (long del_v4_size c.args.q.now c.args.state.now c.in_ok-q.ensures))))) c.in_ok-checked.was
     in
     record { state = state_of c.args.state.now; fits = fitting p (room del_v4_size c.args.q.now (length c.args.events.now) p.room) }
 
@@ -43,7 +43,7 @@ unfolding del_v4_call
 returns c =
     let p =
     passed (semantics (Call.del_v4 c.args.q.now (length c.args.events.now))).checks c.args.state.now
-    (request-checked del_v4_size c.args.q.now c.args.state.now c.in_ok-q.ensures c.checked.result (events_fit (length c.args.events.now)) (λ q. unless (fit_del_v4 q) 202) (c.checked.ensures _ (request c.asked-fit.result c.asked-fit.ensures (c.fit_del_v4.ensures (long del_v4_size c.args.q.now c.args.state.now c.in_ok-q.ensures))))) c.in_ok-checked.was
+    (request-checked del_v4_size c.args.q.now c.args.state.now c.in_ok-q.ensures c.checked.result (events_fit (length c.args.events.now)) (λ q. unless (fit_del_v4 q) 202) (c.checked.ensures.refuses _ (request c.asked-fit.result c.asked-fit.ensures (c.fit_del_v4.ensures (long del_v4_size c.args.q.now c.args.state.now c.in_ok-q.ensures))))) c.in_ok-checked.was
     in
     answers-passed (semantics (Call.del_v4 c.args.q.now (length c.args.events.now))) c.args.state.now p
     (request-answers p (λ q. del_v4 q (state_of c.args.state.now)) c.in_ok-q.ensures.0 (del_v4-number c.args.q.now (state_of c.args.state.now))

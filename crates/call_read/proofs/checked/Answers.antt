@@ -4,12 +4,12 @@ use Rattle.lists.specs.Bools.{and_left}
 use Rattle.definition.specs.Words.{state_size}
 use Rattle.definition.proofs.Preservation.Step.{base-long}
 use Rattle.refusal.specs.declared.Refusal.TheVariants.{WrongLength}
-use Rattle.call_read.specs.Laws.{unless_passed}
+use Rattle.call_read.specs.Laws.{state-long}
 use Rattle.call_read.proofs.checked.Goals as goal
 
 pub slice_bounds-well_formed-end : goal.slice_bounds-well_formed-end
-slice_bounds-well_formed-end c =
-    sym (base-long c.args.s.now (unless_passed (length c.args.s.now) c.args.buffers WrongLength c.in_ok-unless.was c.unless.ensures))
+slice_bounds-well_formed-end g c =
+    sym (base-long c.args.s.now (state-long (length c.args.s.now) c.args.buffers WrongLength c.in_ok-unless.was c.unless.ensures))
 
 pub well_formed-requires : goal.well_formed-requires
-well_formed-requires c = base-long c.args.s.now (unless_passed (length c.args.s.now) c.args.buffers WrongLength c.in_ok-unless.was c.unless.ensures)
+well_formed-requires g c = base-long c.args.s.now (state-long (length c.args.s.now) c.args.buffers WrongLength c.in_ok-unless.was c.unless.ensures)

@@ -10,20 +10,20 @@ use Rattle.call_read.proofs.dump4.Goals as goal
 pub returns-in_err-checked : goal.returns-in_err-checked
 unfolding dump4_call
 returns-in_err-checked c =
-    writes_refused (semantics (Call.dump4 (length c.args.listing.now))) c.args.state.now c.args.listing.now (c.checked.ensures 0 refl) c.in_err-checked.was c.from_residual.ensures.1
+    writes_refused (semantics (Call.dump4 (length c.args.listing.now))) c.args.state.now c.args.listing.now (c.checked.ensures.refuses 0 refl) c.in_err-checked.was c.from_residual.ensures.1
 
 pub slice_bounds-list-end : goal.slice_bounds-list-end
 slice_bounds-list-end c =
-    sym (lent (passed (semantics (Call.dump4 (length c.args.listing.now))).checks c.args.state.now (c.checked.ensures 0 refl) c.in_ok-checked.was))
+    sym (lent (passed (semantics (Call.dump4 (length c.args.listing.now))).checks c.args.state.now (c.checked.ensures.refuses 0 refl) c.in_ok-checked.was))
 
 pub list-requires : goal.list-requires
 list-requires c =
-    let p = passed (semantics (Call.dump4 (length c.args.listing.now))).checks c.args.state.now (c.checked.ensures 0 refl) c.in_ok-checked.was in
+    let p = passed (semantics (Call.dump4 (length c.args.listing.now))).checks c.args.state.now (c.checked.ensures.refuses 0 refl) c.in_ok-checked.was in
     (lent p, p.well, leb-true listing_room (length c.args.listing.now) p.room)
 
 pub returns : goal.returns
 unfolding dump4_call
 returns c =
     let call = semantics (Call.dump4 (length c.args.listing.now)) in
-    let p = passed call.checks c.args.state.now (c.checked.ensures 0 refl) c.in_ok-checked.was in
+    let p = passed call.checks c.args.state.now (c.checked.ensures.refuses 0 refl) c.in_ok-checked.was in
     writes_passed call c.args.state.now p (listed_answer (dump4 (state_of c.args.state.now)) c.list.ensures.value c.list.ensures.listing_after)

@@ -11,20 +11,20 @@ use Rattle.call_read.proofs.source4.Goals as goal
 pub returns-in_err-checked : goal.returns-in_err-checked
 unfolding source4_call
 returns-in_err-checked c =
-    says-refused (semantics (Call.source4 c.args.row.now c.args.ip)) c.args.state.now (row-checked c.checked.result (fit_route c.args.row.now) c.args.state.now c.fit_route.ensures (c.checked.ensures 0 refl)) c.in_err-checked.was c.from_residual.ensures.1
+    says-refused (semantics (Call.source4 c.args.row.now c.args.ip)) c.args.state.now (row-checked c.checked.result (fit_route c.args.row.now) c.args.state.now c.fit_route.ensures (c.checked.ensures.refuses 0 refl)) c.in_err-checked.was c.from_residual.ensures.1
 
 pub slice_bounds-source4-end : goal.slice_bounds-source4-end
 slice_bounds-source4-end c =
-    sym (lent (passed (semantics (Call.source4 c.args.row.now c.args.ip)).checks c.args.state.now (row-checked c.checked.result (fit_route c.args.row.now) c.args.state.now c.fit_route.ensures (c.checked.ensures 0 refl)) c.in_ok-checked.was))
+    sym (lent (passed (semantics (Call.source4 c.args.row.now c.args.ip)).checks c.args.state.now (row-checked c.checked.result (fit_route c.args.row.now) c.args.state.now c.fit_route.ensures (c.checked.ensures.refuses 0 refl)) c.in_ok-checked.was))
 
 pub source4-requires : goal.source4-requires
 source4-requires c =
-    let p = passed (semantics (Call.source4 c.args.row.now c.args.ip)).checks c.args.state.now (row-checked c.checked.result (fit_route c.args.row.now) c.args.state.now c.fit_route.ensures (c.checked.ensures 0 refl)) c.in_ok-checked.was in
+    let p = passed (semantics (Call.source4 c.args.row.now c.args.ip)).checks c.args.state.now (row-checked c.checked.result (fit_route c.args.row.now) c.args.state.now c.fit_route.ensures (c.checked.ensures.refuses 0 refl)) c.in_ok-checked.was in
     (valid p, length-route c.args.row.now p.handed)
 
 pub returns : goal.returns
 unfolding source4_call
 returns c =
     let call = semantics (Call.source4 c.args.row.now c.args.ip) in
-    let p = passed call.checks c.args.state.now (row-checked c.checked.result (fit_route c.args.row.now) c.args.state.now c.fit_route.ensures (c.checked.ensures 0 refl)) c.in_ok-checked.was in
+    let p = passed call.checks c.args.state.now (row-checked c.checked.result (fit_route c.args.row.now) c.args.state.now c.fit_route.ensures (c.checked.ensures.refuses 0 refl)) c.in_ok-checked.was in
     says-passed call c.args.state.now p (optional-answer c.source4.result _ c.chosen.ensures (c.source4.ensures (state_of c.args.state.now) p.holds))
