@@ -18,12 +18,11 @@ use Rattle.definition.proofs.Preservation.Numbers.{Numbered}
 use Rattle.state.specs.Represents.{Represents}
 use Rattle.step_events.specs.EmitsWithin.{RoomFor, EmitsWithin}
 use Rattle.step_events.specs.Comes.{Comes, ComesWhole, made}
-use Rattle.step_events.specs.declared.Done as Step
 use Rattle.call_read.specs.Laws.{Passed}
 use Rattle.refusal.specs.declared.Refusal.{Refusal}
 use Rattle.refusal.specs.declared.Refusal.TheVariants.{Errno, Full}
 use Rattle.call_read.specs.Answer.{valuing}
-use Rattle.call_change.specs.Answer.{Answers, of_done}
+use Rattle.call_change.specs.Answer.{Answers}
 use Rattle.call_change.specs.Laws.{answers-made, answers-full}
 
 -- ---- room for what a step may emit: 384 rows suffice
@@ -46,25 +45,24 @@ unfolding down
 down_answers w ev p h = answers-made (goes (down (state_of w))) w (down-roomy (state_of w) p.good) h.words refl refl (put-no-rows ev)
 
 -- ---- a step that may be refused, or find a list full: then it has left the words and the buffer
-module _ {k : Checks} {w v ev ev' : List ℕ} {d : Step.Done} {r : Answer ℕ Refusal} (p : Passed k w) where
-  made-answers : (o : Outcome) → Numbered o → Comes o v ev ev' d → r ≡ of_done d → roomy o ≡ true → Answers (outcome o w) (v ++ drop base_size w) ev ev' r
-  made-answers (goes o) m c e h =
+module _ {k : Checks} {w v ev ev' : List ℕ} {d : Answer ℕ Refusal} (p : Passed k w) where
+  made-answers : (o : Outcome) → Numbered o → Comes o v ev ev' d → roomy o ≡ true → Answers (outcome o w) (v ++ drop base_size w) ev ev' d
+  made-answers (goes o) m c h =
       let s = c.does h in
-      let says : r ≡ Ok (length o.emitted) = e ∙ ap of_done (c.answer ∙ cond-true (within o.peak) (made (goes o)) Step.TheVariants.Full h) in
+      let says : d ≡ Ok (length o.emitted) = c.answer ∙ cond-true (within o.peak) (made (goes o)) (Err Full) h in
       rw says (answers-made (goes o) w h s.holds.words refl refl s.words)
-  made-answers (refused n st) m c e h =
+  made-answers (refused n st) m c h =
       let s = c.does h in
-      let says : r ≡ Err (Errno n) = e ∙ ap of_done (c.answer ∙ cond-true (within (sizes st)) (made (refused n st)) Step.TheVariants.Full h) in
+      let says : d ≡ Err (Errno n) = c.answer ∙ cond-true (within (sizes st)) (made (refused n st)) (Err Full) h in
       rw says (answers-made (refused n st) w h s.holds.words (refl, λ z. omega (arith, m.positive)) refl s.words)
 
-  pub whole-answers : (o : Outcome) → Numbered o → ComesWhole (state_of w) o v ev ev' d → r ≡ of_done d → Answers (outcome o w) (v ++ drop base_size w) ev ev' r
-  whole-answers o m t e =
-      test-case (roomy o) (made-answers o m t.comes e)
+  pub whole-answers : (o : Outcome) → Numbered o → ComesWhole (state_of w) o v ev ev' d → Answers (outcome o w) (v ++ drop base_size w) ev ev' d
+  whole-answers o m t =
+      test-case (roomy o) (made-answers o m t.comes)
       (λ h.
       let s = t.kept h in
-      answers-full o w h (s.holds.words ∙ sym p.holds.words) (e ∙ ap of_done (t.comes.answer ∙ cond-false (roomy o) (made o) Step.TheVariants.Full h)) s.words)
+      answers-full o w h (s.holds.words ∙ sym p.holds.words) (t.comes.answer ∙ cond-false (roomy o) (made o) (Err Full) h) s.words)
 
   -- the same of a request that was taken by its words
-  pub request-answers : {q l : Row} (o : Row → Outcome) → l ≡ q → Numbered (o q) → ComesWhole (state_of w) (o l) v ev ev' d → r ≡ of_done d
-      → Answers (outcome (o q) w) (v ++ drop base_size w) ev ev' r
-  request-answers {q} o same m t e = whole-answers (o q) m (subst (λ (x : Row). ComesWhole (state_of w) (o x) v ev ev' d) same t) e
+  pub request-answers : {q l : Row} (o : Row → Outcome) → l ≡ q → Numbered (o q) → ComesWhole (state_of w) (o l) v ev ev' d → Answers (outcome (o q) w) (v ++ drop base_size w) ev ev' d
+  request-answers {q} o same m t = whole-answers (o q) m (subst (λ (x : Row). ComesWhole (state_of w) (o x) v ev ev' d) same t)

@@ -5,29 +5,18 @@
 ghost use Rattle.std.specs.Prelude.{◌≡◌, ◌≤◌, length};
 ghost use Rattle.layout.specs.Event as Event;
 ghost use Rattle.definition.specs.Step.{event_room, up_call, down_call, add_v4_call, del_v4_call, expire_call, add_route4_call, del_route4_call};
-ghost use Rattle.call_change.specs.Answer.{Answers, of_done};
+ghost use Rattle.call_change.specs.Answer.{Answers};
 
 use layout::{AddRoute4, AddV4, BASE_WORDS, DelRoute4, DelV4, EVENT_BUFFER};
 use life::Nanoseconds;
 use refusal::Refusal;
-
-// What a step comes to as an answer.
-fn of_done(d: step_events::Done) -> Result<usize, Refusal>
-    ensures { result ≡ of_done d }
-{
-    match d {
-        step_events::Done::Rows(n) => Ok(n),
-        step_events::Done::Refused(n) => Err(Refusal::Errno(n)),
-        step_events::Done::Full => Err(Refusal::Full),
-    }
-}
 
 // The device goes up: 127.0.0.1 if it isn't there, then the routes of every address.
 pub fn up(state: &mut [u32], events: &mut [u32], clock: u64) -> Result<usize, Refusal>
     ensures { Answers (up_call (length events.old) clock state.old) state.new events.old events.new result }
 {
     call_read::checked(state, EVENT_BUFFER <= events.len(), true, Ok(()))?;
-    of_done(step_add_v4_atomic::up(&mut state[..BASE_WORDS], events, Nanoseconds(clock)))
+    step_add_v4_atomic::up(&mut state[..BASE_WORDS], events, Nanoseconds(clock))
 }
 
 // The device goes down. It emits nothing.
@@ -76,7 +65,7 @@ pub fn add_v4(
     let q: &AddV4 = call_read::sized(q)?;
     let fit = call_read::asked(request_fit::fit_add_v4(q));
     call_read::checked(state, EVENT_BUFFER <= events.len(), true, fit)?;
-    of_done(step_add_v4_atomic::add_v4(&mut state[..BASE_WORDS], events, q, Nanoseconds(clock)))
+    step_add_v4_atomic::add_v4(&mut state[..BASE_WORDS], events, q, Nanoseconds(clock))
 }
 
 // The first address that meets the conditions goes, with what goes with it.
@@ -86,7 +75,7 @@ pub fn del_v4(state: &mut [u32], q: &[u32], events: &mut [u32]) -> Result<usize,
     let q: &DelV4 = call_read::sized(q)?;
     let fit = call_read::asked(request_fit::fit_del_v4(q));
     call_read::checked(state, EVENT_BUFFER <= events.len(), true, fit)?;
-    of_done(step_del_v4::del_v4(&mut state[..BASE_WORDS], events, q))
+    step_del_v4::del_v4(&mut state[..BASE_WORDS], events, q)
 }
 
 // A route is put in, or replaces one. A refusal by the reference may leave its table listed.
@@ -109,7 +98,7 @@ pub fn add_route4_lent(
     let q: &AddRoute4 = call_read::sized(q)?;
     let fit = call_read::asked(request_fit::fit_add_route4(q));
     call_read::checked(state, EVENT_BUFFER <= room, true, fit)?;
-    of_done(step_route_request::add_route4(&mut state[..BASE_WORDS], events, q))
+    step_route_request::add_route4(&mut state[..BASE_WORDS], events, q)
 }
 
 // The first route that matches goes.
@@ -132,5 +121,5 @@ pub fn del_route4_lent(
     let q: &DelRoute4 = call_read::sized(q)?;
     let fit = call_read::asked(request_fit::fit_del_route4(q));
     call_read::checked(state, EVENT_BUFFER <= room, true, fit)?;
-    of_done(step_route_request::del_route4(&mut state[..BASE_WORDS], events, q))
+    step_route_request::del_route4(&mut state[..BASE_WORDS], events, q)
 }

@@ -4,6 +4,7 @@ pub mod All
 pub mod Rows
 pub mod Chop
 pub mod Place
+pub mod Library
 pub mod Parts
 pub mod Laid
 pub mod Pass

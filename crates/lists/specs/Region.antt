@@ -9,7 +9,7 @@ use Rattle.std.proofs.Math.Nat.{mul-suc}
 use native.Mathlib.Omega.{arith}
 use Rattle.std.proofs.Math.ListN.{length, get_or, drop, length-append}
 use Rattle.std.proofs.lemmas.List.{set_split}
-use Rattle.lists.specs.Lists.{Row, all, flat, zeros, pad, span, put}
+use Rattle.lists.specs.Lists.{Row, flat, zeros, pad, span, put}
 use Rattle.lists.specs.Rows.{sized, length-flat, length-zeros, zeros_append}
 use Rattle.lists.specs.Put.{put-at, span-at}
 use Rattle.lists.specs.At.{insert_at, remove_at, flat_append, flat_cons, sized-at, length-flat-take, length-flat-drop, flat-cut, flat-cut-at}

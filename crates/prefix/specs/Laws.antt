@@ -24,12 +24,13 @@ not-mask p =
     let h : 32 - p ≤ 32 = omega arith in
     omega (arith, pow_pos (32 - p), pow_mono h)
 
-pub network_and : (a p : ℕ) → a < 2 ^ 32 → p ≤ 32 → network a p ≡ bit_and a (mask p)
+pub network_and : (a p : ℕ) → a < 2 ^ 32 → network a p ≡ bit_and a (mask p)
 unfolding network mask
-network_and a p ha hp =
-    let whole : p + (32 - p) ≡ 32 = omega arith in
-    let fits : a < 2 ^ (p + (32 - p)) = rw whole ha in
-    sym (rw whole at (and_high a p (32 - p)) ∙ ap (λ (x : ℕ). x * 2 ^ (32 - p)) (shr_mod p (32 - p) fits))
+network_and a p ha =
+    let ones = 32 - (32 - p) in
+    let whole : ones + (32 - p) ≡ 32 = omega arith in
+    let fits : a < 2 ^ (ones + (32 - p)) = rw whole ha in
+    sym (rw whole at (and_high a ones (32 - p)) ∙ ap (λ (x : ℕ). x * 2 ^ (32 - p)) (shr_mod ones (32 - p) fits))
 
 pub host_bits_and : (a p : ℕ) → host_bits a p ≡ bit_and a ((2 ^ 32 - 1) - mask p)
 unfolding host_bits
@@ -76,7 +77,7 @@ module _ (a b p : ℕ) where
       in
       xor_network a b p ∙ ap (λ (x : ℕ). x * 2 ^ (32 - p)) (ap (λ (x : ℕ). bit_xor x (b / 2 ^ (32 - p))) same ∙ xor_self (b / 2 ^ (32 - p))) ∙ zero-mul (2 ^ (32 - p))
 
-  pub same-network : a < 2 ^ 32 → b < 2 ^ 32 → p ≤ 32 → eqb (bit_and (bit_xor a b) (mask p)) 0 ≡ eqb (network a p) (network b p)
-  same-network ha hb hp =
-      ap (λ (x : ℕ). eqb x 0) (sym (network_and (bit_xor a b) p (xor_lt 32 a b ha hb) hp))
+  pub same-network : a < 2 ^ 32 → b < 2 ^ 32 → eqb (bit_and (bit_xor a b) (mask p)) 0 ≡ eqb (network a p) (network b p)
+  same-network ha hb =
+      ap (λ (x : ℕ). eqb x 0) (sym (network_and (bit_xor a b) p (xor_lt 32 a b ha hb)))
       ∙ alike (network (bit_xor a b) p) 0 (network a p) (network b p) apart together (eqb (network (bit_xor a b) p) 0) refl

@@ -1,39 +1,34 @@
 // Prefixes of IPv4 addresses, by masks. Addresses and lengths are words of 32 bits.
 #![tactic(auto)]
 
-ghost use Rattle.std.specs.Prelude.{◌≡◌, ◌≤◌, eqb};
+ghost use Rattle.std.specs.Prelude.{◌≡◌, eqb};
 ghost use Rattle.prefix.specs.Mask.{mask, network, host_bits, broadcast, flow_tos};
 
 // The bits of a tos that a route's tos is matched against.
 const TOS_LEGACY: u32 = 0x1c;
 
-// A shift by 32 is none, so prefix 0 stands apart.
+// A prefix over 32 counts as 32.
 pub fn mask4(prefix: u32) -> u32
-    requires { prefix ≤ 32 }
     ensures { result ≡ mask prefix }
 {
-    if prefix == 0 {
-        return 0;
-    }
-    u32::MAX << (32 - prefix)
+    u32::MAX
+        .checked_shl(32u32.saturating_sub(prefix))
+        .unwrap_or(0)
 }
 
 pub fn network4(ip: u32, prefix: u32) -> u32
-    requires { prefix ≤ 32 }
     ensures { result ≡ network ip prefix }
 {
     ip & mask4(prefix)
 }
 
 pub fn host_bits4(ip: u32, prefix: u32) -> u32
-    requires { prefix ≤ 32 }
     ensures { result ≡ host_bits ip prefix }
 {
     ip & !mask4(prefix)
 }
 
 pub fn broadcast4(ip: u32, prefix: u32) -> u32
-    requires { prefix ≤ 32 }
     ensures { result ≡ broadcast ip prefix }
 {
     let m = mask4(prefix);
@@ -41,7 +36,6 @@ pub fn broadcast4(ip: u32, prefix: u32) -> u32
 }
 
 pub fn same_network(a: u32, b: u32, prefix: u32) -> bool
-    requires { prefix ≤ 32 }
     ensures { result ≡ eqb (network a prefix) (network b prefix) }
 {
     (a ^ b) & mask4(prefix) == 0

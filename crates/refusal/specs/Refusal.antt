@@ -1,5 +1,6 @@
 -- The number of a refusal, and what an answer says by a number: 0 is no refusal.
 use Rattle.std.specs.Prelude.{ℕ, ◌≡◌, ◌≢◌, Bool, cond, Result, Ok, Err, MatchResult}
+use Rattle.std.specs.Result.{IsErrAnd}
 use Rattle.refusal.specs.declared.Refusal.{Refusal}
 use Rattle.refusal.specs.declared.Refusal.TheVariants.{WrongLength, Malformed, Unfit, Full, BadLength, OtherType, WrongSize, BadMask, Errno}
 
@@ -21,3 +22,8 @@ Refuses r n = MatchResult r (λ a. n ≡ 0) (λ e. (number_of e ≡ n) × (n ≢
 -- a check that passes, or is refused
 abbrev pub unless : Bool → Refusal → Result (Unit {0}) Refusal
 unless passes e = cond passes (Ok tt) (Err e)
+
+-- what a `?` hands on is what it was given
+pub passed_on : {A : Type 0} {r x : Result A Refusal} {e : Refusal} → r ≡ Err e → IsErrAnd x (λ y. y ≡ e) → x ≡ r
+passed_on {x = Ok a} h f = absurd f
+passed_on {x = Err y} h f = cc

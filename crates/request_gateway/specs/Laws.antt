@@ -4,14 +4,14 @@ use Prim.Native.Nat.{ℕ, ◌+◌, ◌*◌, ◌≤◌, ◌<◌, max}
 use Rattle.std.specs.Prelude.{◌≡◌, refl, Bool, false, ◌&&◌, ◌||◌, eqb, length, get_or}
 use Rattle.std.proofs.Math.Path.{sym, ap, fun_ext}
 use Rattle.std.proofs.Common.{◌∙◌, arith, lit<, eq-eqb, ne_eqb}
-use Rattle.std.proofs.Math.Bool.{true, or_self, not-not}
+use Rattle.std.proofs.Math.Bool.{true, not, or_self}
 use mathlib.Core.List.{List, [], ◌∷◌}
 use Rattle.std.proofs.Math.Option.{some}
 use Rattle.std.proofs.Math.ListN.{get_elem?}
 use Rattle.lists.specs.Lists.{Row, keep}
 use Rattle.lists.specs.Laid.{Laid, laid_word}
 use Rattle.kind.specs.Kind.{error_of}
-use Rattle.layout.specs.Route.{fit_route, kind, scope, gateway}
+use Rattle.layout.specs.Route.{fit_route, scope, gateway}
 use Rattle.layout.specs.Request.{oif, up_at_add_route4}
 use Rattle.definition.specs.Reference.Lookup.{Flow, Found, route, answer, longest, together, fits, type_set, local_table, main_table}
 use Rattle.definition.specs.Reference.Addresses.{link_scope}
@@ -63,8 +63,8 @@ module _ (w : List ℕ) (n : ℕ) (long : length w ≡ 32 * n) (l : List Row) (h
     within : place < length l
     within = omega (arith, laid-rows w n (lit< tt) long l h)
 
-    pub usable-row : (e : ℕ) → e ≡ error_of (get_or w (32 * place + 5) 0) → eqb e 0 ≡ usable (get_elem? l place)
-    usable-row e q = rw (something_at l place [] within, q, laid_word h place 5 within (lit< tt)) (sym (not-not (eqb (error_of (kind (get_or l place []))) 0)))
+    pub usable-row : (e : Bool) → e ≡ not (eqb (error_of (get_or w (32 * place + 5) 0)) 0) → not e ≡ usable (get_elem? l place)
+    usable-row e q = rw (something_at l place [] within, q, laid_word h place 5 within (lit< tt))
 
     pub reached-row : (q : Row) → row_reached (get_or w (32 * place + 5) 0) (get_or w (32 * place + 7) 0) (up_at_add_route4 q) ≡ reached_by q (route (get_or l place []))
     reached-row q = rw (laid_word h place 5 within (lit< tt), laid_word h place 7 within (lit< tt))

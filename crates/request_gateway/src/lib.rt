@@ -111,7 +111,7 @@ fn usable_at(rows: &[u32], n: usize, place: usize) -> bool
     if n <= place {
         return false;
     }
-    kind::error_of(rows[ROUTE_WORDS * place + route::KIND]) == 0
+    !kind::rejects(rows[ROUTE_WORDS * place + route::KIND])
 }
 
 // The route's own set of tables, where that has an answer that doesn't reject, else a lookup.
@@ -194,7 +194,7 @@ pub fn reach_check(
 {
     let gatewayed = q[route::GATEWAY_PRESENT] == 1;
     let device = q[add_route4::OIF];
-    if kind::error_of(q[route::KIND]) != 0 {
+    if kind::rejects(q[route::KIND]) {
         return settle(
             request_route::refuse(gatewayed | (device != 0), layout::INVALID),
             false,

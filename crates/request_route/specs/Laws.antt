@@ -2,6 +2,7 @@
 -- Assumes nothing.
 use Rattle.std.specs.Prelude.{ℕ, ◌+◌, ◌≤◌, ◌<◌, ◌≡◌, Bool, true, not, ◌||◌, List, [], ◌∷◌, ◌++◌, eqb, length, take, drop}
 use Rattle.std.proofs.Common.{sym, ap, ap₂, ◌∙◌, arith, length-take, length-drop, le-leb}
+use Rattle.std.proofs.Math.Bool.{not-not}
 use Rattle.std.specs.Int.Bits.{bit_and}
 use Rattle.std.proofs.lemmas.Bool.{lt-leb}
 use Rattle.lists.specs.Lists.{Row, put}
@@ -36,7 +37,7 @@ put-asked q out head linked long room e f =
     ∙ ap (λ (r : List ℕ). put 0 r out) f
 
 -- the first 15 words, as the code has them
-module _ (q : Row) (linked : Bool) (t e device onlink uses : ℕ) (flagged : Bool) where
+module _ (q : Row) (linked : Bool) (t : ℕ) (e : Bool) (device onlink uses : ℕ) (flagged : Bool) where
   abbrev pub asked_head : List ℕ
   asked_head =
       t
@@ -56,7 +57,7 @@ module _ (q : Row) (linked : Bool) (t e device onlink uses : ℕ) (flagged : Boo
       ∷ uses
       ∷ []
 
-  pub asked-words : t ≡ table_named q → e ≡ error_of (kind q) → device ≡ mark (eqb e 0) → flagged ≡ onlink_flag q → onlink ≡ mark flagged → uses ≡ mark linked
+  pub asked-words : t ≡ table_named q → e ≡ not (eqb (error_of (kind q)) 0) → device ≡ mark (not e) → flagged ≡ onlink_flag q → onlink ≡ mark flagged → uses ≡ mark linked
       → asked_head ++ take 17 (drop 16 q) ≡ asked_route q linked
   unfolding asked_route
-  asked-words a b c d f g = rw (g, f, d, c, b, a)
+  asked-words a b c d f g = rw (g, f, d, c, b, a, not-not (eqb (error_of (kind q)) 0))

@@ -3,10 +3,8 @@
 
 ghost use Rattle.std.specs.Prelude.{◌≡◌, cond, ◌≤◌, ◌<◌, length};
 ghost use Rattle.lists.specs.Lists.{put};
-ghost use Rattle.kind.specs.Kind.{is_kind};
 ghost use Rattle.definition.specs.Reference.Routes.{table_named, bad_prefix, dead_flags, onlink_flag, unsupported, then, refuse, mark, form_check, asked_route};
 
-use kind::{FoundKind, Kind};
 use layout::{add_route4, route};
 
 // The first number that isn't 0.
@@ -86,23 +84,13 @@ fn unknown_kind(code: u32) -> u32
     layout::INVALID
 }
 
-fn known_kind(code: u32) -> bool
-    ensures { result ≡ is_kind code }
-{
-    let found = Kind::of(code);
-    match found {
-        FoundKind::Is(_) => true,
-        FoundKind::Unknown => false,
-    }
-}
-
 // Length and host bits, scope and dead flags, metrics, kind: 0 where all is well.
 pub fn form_check(q: &[u32]) -> u32
     requires { length q.now ≡ 34 }
     ensures { result ≡ form_check q.now }
 {
     let narrow = q[route::SCOPE] < kind::least_scope(q[route::KIND]);
-    let known = known_kind(q[route::KIND]);
+    let known = kind::is_kind(q[route::KIND]);
     first_of(
         refuse(bad_prefix(q), layout::INVALID),
         first_of(
@@ -133,7 +121,7 @@ pub fn asked_route(q: &[u32], linked: bool, out: &mut [u32])
         q[route::PREFSRC],
         q[route::GATEWAY_PRESENT],
         q[route::GATEWAY],
-        mark(kind::error_of(q[route::KIND]) == 0),
+        mark(!kind::rejects(q[route::KIND])),
         mark(onlink_flag(q)),
         mark(linked),
     ];

@@ -1,6 +1,7 @@
 -- A route as a record, read from a row and turned into a row again (document 01, "The state, words of 32 bits").
 -- Assumes nothing.
-use Rattle.std.specs.Prelude.{ℕ, ◌+◌, ◌≤◌, ◌≡◌, refl, Bool, true, false, cond, List, [], ◌∷◌, ◌++◌, eqb, leb, length}
+use Rattle.std.specs.Prelude.{ℕ, ◌+◌, ◌≤◌, ◌≡◌, refl, Bool, true, false, cond, List, [], ◌∷◌, ◌++◌, eqb, leb, length, Result, Ok, Err}
+use Rattle.std.specs.Result.{is_ok}
 use Rattle.std.proofs.Common.{arith, sym, ap, ◌∙◌, eqb-true, leb-true}
 use Rattle.std.proofs.lemmas.Bool.{eqb-false}
 use Rattle.lists.specs.Lists.{Row, put}
@@ -9,10 +10,9 @@ use Rattle.lists.specs.Rows.{length-put}
 use Rattle.lists.specs.Bools.{test-case, and_iff, true-false}
 use Rattle.kind.specs.declared.Kind.{Kind}
 use Rattle.kind.specs.declared.Kind.TheVariants.{Unicast}
-use Rattle.kind.specs.declared.FoundKind.{FoundKind}
-use Rattle.kind.specs.declared.FoundKind.TheVariants.{Is, Unknown}
+use Rattle.kind.specs.declared.UnknownKind.{UnknownKind}
 use Rattle.kind.specs.Kind.{code_of, kind_of, is_kind}
-use Rattle.kind.specs.Laws.{kind-code, code-kind, is_found, is-kind-found}
+use Rattle.kind.specs.Laws.{kind-code, code-kind, is-kind-found}
 use Rattle.layout.specs.Address.{optional}
 use Rattle.layout.specs.Route as Route
 use Rattle.layout.specs.Route.{fit_route}
@@ -22,9 +22,9 @@ use Rattle.row_address.specs.Words.{mark_of, value_of, mark-again, value-again, 
 use Rattle.row_route.specs.declared.Route4.{Route4}
 
 -- the kind that was found; a code that is none of the seven reads as a unicast route's
-abbrev pub kind_in : FoundKind → Kind
-kind_in (Is k) = k
-kind_in Unknown = Unicast
+abbrev pub kind_in : Result Kind UnknownKind → Kind
+kind_in (Ok k) = k
+kind_in (Err e) = Unicast
 
 -- a mark, 0 or 1
 abbrev pub bit_of : Bool → ℕ
@@ -76,9 +76,9 @@ row_of r =
     ++ r.metrics
 
 -- ---- a fit row is had again from its record
-found-code : (n : ℕ) (f : FoundKind) → kind_of n ≡ f → is_found f ≡ true → code_of (kind_in f) ≡ n
-found-code n (Is k) e h = code-kind n k e
-found-code n Unknown e h = absurd (true-false false h refl)
+found-code : (n : ℕ) (f : Result Kind UnknownKind) → kind_of n ≡ f → is_ok f ≡ true → code_of (kind_in f) ≡ n
+found-code n (Ok k) e h = code-kind n k e
+found-code n (Err u) e h = absurd (true-false false h refl)
 
 kind-again : (n : ℕ) → is_kind n ≡ true → code_of (kind_in (kind_of n)) ≡ n
 kind-again n h = found-code n (kind_of n) refl (is-kind-found n ∙ h)

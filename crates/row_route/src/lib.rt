@@ -7,7 +7,7 @@ ghost use Rattle.kind.specs.Kind.{kind_of};
 ghost use Rattle.layout.specs.Route.{fit_route, before};
 ghost use Rattle.row_route.specs.Route4.{kind_in, bit_of, route4_of, row_of};
 
-use kind::{FoundKind, Kind};
+use kind::Kind;
 use layout::{METRICS, ROUTE_WORDS, route};
 use row_address::Optional;
 
@@ -35,11 +35,7 @@ pub struct Route4 {
 fn kind_of(code: u32) -> Kind
     ensures { result ≡ kind_in (kind_of code) }
 {
-    let found = Kind::of(code);
-    match found {
-        FoundKind::Is(k) => k,
-        FoundKind::Unknown => Kind::Unicast,
-    }
+    Kind::try_from(code).unwrap_or(Kind::Unicast)
 }
 
 fn bit(b: bool) -> u32
@@ -112,7 +108,7 @@ impl Route4 {
             self.len,
             self.tos,
             self.priority,
-            kind.code(),
+            u32::from(kind),
             self.proto,
             self.scope,
             prefsrc.mark(),

@@ -1,6 +1,6 @@
 -- What an address is to a table, by the rows and whether the table is listed.
-use Rattle.std.specs.Prelude.{ℕ, ◌+◌, ◌*◌, ◌≤◌, ◌<◌, ◌≡◌, refl, Bool, true, cond, ◌&&◌, ◌||◌, List, [], eqb, length, get_or}
-use Rattle.std.proofs.Common.{arith, lit<, eq-eqb, ne_eqb}
+use Rattle.std.specs.Prelude.{ℕ, ◌+◌, ◌*◌, ◌≤◌, ◌<◌, ◌≡◌, refl, Bool, true, false, not, cond, ◌&&◌, ◌||◌, List, [], eqb, length, get_or}
+use Rattle.std.proofs.Common.{arith, lit<}
 use Rattle.std.proofs.Math.Option.{some}
 use Rattle.std.proofs.Math.ListN.{get_elem?}
 use Rattle.lists.specs.Lists.{Row}
@@ -26,14 +26,14 @@ module _ (w : List ℕ) (n : ℕ) (long : length w ≡ 32 * n) (l : List Row) (h
   pub type-none : n ≤ place → unicast_kind ≡ type_rows true set l ip
   type-none b = rw (found, nothing-from l place (omega (arith, laid-rows w n (lit< tt) long l h)))
 
-  module _ (b : place < n) (e : ℕ) (q : e ≡ error_of (get_or w (32 * place + 5) 0)) where
+  module _ (b : place < n) (e : Bool) (q : e ≡ not (eqb (error_of (get_or w (32 * place + 5) 0)) 0)) where
     there : (get_elem? l place ≡ some (get_or l place [])) × (get_or w (32 * place + 5) 0 ≡ kind (get_or l place []))
     there =
         let b' : place < length l = omega (arith, laid-rows w n (lit< tt) long l h) in
         (something_at l place [] b', laid_word h place 5 b' (lit< tt))
 
-    pub type-rejects : (e ≡ 0 → ⊥) → unicast_kind ≡ type_rows true set l ip
-    type-rejects z = rw (found, there.0, ← there.1, ← q, ne_eqb e 0 z)
+    pub type-rejects : e ≡ true → unicast_kind ≡ type_rows true set l ip
+    type-rejects z = rw (found, there.0, ← there.1, ← q, z)
 
-    pub type-kind : e ≡ 0 → get_or w (32 * place + 5) 0 ≡ type_rows true set l ip
-    type-kind z = rw (found, there.0, ← there.1, ← q, eq-eqb e 0 z)
+    pub type-kind : e ≡ false → get_or w (32 * place + 5) 0 ≡ type_rows true set l ip
+    type-kind z = rw (found, there.0, ← there.1, ← q, z)

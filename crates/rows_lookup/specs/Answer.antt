@@ -1,16 +1,19 @@
 -- What the code answers, as the definitions have it.
 use Rattle.std.specs.Prelude.{ℕ, zero, suc, ◌+◌, ◌*◌, ◌≤◌, ◌<◌, ◌≡◌, refl, Bool, true, false, cond, ◌&&◌, ◌||◌, List, [], ◌∷◌, eqb, length, get_or}
-use Rattle.std.proofs.Common.{arith, sym, ap, ◌∙◌, lit<, eq-eqb, ne_eqb, eqb-true}
+use Rattle.std.specs.Prelude.{Some, None}
+use Rattle.std.specs.Prelude.{Option as Maybe}
+use Rattle.std.proofs.Common.{arith, sym, ap, ◌∙◌, lit<, eqb-true}
 use Rattle.std.proofs.Math.Path.{fun_ext}
 use Rattle.std.proofs.Math.Bool.{or_self}
 use Rattle.std.proofs.Math.Option.{Option, none, some}
 use Rattle.std.proofs.Math.ListN.{get_elem?}
 use Rattle.lists.specs.Lists.{Row}
-use Rattle.kind.specs.Kind.{error_of}
+use Rattle.kind.specs.Kind.{error_of, rejection}
 use Rattle.lists.specs.Laid.{Laid, laid_word}
 use Rattle.layout.specs.Route.{kind, fit_route}
 use Rattle.definition.specs.State.{State}
 use Rattle.definition.specs.Reference.Lookup.{Flow, Found, route, no_route, answer, together, settled, ruling, lookup_in, listed, main_table, default_table, net_unreachable, again}
+use Rattle.lists.specs.Bools.{test-case}
 use Rattle.lists.specs.Place.{nothing-from, something_at}
 use Rattle.lists.specs.Pass.{laid-rows}
 use Rattle.rows_lookup.specs.declared.Ruling.{Ruling}
@@ -39,20 +42,19 @@ module _ (w : List ℕ) (n : ℕ) (long : length w ≡ 32 * n) (l : List Row) (h
   pub judge_none : n ≤ place → Again ≡ ruling_of (get_elem? l place)
   judge_none b = rw (nothing-from l place (omega (arith, laid-rows w n (lit< tt) long l h)))
 
-  module _ (e : ℕ) (b : place < n) (q : e ≡ error_of (get_or w (32 * place + 5) 0)) where
-    there : (get_elem? l place ≡ some (get_or l place [])) × (e ≡ error_of (kind (get_or l place [])))
-    there =
-        let b' : place < length l = omega (arith, laid-rows w n (lit< tt) long l h) in
-        (something_at l place [] b', q ∙ ap error_of (laid_word h place 5 b' (lit< tt)))
+  -- by the error of the row's kind
+  abbrev pub judged : Maybe ℕ → Ruling
+  judged None = Route
+  judged (Some e) = cond (eqb e again) Again (Refuse e)
 
-    pub judge_route : e ≡ 0 → Route ≡ ruling_of (get_elem? l place)
-    judge_route z = rw (there.0, ← there.1, eq-eqb e 0 z)
+  pub judge : (e : Maybe ℕ) → place < n → e ≡ rejection (error_of (get_or w (32 * place + 5) 0)) → judged e ≡ ruling_of (get_elem? l place)
+  judge e b q = by (error_of (kind (get_or l place []))) (q ∙ ap (λ (x : ℕ). rejection (error_of x)) (laid_word h place 5 there (lit< tt))) (ap ruling_of (something_at l place [] there))
+    where
+      there : place < length l
+      there = omega (arith, laid-rows w n (lit< tt) long l h)
 
-    pub judge_again : (e ≡ 0 → ⊥) → e ≡ again → Again ≡ ruling_of (get_elem? l place)
-    judge_again z g = rw (there.0, ← there.1, ne_eqb e 0 z, eq-eqb e again g)
-
-    pub judge_refuse : (e ≡ 0 → ⊥) → (e ≡ again → ⊥) → Refuse e ≡ ruling_of (get_elem? l place)
-    judge_refuse z g = rw (there.0, ← there.1, ne_eqb e 0 z, ne_eqb e again g)
+      by : (x : ℕ) → e ≡ rejection x → ruling_of (get_elem? l place) ≡ cond (eqb x 0) Route (cond (eqb x again) Again (Refuse x)) → judged e ≡ ruling_of (get_elem? l place)
+      by x p s = test-case (eqb x 0) (λ z. rw (p, s, z)) (λ z. rw (p, s, z))
 
 -- ---- the two sets, one after the other
 -- what they come to, by whether 253 is listed

@@ -50,10 +50,10 @@ pub fn fits(r: &[u32], f: Flow) -> bool
         return false;
     }
     let tos = prefix::flow_tos(f.tos);
-    let error = kind::error_of(r[route::KIND]);
+    let rejects = kind::rejects(r[route::KIND]);
     ((r[route::TOS] == 0) | (r[route::TOS] == tos))
         & (f.scope <= r[route::SCOPE])
-        & ((error != 0) | (f.oif == 0) | ((f.oif == 1) & (r[route::DEVICE] == 1)))
+        & (rejects | (f.oif == 0) | ((f.oif == 1) & (r[route::DEVICE] == 1)))
 }
 
 // Whether a row of the set fits the flow and is long enough.
@@ -107,14 +107,11 @@ fn judge(rows: &[u32], n: usize, place: usize) -> Ruling
     if n <= place {
         return Ruling::Again;
     }
-    let error = kind::error_of(rows[ROUTE_WORDS * place + route::KIND]);
-    if error == 0 {
-        return Ruling::Route;
+    match kind::error_of(rows[ROUTE_WORDS * place + route::KIND]) {
+        None => Ruling::Route,
+        Some(layout::AGAIN) => Ruling::Again,
+        Some(error) => Ruling::Refuse(error),
     }
-    if error == layout::AGAIN {
-        return Ruling::Again;
-    }
-    Ruling::Refuse(error)
 }
 
 // 255 and 254 together, then 253 if it is listed; none and a throw alike lead on, and at the end there is no route.
@@ -164,7 +161,7 @@ pub fn addr_type4(rows: &[u32], n: usize, listed: bool, set: Tables, ip: u32) ->
         return layout::KIND_UNICAST;
     }
     let kind = rows[ROUTE_WORDS * place + route::KIND];
-    if kind::error_of(kind) != 0 {
+    if kind::rejects(kind) {
         return layout::KIND_UNICAST;
     }
     kind

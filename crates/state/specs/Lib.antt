@@ -1,2 +1,3 @@
 pub mod Represents
 pub mod Change
+pub mod InUse

@@ -10,6 +10,9 @@ ghost use Rattle.definition.specs.State.{State, with_addresses, with_routes};
 ghost use Rattle.definition.specs.Words.{address_count, route_count, base_size};
 ghost use Rattle.state.specs.Represents.{Represents, RepresentsSome};
 
+mod in_use;
+
+pub use in_use::{addresses, routes};
 use layout::{ADDRESS_COUNT, ADDRESS_WORDS, ADDRESSES_AT, ROUTE_COUNT, ROUTE_WORDS, ROUTES_AT};
 
 pub fn address_count(s: &[u32]) -> usize

@@ -1,10 +1,11 @@
 -- add_v4 by its cases: an address that is there, changed or refused, and a new one.
 -- Assumes nothing.
-use Rattle.std.specs.Prelude.{ℕ, ◌≤◌, ◌<◌, ◌≡◌, refl, Bool, List, [], ◌⊎◌, eqb, length, get_or}
-use Rattle.std.proofs.Common.{sym, ap, ◌∙◌, inl, inr, arith}
+use Rattle.std.specs.Prelude.{ℕ, ◌≤◌, ◌<◌, ◌≡◌, refl, Bool, true, false, List, [], Ok, Err, eqb, length, get_or}
+use Rattle.std.proofs.Common.{sym, ap, ◌∙◌}
 use Rattle.std.proofs.Math.Option.{none, some}
 use Rattle.std.proofs.Math.ListN.{get_elem?}
 use borrow.Author.Tests.{eq-eqb, ne_eqb}
+use Rattle.lists.specs.Bools.{test-case, cond-true, cond-false}
 use Rattle.lists.specs.Lists.{Row, first}
 use Rattle.lists.specs.Place.{place_of, first-at, nothing-from, something_at}
 use Rattle.layout.specs.Request.{replace_asked, up_at_add_v4}
@@ -16,9 +17,8 @@ use Rattle.definition.specs.Preservation.Keeps.{Keeps}
 use Rattle.definition.specs.Preservation.Addresses.{add_v4_keeps, step_kept, loopback-fit}
 use Rattle.rows_place.specs.Rows.{fresh_row}
 use Rattle.state.specs.Represents.{Represents}
-use Rattle.step_events.specs.Comes.{Comes, rows_of, comes-rows, comes-roomy, comes-full, full-past, refused_full, goes-made, refused-made}
-use Rattle.step_events.specs.declared.Done.{Done}
-use Rattle.step_events.specs.declared.Done.TheVariants.{Rows, Refused, Full}
+use Rattle.step_events.specs.Comes.{Came, Comes, made, comes-full, goes-made, refused-made}
+use Rattle.refusal.specs.declared.Refusal.TheVariants.{Full, Errno}
 
 module _ (q : Row) (clock : ℕ) (st : State) (place : ℕ) (found : place ≡ place_of (same_address q) st.addresses) where
   at_place : first (same_address q) st.addresses ≡ get_elem? st.addresses place
@@ -29,18 +29,18 @@ module _ (q : Row) (clock : ℕ) (st : State) (place : ℕ) (found : place ≡ p
     there : first (same_address q) st.addresses ≡ some (get_or st.addresses place [])
     there = at_place ∙ something_at st.addresses place [] b
 
-    pub added-change : replace_asked q ≡ 1 → {w ev₀ ev : List ℕ} {r : Done}
+    pub added-change : replace_asked q ≡ 1 → {w ev₀ ev : List ℕ} {r : Came}
         → Comes (goes (change_v4 q (get_or st.addresses place []) clock st)) w ev₀ ev r → Comes (add_v4 q clock st) w ev₀ ev r
     unfolding add_v4
     added-change e a = rw (there, eq-eqb (replace_asked q) 1 e) a
 
-    pub added-refused : (replace_asked q ≡ 1 → ⊥) → {w : List ℕ} (ev : List ℕ) → Represents w st → Comes (add_v4 q clock st) w ev ev (Refused 17)
+    pub added-refused : (replace_asked q ≡ 1 → ⊥) → {w : List ℕ} (ev : List ℕ) → Represents w st → Comes (add_v4 q clock st) w ev ev (Err (Errno 17))
     unfolding add_v4
     added-refused e ev h = rw (there, ne_eqb (replace_asked q) 1 e) (refused-made 17 ev h)
 
   -- it is new
   pub added_new : length st.addresses ≤ place → (new : Row) → new ≡ fresh_row st.addresses q clock → (up : Bool) → up ≡ eqb (up_at_add_v4 q) 1
-      → {w ev₀ ev : List ℕ} {r : Done} → Comes (goes (new_address new up st)) w ev₀ ev r → Comes (add_v4 q clock st) w ev₀ ev r
+      → {w ev₀ ev : List ℕ} {r : Came} → Comes (goes (new_address new up st)) w ev₀ ev r → Comes (add_v4 q clock st) w ev₀ ev r
   unfolding add_v4
   added_new b new e up f a =
       let absent : first (same_address q) st.addresses ≡ none = at_place ∙ nothing-from st.addresses place b in
@@ -48,32 +48,23 @@ module _ (q : Row) (clock : ℕ) (st : State) (place : ℕ) (found : place ≡ p
 
 -- ---- the loopback's
 -- a refusal is a step that does nothing
-abbrev pub step_of : Done → Done
-step_of (Rows k) = Rows k
-step_of (Refused n) = Rows 0
-step_of Full = Full
-
-pub step_other : (r : Done) → ((n : ℕ) → r ≡ Refused n → ⊥) → r ≡ step_of r
-step_other (Rows k) other = refl
-step_other (Refused n) other = absurd (other n refl)
-step_other Full other = refl
-
-pub not-second : (◌≡◌ {A = ℕ} 1 0) ⊎ (◌≡◌ {A = ℕ} 1 2) → ⊥
-not-second h = elim h [ inl a ↦ omega arith | inr b ↦ omega arith ]
-
-pub step-few : (n : ℕ) (d t : Done) → t ≡ step_of d → rows_of d ≤ n → rows_of t ≤ n
-step-few n (Rows k) t e h = rw e h
-step-few n (Refused k) t e h = rw e (omega arith)
-step-few n Full t e h = rw e h
+abbrev pub step_of : Came → Came
+step_of (Err (Errno n)) = Ok 0
+step_of came = came
 
 out_roomy : (u : Outcome) → within (out_of u).peak ≡ roomy u
 out_roomy (goes o) = refl
 out_roomy (refused n st) = refl
 
-pub added-step : (u : Outcome) {w ev₀ ev : List ℕ} (r t : Done) → t ≡ step_of r → Comes u w ev₀ ev r → Comes (goes (out_of u)) w ev₀ ev t
-added-step u (Rows k) t e c = let d = comes-rows c in rw e (goes-made (out_roomy u ∙ d.0) d.1)
-added-step u (Refused n) t e c = let h = comes-roomy c (refused_full n) in rw e (goes-made (out_roomy u ∙ h) (c.does h))
-added-step u Full t e c = rw e (comes-full (out_roomy u ∙ full-past c))
+pub added-step : (u : Outcome) {w ev₀ ev : List ℕ} (r t : Came) → t ≡ step_of r → Comes u w ev₀ ev r → Comes (goes (out_of u)) w ev₀ ev t
+added-step u {w} {ev₀} {ev} r t e c = test-case (roomy u) (λ h. fits u c h (c.answer ∙ cond-true (roomy u) (made u) (Err Full) h)) lacks
+  where
+    fits : (u : Outcome) → Comes u w ev₀ ev r → roomy u ≡ true → r ≡ made u → Comes (goes (out_of u)) w ev₀ ev t
+    fits (goes o) c h a = rw (e, a) (goes-made h (rw a at (c.does h)))
+    fits (refused n st) c h a = rw (e, a) (goes-made h (rw a at (c.does h)))
+
+    lacks : roomy u ≡ false → Comes (goes (out_of u)) w ev₀ ev t
+    lacks h = rw (e ∙ ap step_of (c.answer ∙ cond-false (roomy u) (made u) (Err Full) h)) (comes-full (out_roomy u ∙ h))
 
 pub loopback_keeps : (clock : ℕ) → Keeps (λ st. out_of (add_v4 loopback clock st))
 loopback_keeps clock = record { kept = λ st f. step_kept (add_v4 loopback clock st) ((add_v4_keeps loopback clock refl loopback-fit).kept st f) }

@@ -1,6 +1,6 @@
 -- The routes that every address has, brought in the addresses' order.
 -- Assumes nothing.
-use Rattle.std.specs.Prelude.{ℕ, ◌+◌, ◌-◌, ◌*◌, ◌≤◌, ◌<◌, ◌≡◌, true, List, [], ◌++◌, length, get_or, take, drop}
+use Rattle.std.specs.Prelude.{ℕ, ◌+◌, ◌-◌, ◌*◌, ◌≤◌, ◌<◌, ◌≡◌, true, Ok, List, [], ◌++◌, length, get_or, take, drop}
 use Rattle.std.proofs.Common.{arith, sym, ap, subst, ◌∙◌}
 use Rattle.lists.specs.Lists.{Row, all, flat, put}
 use Rattle.lists.specs.At.{all_take, all-at}
@@ -20,10 +20,8 @@ use Rattle.definition.specs.Preservation.Addresses.{install_keeps}
 use Rattle.definition.specs.Preservation.Growing as Growing
 use Rattle.state.specs.Represents.{Represents, count-addresses, RepresentsFit}
 use Rattle.step_events.specs.Emits.{does-length, rest}
-use Rattle.step_events.specs.Comes.{Comes, NoRows, joined, joined-other, holds-within, comes-rows, adds-also, adds-stop}
+use Rattle.step_events.specs.Comes.{Came, Comes, NoRows, joined, joined-other, holds-within, comes-rows, adds-also, adds-stop}
 use Rattle.step_events.specs.Through.{Covered, covered-through, adds-start, adds-next, adds-other-end, adds-end}
-use Rattle.step_events.specs.declared.Done.{Done}
-use Rattle.step_events.specs.declared.Done.TheVariants.{Rows}
 use Rattle.step_kernel_add.specs.Add.{kernel_add4-covered}
 use Rattle.step_new_address.specs.Adding.{AddsFrom, Leaves, adds-sound, through-leaves, kernel_add4-leaves}
 use Rattle.step_new_address.specs.Install.{block_rows, block_ready}
@@ -65,7 +63,7 @@ module _ {w : List ℕ} (i : ℕ) (b : i < address_count w) (st : State) (h : Re
   pub iteration_ready : (length (take (32 * k - 0) (drop 0 x)) ≡ 32 * k) × Lays 32 fit_route (take (32 * k - 0) (drop 0 x))
   iteration_ready = block_ready (candidates st.addresses true (part 20 p i)) (iteration-fit st.addresses (part 20 p i) mine) k c.0 o c.1
 
-  pub iteration-done : fit_state st ≡ true → {w' ev₀ ev : List ℕ} {r : Done}
+  pub iteration-done : fit_state st ≡ true → {w' ev₀ ev : List ℕ} {r : Came}
       → ((rows : List Row) → Laid 32 fit_route (take (32 * k - 0) (drop 0 x)) rows → AddsFrom (install rows) w w' ev₀ ev r)
       → Comes (goes (turn_at i st)) w' ev₀ ev r
   iteration-done f {w'} {ev₀} {ev} {r} d =
@@ -74,7 +72,7 @@ module _ {w : List ℕ} (i : ℕ) (b : i < address_count w) (st : State) (h : Re
 
 -- ---- the first i addresses' routes are brought
 pub record LoopInvariant (s₀ ev₀ : List ℕ) (i : ℕ) (s ev : List ℕ) (t : ℕ) : Type 0 where
-  pub adds : AddsFrom (λ st. through (iteration st.addresses) (take i st.addresses) st) s₀ s ev₀ ev (Rows t)
+  pub adds : AddsFrom (λ st. through (iteration st.addresses) (take i st.addresses) st) s₀ s ev₀ ev (Ok t)
 
 pub sofar-start : (s ev : List ℕ) → LoopInvariant s ev 0 s ev 0
 sofar-start s ev = record { adds = λ st h f. adds-start (iteration st.addresses) st.addresses st h }
@@ -118,7 +116,7 @@ module _ {s₀ ev₀ s ev : List ℕ} {i t : ℕ} (a : LoopInvariant s₀ ev₀ 
     sofar-count =
         count-addresses (later-holds v.state v.holds v.fits) ∙ ap length (later_same v.state v.holds v.fits) ∙ sym (count-addresses v.holds)
 
-  module _ (b : i < address_count s₀) {w x : List ℕ} {r : Done} (u : AddsFrom (turn_at i) s w (rest t ev) x r) where
+  module _ (b : i < address_count s₀) {w x : List ℕ} {r : Came} (u : AddsFrom (turn_at i) s w (rest t ev) x r) where
     one_more : AddsFrom (λ st. through (iteration st.addresses) (take (i + 1) st.addresses) st) s₀ w ev₀ (take (34 * t) ev ++ (x ++ drop (length ev - 34 * t) (drop (34 * t) ev))) (joined t r)
     one_more st h f =
         let b' : i < length st.addresses = omega (arith, count-addresses h) in
@@ -127,11 +125,11 @@ module _ {s₀ ev₀ s ev : List ℕ} {i t : ℕ} (a : LoopInvariant s₀ ev₀ 
         in
         adds-next (iteration st.addresses) st.addresses st (iteration-covered st.addresses) (holds-within h) i [] b' (a.adds st h f) here
 
-    pub sofar-next : (m : ℕ) → r ≡ Rows m → LoopInvariant s₀ ev₀ (i + 1) w (take (34 * t) ev ++ (x ++ drop (length ev - 34 * t) (drop (34 * t) ev))) (t + m)
+    pub sofar-next : (m : ℕ) → r ≡ Ok m → LoopInvariant s₀ ev₀ (i + 1) w (take (34 * t) ev ++ (x ++ drop (length ev - 34 * t) (drop (34 * t) ev))) (t + m)
     sofar-next m e =
         record {
           adds = λ st h f.
-              subst (λ (q : Done). Comes (goes (through (iteration st.addresses) (take (i + 1) st.addresses) st)) w ev₀ (take (34 * t) ev ++ (x ++ drop (length ev - 34 * t) (drop (34 * t) ev))) (joined t q)) e (one_more st h f);
+              subst (λ (q : Came). Comes (goes (through (iteration st.addresses) (take (i + 1) st.addresses) st)) w ev₀ (take (34 * t) ev ++ (x ++ drop (length ev - 34 * t) (drop (34 * t) ev))) (joined t q)) e (one_more st h f);
         }
 
     pub sofar-other : NoRows r → {w' ev' : List ℕ} → AddsFrom every s₀ w' ev₀ ev' r
@@ -139,18 +137,18 @@ module _ {s₀ ev₀ s ev : List ℕ} {i t : ℕ} (a : LoopInvariant s₀ ev₀ 
         adds-other-end (iteration st.addresses) st.addresses st (iteration-covered st.addresses) (holds-within h) (i + 1) other
         (rw (← (joined-other t r other)) at (one_more st h f))
 
-  pub sofar-end : address_count s₀ ≤ i → AddsFrom every s₀ s ev₀ ev (Rows t)
+  pub sofar-end : address_count s₀ ≤ i → AddsFrom every s₀ s ev₀ ev (Ok t)
   sofar-end b st h f = adds-end (iteration st.addresses) st.addresses st i (omega (arith, count-addresses h)) (a.adds st h f)
 
 -- ---- up: the loopback's address, then every address's routes
-module _ (clock : ℕ) {s₀ s ev₀ ev : List ℕ} {r : Done} (a : AddsFrom (λ st. out_of (add_v4 loopback clock st)) s₀ s ev₀ ev r) where
+module _ (clock : ℕ) {s₀ s ev₀ ev : List ℕ} {r : Came} (a : AddsFrom (λ st. out_of (add_v4 loopback clock st)) s₀ s ev₀ ev r) where
   pub up-other : NoRows r → {w ev' : List ℕ} → AddsFrom (up clock) s₀ w ev₀ ev' r
   unfolding up
   up-other other st h f = adds-stop other (a st h f) every
 
-  module _ (k : ℕ) (e : r ≡ Rows k) where
-    came : AddsFrom (λ st. out_of (add_v4 loopback clock st)) s₀ s ev₀ ev (Rows k)
-    came st h f = subst (λ (q : Done). Comes (goes (out_of (add_v4 loopback clock st))) s ev₀ ev q) e (a st h f)
+  module _ (k : ℕ) (e : r ≡ Ok k) where
+    came : AddsFrom (λ st. out_of (add_v4 loopback clock st)) s₀ s ev₀ ev (Ok k)
+    came st h f = subst (λ (q : Came). Comes (goes (out_of (add_v4 loopback clock st))) s ev₀ ev q) e (a st h f)
 
     pub up-sound : RepresentsFit s₀ → RepresentsFit s
     up-sound v = adds-sound (λ st. out_of (add_v4 loopback clock st)) (loopback_keeps clock) came v
@@ -158,7 +156,7 @@ module _ (clock : ℕ) {s₀ s ev₀ ev : List ℕ} {r : Done} (a : AddsFrom (λ
     pub up-length : RepresentsFit s₀ → length ev ≡ length ev₀
     up-length v = does-length (comes-rows (came v.state v.holds v.fits)).1
 
-    pub up_done : {w x : List ℕ} {r' : Done} → AddsFrom every s w (rest k ev) x r' → (z : Done) → z ≡ joined k r'
+    pub up_done : {w x : List ℕ} {r' : Came} → AddsFrom every s w (rest k ev) x r' → (z : Came) → z ≡ joined k r'
         → AddsFrom (up clock) s₀ w ev₀ (take (34 * k) ev ++ (x ++ drop (length ev - 34 * k) (drop (34 * k) ev))) z
     unfolding up
     up_done {w} {x} {r'} u z q st h f =

@@ -15,20 +15,27 @@ ghost use Rattle.definition.specs.Step.{event_room};
 
 use layout::{ADDRESS_WORDS, EVENT_WORDS, ROUTE_WORDS, add_v4};
 use life::{Lifetimes, Nanoseconds};
-use step_events::Done;
+use refusal::Refusal;
 
 // A refusal is a step that does nothing.
-fn step_of(came: Done) -> Done
-    ensures { result ≡ step_of came }
+fn step_of(came: Result<usize, Refusal>) -> Result<usize, Refusal>
+    ensures value { result ≡ step_of came }
+    ensures few { rows_of result ≤ rows_of came }
 {
-    let Done::Refused(_) = came else {
-        return came;
-    };
-    Done::Rows(0)
+    match came {
+        Ok(k) => Ok(k),
+        Err(Refusal::Errno(_)) => Ok(0),
+        Err(refusal) => Err(refusal),
+    }
 }
 
 // A requested address put in, or the one that is there changed, where the request says so.
-pub fn add_v4(s: &mut [u32], ev: &mut [u32], q: &[u32], clock: Nanoseconds) -> Done
+pub fn add_v4(
+    s: &mut [u32],
+    ev: &mut [u32],
+    q: &[u32],
+    clock: Nanoseconds,
+) -> Result<usize, Refusal>
     requires represents_fit { RepresentsFit s.old }
     requires q_len { (length q.now ≡ 18) × (fit_add_v4 q.now ≡ true) }
     requires in_bounds { 170 ≤ length ev.old }
@@ -39,7 +46,7 @@ pub fn add_v4(s: &mut [u32], ev: &mut [u32], q: &[u32], clock: Nanoseconds) -> D
     let place = rows_place::same_at(state_read::addresses(s), n, q);
     if place < n {
         if q[add_v4::REPLACE] != 1 {
-            return Done::Refused(layout::EXISTS);
+            return Err(Refusal::Errno(layout::EXISTS));
         }
         return step_new_address::change_v4(s, ev, place, q, clock);
     }
@@ -50,7 +57,7 @@ pub fn add_v4(s: &mut [u32], ev: &mut [u32], q: &[u32], clock: Nanoseconds) -> D
 }
 
 // The routes of address i.
-fn install_at(s: &mut [u32], ev: &mut [u32], i: usize) -> Done
+fn install_at(s: &mut [u32], ev: &mut [u32], i: usize) -> Result<usize, Refusal>
     requires represents_fit { RepresentsFit s.old }
     requires i_bound { i < address_count s.old }
     requires in_bounds { 136 ≤ length ev.old }
@@ -67,7 +74,7 @@ fn install_at(s: &mut [u32], ev: &mut [u32], i: usize) -> Done
 }
 
 // The routes of every address, in order.
-fn install_all(s: &mut [u32], ev: &mut [u32]) -> Done
+fn install_all(s: &mut [u32], ev: &mut [u32]) -> Result<usize, Refusal>
     requires represents_fit { RepresentsFit s.old }
     requires in_bounds { 11016 ≤ length ev.old }
     ensures result_bound { rows_of result ≤ 320 }
@@ -78,18 +85,14 @@ fn install_all(s: &mut [u32], ev: &mut [u32]) -> Done
     let mut i = 0usize;
     while i < n {
         let from = EVENT_WORDS * emitted;
-        let came = install_at(s, &mut ev[from..], i);
-        let Done::Rows(m) = came else {
-            return came;
-        };
-        emitted += m;
+        emitted += install_at(s, &mut ev[from..], i)?;
         i += 1;
     }
-    Done::Rows(emitted)
+    Ok(emitted)
 }
 
 // 127.0.0.1 if it isn't there, with its routes; then the routes that every address has.
-pub fn up(s: &mut [u32], ev: &mut [u32], clock: Nanoseconds) -> Done
+pub fn up(s: &mut [u32], ev: &mut [u32], clock: Nanoseconds) -> Result<usize, Refusal>
     requires represents_fit { RepresentsFit s.old }
     requires event_room_in_bounds { event_room ≤ length ev.old }
     ensures result_bound { rows_of result ≤ 325 }
@@ -116,10 +119,7 @@ pub fn up(s: &mut [u32], ev: &mut [u32], clock: Nanoseconds) -> Done
         0,
         1,
     ];
-    let first = step_of(add_v4(s, ev, &loopback, clock));
-    let Done::Rows(k) = first else {
-        return first;
-    };
+    let k = step_of(add_v4(s, ev, &loopback, clock))?;
     let from = EVENT_WORDS * k;
     let rest = install_all(s, &mut ev[from..]);
     step_new_address::joined(k, rest)

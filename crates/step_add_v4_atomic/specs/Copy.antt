@@ -1,18 +1,19 @@
 -- A call that was tried on a copy, its words and event rows then copied back where it had room.
 -- Assumes nothing.
-use Rattle.std.specs.Prelude.{ℕ, ◌+◌, ◌-◌, ◌*◌, ◌≤◌, ◌≡◌, refl, List, length, take, drop}
+use Rattle.std.specs.Prelude.{ℕ, ◌+◌, ◌-◌, ◌*◌, ◌≤◌, ◌≡◌, true, Ok, Err, List, length, take, drop}
 use Rattle.std.proofs.Common.{arith, sym, ap, subst, ◌∙◌, length-take, take_at}
+use Rattle.lists.specs.Bools.{test-case, cond-true, cond-false}
 use Rattle.lists.specs.Rows.{length-flat}
 use Rattle.lists.specs.Lists.{put, flat}
 use Rattle.lists.specs.Put.{put_whole}
 use Rattle.definition.specs.State.{State, Out}
+use Rattle.definition.specs.Step.{roomy}
 use Rattle.definition.specs.Reference.Addresses.{Outcome, goes, refused, out_of}
 use Rattle.definition.specs.Preservation.Refused.{Leaves}
 use Rattle.state.specs.Represents.{Represents, RepresentsFit}
 use Rattle.step_events.specs.Emits.{Emits, does-none}
-use Rattle.step_events.specs.Comes.{Comes, ComesWhole, NoRows, rows_of, comes-rows, comes-roomy, full-past, other-past, refused_full, whole-made, whole-full}
-use Rattle.step_events.specs.declared.Done.{Done}
-use Rattle.step_events.specs.declared.Done.TheVariants.{Rows, Refused, Full}
+use Rattle.step_events.specs.Comes.{Came, Comes, ComesWhole, NoRows, rows_of, made, comes-rows, whole-made, whole-full}
+use Rattle.refusal.specs.declared.Refusal.TheVariants.{Full}
 
 -- the copy is the words
 pub copy_sound : (o w : List ℕ) → length o ≡ length w → {x : List ℕ} → x ≡ put 0 w o → RepresentsFit w → RepresentsFit x
@@ -42,18 +43,21 @@ module _ (w z rows s ev : List ℕ) (k : ℕ) (long : length w ≡ length s) (ro
         room = room;
       }
 
-  pub whole_back : (st : State) (u : Outcome) (r : Done) → r ≡ Rows k → Comes u w z rows r → ComesWhole st u s' ev ev' (Rows k)
+  pub whole_back : (st : State) (u : Outcome) (r : Came) → r ≡ Ok k → Comes u w z rows r → ComesWhole st u s' ev ev' (Ok k)
   whole_back st u r e c =
       let b = comes-rows (rw e at c) in
       whole-made st b.0 (record { answer = sym e ∙ c.answer; does = λ _. does-back (out_of u) b.1 })
 
-pub few-rows : (r : Done) (k : ℕ) → r ≡ Rows k → k ≤ rows_of r
+pub few-rows : (r : Came) (k : ℕ) → r ≡ Ok k → k ≤ rows_of r
 few-rows r k e = rw e (omega arith)
 
 -- ---- left as they were
-pub whole-left : (st : State) (u : Outcome) (r : Done) {w z rows s : List ℕ} (ev : List ℕ) → NoRows r → Represents s st → Leaves st u → Comes u w z rows r → ComesWhole st u s ev ev r
-whole-left st u (Rows k) ev other h l c = absurd (other k refl)
-whole-left st (goes o) (Refused n) ev other h l c = absurd (refused_full n (other-past other c).0)
-whole-left st (refused m later) (Refused n) ev other h l c =
-    whole-made st (comes-roomy c (refused_full n)) (record { answer = c.answer; does = λ _. does-none later (rw l h) })
-whole-left st u Full ev other h l c = whole-full ev (full-past c) h
+pub whole-left : (st : State) (u : Outcome) (r : Came) {w z rows s : List ℕ} (ev : List ℕ) → NoRows r → Represents s st → Leaves st u → Comes u w z rows r → ComesWhole st u s ev ev r
+whole-left st u r {w} {z} {rows} {s} ev other h l c =
+    test-case (roomy u)
+    (λ e. fits u l c e (c.answer ∙ cond-true (roomy u) (made u) (Err Full) e))
+    (λ e. rw (c.answer ∙ cond-false (roomy u) (made u) (Err Full) e) (whole-full ev e h))
+  where
+    fits : (u : Outcome) → Leaves st u → Comes u w z rows r → roomy u ≡ true → r ≡ made u → ComesWhole st u s ev ev r
+    fits (goes o) l c e a = absurd (other (length o.emitted) a)
+    fits (refused m later) l c e a = whole-made st e (record { answer = c.answer; does = λ _. rw a (does-none later (rw l h)) })

@@ -1,6 +1,6 @@
 -- When room is certain: the most that an adding call may add.
 -- Assumes nothing.
-use Rattle.std.specs.Prelude.{ℕ, suc, ◌+◌, ◌-◌, ◌*◌, ◌≤◌, ◌<◌, ◌≡◌, refl, Bool, false, cond, not, ◌&&◌, List, [], ◌∷◌, ◌++◌, eqb, leb, ltb, length}
+use Rattle.std.specs.Prelude.{ℕ, suc, ◌+◌, ◌*◌, ◌≤◌, ◌<◌, ◌≡◌, refl, Bool, false, cond, not, ◌&&◌, List, [], ◌∷◌, ◌++◌, eqb, leb, ltb, length}
 use Rattle.std.proofs.Common.{arith, sym, ap, ◌∙◌, length-append, le-leb, eqb-true, leb-true, ltb-true}
 use Rattle.std.proofs.Math.Bool.{true, or-false}
 use Rattle.std.proofs.Math.Option.{Option, none, some}

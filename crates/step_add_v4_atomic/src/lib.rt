@@ -16,7 +16,7 @@ use layout::{
     ADDRESS_LIMIT, BASE_WORDS, EVENT_BUFFER, EVENT_WORDS, ROUTE_LIMIT, TABLE_COUNT, TABLE_LIMIT,
 };
 use life::Nanoseconds;
-use step_events::Done;
+use refusal::Refusal;
 
 // A call lists two tables at most, 254 and 255.
 const TABLES_BEFORE: usize = TABLE_LIMIT - 2;
@@ -34,22 +34,31 @@ fn has_room(s: &[u32], rows: usize) -> bool
 }
 
 // What came of a call on a copy: its words and event rows are copied back where it had room.
-fn copy_back(s: &mut [u32], ev: &mut [u32], copy: &[u32], rows: &[u32], came: Done) -> Done
+fn copy_back(
+    s: &mut [u32],
+    ev: &mut [u32],
+    copy: &[u32],
+    rows: &[u32],
+    came: Result<usize, Refusal>,
+) -> Result<usize, Refusal>
     requires copy_len { (length copy.now ≡ length s.old) × (rows_of came ≤ 384) }
     requires came_in_bounds { (34 * rows_of came ≤ length rows.now) × (34 * rows_of came ≤ length ev.old) }
     ensures result_bound { rows_of result ≤ rows_of came }
     ensures comes_whole { (st : State) (u : Outcome) (z : List ℕ) → Represents s.old st → Leaves st u → Comes u copy.now z rows.now came → ComesWhole st u s.new ev.old ev.new result }
 {
-    let Done::Rows(k) = came else {
-        return came;
-    };
+    let k = came?;
     words::store(s, 0, copy);
     let end = EVENT_WORDS * k;
     words::store(ev, 0, &rows[0..end]);
-    Done::Rows(k)
+    Ok(k)
 }
 
-fn try_add_v4(s: &mut [u32], ev: &mut [u32], q: &[u32], clock: Nanoseconds) -> Done
+fn try_add_v4(
+    s: &mut [u32],
+    ev: &mut [u32],
+    q: &[u32],
+    clock: Nanoseconds,
+) -> Result<usize, Refusal>
     requires represents_fit { RepresentsFit s.old }
     requires q_len { (length q.now ≡ 18) × (fit_add_v4 q.now ≡ true) }
     requires in_bounds { 170 ≤ length ev.old }
@@ -64,7 +73,12 @@ fn try_add_v4(s: &mut [u32], ev: &mut [u32], q: &[u32], clock: Nanoseconds) -> D
 }
 
 // A requested address put in, or the one that is there changed, where the request says so.
-pub fn add_v4(s: &mut [u32], ev: &mut [u32], q: &[u32], clock: Nanoseconds) -> Done
+pub fn add_v4(
+    s: &mut [u32],
+    ev: &mut [u32],
+    q: &[u32],
+    clock: Nanoseconds,
+) -> Result<usize, Refusal>
     requires represents_fit { RepresentsFit s.old }
     requires q_len { (length q.now ≡ 18) × (fit_add_v4 q.now ≡ true) }
     requires in_bounds { 170 ≤ length ev.old }
@@ -77,7 +91,7 @@ pub fn add_v4(s: &mut [u32], ev: &mut [u32], q: &[u32], clock: Nanoseconds) -> D
     try_add_v4(s, ev, q, clock)
 }
 
-fn try_up(s: &mut [u32], ev: &mut [u32], clock: Nanoseconds) -> Done
+fn try_up(s: &mut [u32], ev: &mut [u32], clock: Nanoseconds) -> Result<usize, Refusal>
     requires represents_fit { RepresentsFit s.old }
     requires event_room_in_bounds { event_room ≤ length ev.old }
     ensures result_bound { rows_of result ≤ 325 }
@@ -91,7 +105,7 @@ fn try_up(s: &mut [u32], ev: &mut [u32], clock: Nanoseconds) -> Done
 }
 
 // 127.0.0.1 if it isn't there, with its routes; then the routes that every address has.
-pub fn up(s: &mut [u32], ev: &mut [u32], clock: Nanoseconds) -> Done
+pub fn up(s: &mut [u32], ev: &mut [u32], clock: Nanoseconds) -> Result<usize, Refusal>
     requires represents_fit { RepresentsFit s.old }
     requires event_room_in_bounds { event_room ≤ length ev.old }
     ensures result_bound { rows_of result ≤ 325 }

@@ -1,6 +1,6 @@
 -- The first address that meets a request's conditions goes.
 -- Assumes nothing.
-use Rattle.std.specs.Prelude.{ℕ, ◌+◌, ◌-◌, ◌*◌, ◌^◌, ◌≤◌, ◌<◌, ◌≡◌, refl, Bool, true, false, ◌&&◌, ◌||◌, eqb, length, get_or}
+use Rattle.std.specs.Prelude.{ℕ, ◌+◌, ◌*◌, ◌^◌, ◌≤◌, ◌<◌, ◌≡◌, refl, Bool, true, false, ◌&&◌, ◌||◌, Ok, Err, eqb, length, get_or}
 use Rattle.std.proofs.Common.{sym, ap, ◌∙◌, arith, eqb-true, eq-eqb, ne_eqb}
 use mathlib.Core.List.{List, []}
 use Rattle.std.proofs.Math.ListN.{get_elem?}
@@ -22,7 +22,7 @@ use Rattle.step_events.specs.EmitsWithin.{RoomFor, EmitsWithin, step-does}
 use Rattle.step_events.specs.Comes.{ComesWhole, holds-within, goes-made, refused-made, whole-made}
 use Rattle.lists.specs.Front.{any_here}
 use Rattle.step_remove_v4.specs.One.{address_row, lent-address}
-use Rattle.step_events.specs.declared.Done.TheVariants.{Rows, Refused}
+use Rattle.refusal.specs.declared.Refusal.TheVariants.{Errno}
 
 -- ---- four words are the same where their number is
 low-high : (x y p q : ℕ) → x < 2 ^ 32 → p < 2 ^ 32 → x + y * 2 ^ 32 ≡ p + q * 2 ^ 32 → (x ≡ p) × (y ≡ q)
@@ -59,7 +59,7 @@ module _ (q : Row) {st : State} {s ev : List ℕ} (f : RoomFor potential st s ev
   place : first (deletes q) st.addresses ≡ get_elem? st.addresses i
   place = first-at (deletes q) st.addresses ∙ ap (get_elem? st.addresses) (sym e)
 
-  pub deleted_none : n ≤ i → ComesWhole st (del_v4 q st) s ev ev (Refused 99)
+  pub deleted_none : n ≤ i → ComesWhole st (del_v4 q st) s ev ev (Err (Errno 99))
   unfolding del_v4
   deleted_none b =
       rw (place, nothing-from st.addresses i (omega (arith, count-addresses f.holds)))
@@ -74,7 +74,7 @@ module _ (q : Row) {st : State} {s ev : List ℕ} (f : RoomFor potential st s ev
   pub deleted_there : (b : i < n) (row : Row) → row ≡ address_row s i → any (eq_row row) st.addresses ≡ true
   deleted_there b row w = any_here (eq_row row) st.addresses i [] (in_use b) (rw (← (same b row w)) (eq_row-refl row))
 
-  pub deleted_rows : (b : i < n) (row : Row) → row ≡ address_row s i → {s' ev' : List ℕ} {r : ℕ} → EmitsWithin potential st (remove_v4 row st) s' ev ev' r → ComesWhole st (del_v4 q st) s' ev ev' (Rows r)
+  pub deleted_rows : (b : i < n) (row : Row) → row ≡ address_row s i → {s' ev' : List ℕ} {r : ℕ} → EmitsWithin potential st (remove_v4 row st) s' ev ev' r → ComesWhole st (del_v4 q st) s' ev ev' (Ok r)
   unfolding del_v4
   deleted_rows b row w t =
       let room = covered (remove_v4 row st).peak (sizes st) (remove_v4-under row st).ever (holds-within f.holds) in

@@ -13,7 +13,7 @@ ghost use Rattle.step_events.specs.EmitsWithin.{RoomFor, SomeRoom};
 ghost use Rattle.step_events.specs.Comes.{ComesWhole};
 
 use layout::{ADDRESS_WORDS, ADDRESSES_AT, address, del_v4};
-use step_events::Done;
+use refusal::Refusal;
 
 // Whether four words are the same, each as part of one number.
 fn same_four(a: u32, b: u32, c: u32, d: u32, p: u32, q: u32, r: u32, s: u32) -> bool
@@ -63,7 +63,7 @@ fn find(rows: &[u32], n: usize, q: &[u32]) -> usize
     n
 }
 
-pub fn del_v4(s: &mut [u32], ev: &mut [u32], q: &[u32]) -> Done
+pub fn del_v4(s: &mut [u32], ev: &mut [u32], q: &[u32]) -> Result<usize, Refusal>
     requires some_room { SomeRoom potential s.old ev.old }
     requires q_len { length q.now ≡ 11 }
     ensures { (st : State) → RoomFor potential st s.old ev.old → ComesWhole st (del_v4 q.now st) s.new ev.old ev.new result }
@@ -71,12 +71,12 @@ pub fn del_v4(s: &mut [u32], ev: &mut [u32], q: &[u32]) -> Done
     let n = state::address_count(s);
     let i = find(state_read::addresses(s), n, q);
     if n <= i {
-        return Done::Refused(layout::NO_SUCH_ADDRESS);
+        return Err(Refusal::Errno(layout::NO_SUCH_ADDRESS));
     }
     let at = ADDRESSES_AT + ADDRESS_WORDS * i;
     let end = at + ADDRESS_WORDS;
     let mut row = [0u32; ADDRESS_WORDS];
     words::store(&mut row, 0, &s[at..end]);
     let k = step_remove_v4::remove_v4(s, ev, &row);
-    Done::Rows(k)
+    Ok(k)
 }

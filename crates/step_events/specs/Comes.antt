@@ -1,7 +1,7 @@
 -- What a step comes to: its answer by the definition's outcome, and what it leaves unless a list passed its limit.
 -- Assumes nothing.
-use Rattle.std.specs.Prelude.{ℕ, ◌+◌, ◌-◌, ◌*◌, max, ◌≡◌, refl, Bool, true, false, cond, ◌&&◌, List, ◌++◌, ◌⊎◌, leb, length, take, drop}
-use Rattle.std.proofs.Common.{sym, ap, ◌∙◌, inl, inr, arith, leb-true, leb-false, le-leb}
+use Rattle.std.specs.Prelude.{ℕ, ◌+◌, ◌-◌, ◌*◌, max, ◌≡◌, refl, Bool, true, false, cond, ◌&&◌, List, ◌++◌, Result, Ok, Err, leb, length, take, drop}
+use Rattle.std.proofs.Common.{sym, ap, ◌∙◌, arith, leb-true, leb-false, le-leb}
 use Rattle.std.proofs.lemmas.Bool.{lt-leb}
 use Rattle.lists.specs.Bools.{test-case, true-false, and_iff, cond-true, cond-false}
 use Rattle.definition.specs.State.{State, Sizes, Out, sizes, most, stays, also}
@@ -10,37 +10,36 @@ use Rattle.definition.specs.Reference.Addresses.{Outcome, goes, refused, out_of}
 use Rattle.definition.specs.Step.{roomy}
 use Rattle.state.specs.Represents.{Represents}
 use Rattle.step_events.specs.Emits.{Emits, does-none, does-also, rest}
-use Rattle.step_events.specs.declared.Done.{Done}
-use Rattle.step_events.specs.declared.Done.TheVariants.{Rows, Refused, Full}
+use Rattle.refusal.specs.declared.Refusal.{Refusal}
+use Rattle.refusal.specs.declared.Refusal.TheVariants.{Full, Errno}
 
--- how many rows an answer says
-abbrev pub rows_of : Done → ℕ
-rows_of (Rows k) = k
-rows_of (Refused n) = 0
-rows_of Full = 0
+-- how many event rows a step wrote, or why it was refused
+abbrev pub Came : Type 0
+Came = Result ℕ Refusal
 
--- one that says none, as the rest of a match on it knows: by the place of its variant
-abbrev pub NoRows : Done → Type 0
-NoRows r = (k : ℕ) → r ≡ Rows k → ⊥
+abbrev pub rows_of : Came → ℕ
+rows_of (Ok k) = k
+rows_of (Err e) = 0
 
-pub not_first : (◌≡◌ {A = ℕ} 0 1) ⊎ (◌≡◌ {A = ℕ} 0 2) → ⊥
-not_first h = elim h [ inl a ↦ omega arith | inr b ↦ omega arith ]
+-- one that says none
+abbrev pub NoRows : Came → Type 0
+NoRows r = (k : ℕ) → r ≡ Ok k → ⊥
 
 -- the answer where every list kept to its limit, and the answer
-abbrev pub made : Outcome → Done
-made (goes o) = Rows (length o.emitted)
-made (refused n st) = Refused n
+abbrev pub made : Outcome → Came
+made (goes o) = Ok (length o.emitted)
+made (refused n st) = Err (Errno n)
 
-abbrev pub answer_of : Outcome → Done
-answer_of u = cond (roomy u) (made u) Full
+abbrev pub answer_of : Outcome → Came
+answer_of u = cond (roomy u) (made u) (Err Full)
 
 -- nothing is said of what a step left where a list was full
-pub record Comes (u : Outcome) (w ev₀ ev : List ℕ) (r : Done) : Type 0 where
+pub record Comes (u : Outcome) (w ev₀ ev : List ℕ) (r : Came) : Type 0 where
   pub answer : r ≡ answer_of u
   pub does : roomy u ≡ true → Emits (out_of u) w ev₀ ev (rows_of r)
 
 -- it has left all as it was then: the words hold st still
-pub record ComesWhole (st : State) (u : Outcome) (w ev₀ ev : List ℕ) (r : Done) : Type 0 where
+pub record ComesWhole (st : State) (u : Outcome) (w ev₀ ev : List ℕ) (r : Came) : Type 0 where
   pub comes : Comes u w ev₀ ev r
   pub kept : roomy u ≡ false → Emits (stays st) w ev₀ ev 0
 
@@ -80,78 +79,67 @@ within-also o f = within-most o.peak (f o.state).peak
 
 -- ---- by the outcome
 module _ {u : Outcome} {w ev₀ ev : List ℕ} where
-  pub comes-made : {r : Done} → roomy u ≡ true → r ≡ made u → Emits (out_of u) w ev₀ ev (rows_of r) → Comes u w ev₀ ev r
-  comes-made e h d = record { answer = h ∙ sym (cond-true (roomy u) (made u) Full e); does = λ _. d }
+  pub comes-made : {r : Came} → roomy u ≡ true → r ≡ made u → Emits (out_of u) w ev₀ ev (rows_of r) → Comes u w ev₀ ev r
+  comes-made e h d = record { answer = h ∙ sym (cond-true (roomy u) (made u) (Err Full) e); does = λ _. d }
 
-  pub comes-full : roomy u ≡ false → Comes u w ev₀ ev Full
+  pub comes-full : roomy u ≡ false → Comes u w ev₀ ev (Err Full)
   comes-full e =
-      record { answer = sym (cond-false (roomy u) (made u) Full e); does = λ h. absurd (true-false (roomy u) h e) }
+      record { answer = sym (cond-false (roomy u) (made u) (Err Full) e); does = λ h. absurd (true-false (roomy u) h e) }
 
-  pub whole-made : {r : Done} (st : State) → roomy u ≡ true → Comes u w ev₀ ev r → ComesWhole st u w ev₀ ev r
+  pub whole-made : {r : Came} (st : State) → roomy u ≡ true → Comes u w ev₀ ev r → ComesWhole st u w ev₀ ev r
   whole-made st e c = record { comes = c; kept = λ h. absurd (true-false (roomy u) e h) }
 
-pub whole-full : {u : Outcome} {st : State} {w : List ℕ} (ev : List ℕ) → roomy u ≡ false → Represents w st → ComesWhole st u w ev ev Full
+pub whole-full : {u : Outcome} {st : State} {w : List ℕ} (ev : List ℕ) → roomy u ≡ false → Represents w st → ComesWhole st u w ev ev (Err Full)
 whole-full {st = st} ev e h = record { comes = comes-full e; kept = λ _. does-none st h }
 
 -- ---- by the answer
-pub rows-full : (k : ℕ) → Rows k ≡ Full → ⊥
-rows-full k e = let z : ◌≡◌ {A = ℕ} 0 1 = cc in omega arith
+pub no-rows : {r : Came} {e : Refusal} → r ≡ Err e → NoRows r
+no-rows h k f = cc
 
-pub full-no-rows : NoRows Full
-full-no-rows k e = rows-full k (sym e)
-
-refused-no-rows : (n : ℕ) → NoRows (Refused n)
-refused-no-rows n k e = let z : ◌≡◌ {A = ℕ} 0 1 = cc in omega arith
-
-pub refused_full : (n : ℕ) → Refused n ≡ Full → ⊥
-refused_full n e = let z : ◌≡◌ {A = ℕ} 0 1 = cc in omega arith
-
-made-full : (u : Outcome) → made u ≡ Full → ⊥
-made-full (goes o) e = rows-full (length o.emitted) e
-made-full (refused n st) e = refused_full n e
+made-full : (u : Outcome) → made u ≡ Err Full → ⊥
+made-full (goes o) e = cc
+made-full (refused n st) e = cc
 
 module _ {u : Outcome} {w ev₀ ev : List ℕ} where
-  pub comes-roomy : {r : Done} → Comes u w ev₀ ev r → (r ≡ Full → ⊥) → roomy u ≡ true
-  comes-roomy c h = test-case (roomy u) (λ e. e) (λ e. absurd (h (c.answer ∙ cond-false (roomy u) (made u) Full e)))
+  pub comes-roomy : {r : Came} → Comes u w ev₀ ev r → (r ≡ Err Full → ⊥) → roomy u ≡ true
+  comes-roomy c h = test-case (roomy u) (λ e. e) (λ e. absurd (h (c.answer ∙ cond-false (roomy u) (made u) (Err Full) e)))
 
-  pub comes-rows : {k : ℕ} → Comes u w ev₀ ev (Rows k) → (roomy u ≡ true) × Emits (out_of u) w ev₀ ev k
-  comes-rows {k} c = let e = comes-roomy c (rows-full k) in (e, c.does e)
+  pub comes-rows : {k : ℕ} → Comes u w ev₀ ev (Ok k) → (roomy u ≡ true) × Emits (out_of u) w ev₀ ev k
+  comes-rows {k} c = let e = comes-roomy c (λ f. cc) in (e, c.does e)
 
-  pub full-past : Comes u w ev₀ ev Full → roomy u ≡ false
+  pub full-past : Comes u w ev₀ ev (Err Full) → roomy u ≡ false
   full-past c =
-      test-case (roomy u) (λ e. absurd (made-full u (sym (c.answer ∙ cond-true (roomy u) (made u) Full e)))) (λ e. e)
+      test-case (roomy u) (λ e. absurd (made-full u (sym (c.answer ∙ cond-true (roomy u) (made u) (Err Full) e)))) (λ e. e)
 
 -- a step that goes lacked room where it says no rows: no rule refuses it
-pub other-past : {o : Out} {w ev₀ ev : List ℕ} {r : Done} → NoRows r → Comes (goes o) w ev₀ ev r → (r ≡ Full) × (within o.peak ≡ false)
+pub other-past : {o : Out} {w ev₀ ev : List ℕ} {r : Came} → NoRows r → Comes (goes o) w ev₀ ev r → (r ≡ Err Full) × (within o.peak ≡ false)
 other-past {o} other c =
     let n = length o.emitted in
     test-case (within o.peak)
-    (λ e. absurd (other n (c.answer ∙ cond-true (within o.peak) (Rows n) Full e)))
-    (λ e. (c.answer ∙ cond-false (within o.peak) (Rows n) Full e, e))
+    (λ e. absurd (other n (c.answer ∙ cond-true (within o.peak) (Ok n) (Err Full) e)))
+    (λ e. (c.answer ∙ cond-false (within o.peak) (Ok n) (Err Full) e, e))
 
-pub goes-made : {o : Out} {w ev₀ ev : List ℕ} {k : ℕ} → within o.peak ≡ true → Emits o w ev₀ ev k → Comes (goes o) w ev₀ ev (Rows k)
-goes-made e d = comes-made e (ap Rows d.count) d
+pub goes-made : {o : Out} {w ev₀ ev : List ℕ} {k : ℕ} → within o.peak ≡ true → Emits o w ev₀ ev k → Comes (goes o) w ev₀ ev (Ok k)
+goes-made e d = comes-made e (ap Ok d.count) d
 
-pub refused-made : (n : ℕ) {st : State} {w : List ℕ} (ev : List ℕ) → Represents w st → Comes (refused n st) w ev ev (Refused n)
+pub refused-made : (n : ℕ) {st : State} {w : List ℕ} (ev : List ℕ) → Represents w st → Comes (refused n st) w ev ev (Err (Errno n))
 refused-made n {st} ev h = comes-made (holds-within h) refl (does-none st h)
 
 -- ---- one step after another
 -- the answer of one after another that emitted k rows
-abbrev pub joined : ℕ → Done → Done
-joined k (Rows m) = Rows (k + m)
-joined k (Refused n) = Refused n
-joined k Full = Full
+abbrev pub joined : ℕ → Came → Came
+joined k (Ok m) = Ok (k + m)
+joined k (Err e) = Err e
 
-pub joined-other : (k : ℕ) (r : Done) → NoRows r → r ≡ joined k r
-joined-other k (Rows m) other = absurd (other m refl)
-joined-other k (Refused n) other = refl
-joined-other k Full other = refl
+pub joined-other : (k : ℕ) (r : Came) → NoRows r → r ≡ joined k r
+joined-other k (Ok m) other = absurd (other m refl)
+joined-other k (Err e) other = refl
 
-pub adds_none : (st : State) {w ev : List ℕ} → Represents w st → Comes (goes (stays st)) w ev ev (Rows 0)
+pub adds_none : (st : State) {w ev : List ℕ} → Represents w st → Comes (goes (stays st)) w ev ev (Ok 0)
 adds_none st h = goes-made (holds-within h) (does-none st h)
 
 -- the second on the part of the buffer that is left behind the first's rows
-pub adds-also : {o : Out} {w ev₀ ev : List ℕ} {k : ℕ} → Comes (goes o) w ev₀ ev (Rows k) → (f : State → Out) {w' x : List ℕ} {r : Done}
+pub adds-also : {o : Out} {w ev₀ ev : List ℕ} {k : ℕ} → Comes (goes o) w ev₀ ev (Ok k) → (f : State → Out) {w' x : List ℕ} {r : Came}
     → Comes (goes (f o.state)) w' (rest k ev) x r
     → Comes (goes (also o f)) w' ev₀ (take (34 * k) ev ++ (x ++ drop (length ev - 34 * k) (drop (34 * k) ev))) (joined k r)
 adds-also {o} {w} {ev₀} {ev} {k} a f {w'} {x} {r} b = go r b
@@ -159,17 +147,17 @@ adds-also {o} {w} {ev₀} {ev} {k} a f {w'} {x} {r} b = go r b
     first : (within o.peak ≡ true) × Emits o w ev₀ ev k
     first = comes-rows a
 
-    go : (r : Done) → Comes (goes (f o.state)) w' (rest k ev) x r
+    go : (r : Came) → Comes (goes (f o.state)) w' (rest k ev) x r
         → Comes (goes (also o f)) w' ev₀ (take (34 * k) ev ++ (x ++ drop (length ev - 34 * k) (drop (34 * k) ev))) (joined k r)
-    go (Rows m) b =
+    go (Ok m) b =
         let second = comes-rows b in
         let both : (within o.peak && within (f o.state).peak) ≡ true = rw first.0 second.0 in
         goes-made (within-also o f ∙ both) (does-also first.1 f second.1)
-    go (Refused n) b = absurd (refused_full n (other-past (refused-no-rows n) b).0)
-    go Full b =
-        let both : (within o.peak && within (f o.state).peak) ≡ false = rw first.0 (full-past b) in
-        comes-full (within-also o f ∙ both)
+    go (Err e) b =
+        let past = other-past (no-rows refl) b in
+        let both : (within o.peak && within (f o.state).peak) ≡ false = rw first.0 past.1 in
+        rw past.0 (comes-full (within-also o f ∙ both))
 
 -- the first lacked room already
-pub adds-stop : {o : Out} {w ev₀ ev : List ℕ} {r : Done} → NoRows r → Comes (goes o) w ev₀ ev r → (f : State → Out) {w' ev' : List ℕ} → Comes (goes (also o f)) w' ev₀ ev' r
+pub adds-stop : {o : Out} {w ev₀ ev : List ℕ} {r : Came} → NoRows r → Comes (goes o) w ev₀ ev r → (f : State → Out) {w' ev' : List ℕ} → Comes (goes (also o f)) w' ev₀ ev' r
 adds-stop {o} other a f = let p = other-past other a in rw p.0 (comes-full (within-also o f ∙ rw p.1))

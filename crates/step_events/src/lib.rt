@@ -53,11 +53,3 @@ pub fn del_route4(ev: &mut [u32], r: &[u32])
 {
     route_event(ev, event::DEL_ROUTE4, 0, r);
 }
-
-// What a step came to: how many event rows it wrote, the reference's refusal, or that a list had no room.
-#[derive(Clone, Copy)]
-pub enum Done {
-    Rows(usize),
-    Refused(u32),
-    Full,
-}

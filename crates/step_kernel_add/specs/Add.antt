@@ -1,6 +1,6 @@
 -- One of the kernel's routes added: what comes of it, by what came of the insertion.
 -- Assumes nothing.
-use Rattle.std.specs.Prelude.{ℕ, ◌≤◌, ◌<◌, ◌≡◌, refl, Bool, true, false, ◌&&◌, List, leb, length}
+use Rattle.std.specs.Prelude.{ℕ, ◌≤◌, ◌<◌, ◌≡◌, refl, Bool, true, false, ◌&&◌, List, Ok, Err, leb, length}
 use Rattle.std.proofs.Common.{sym, ◌∙◌, arith}
 use Rattle.std.proofs.lemmas.Bool.{lt-leb}
 use Rattle.lists.specs.Lists.{Row, put}
@@ -24,7 +24,7 @@ use Rattle.step_events.specs.Row.{new_route-long}
 use Rattle.step_events.specs.Emits.{does-one}
 use Rattle.step_events.specs.Comes.{Comes, holds-within, goes-made, comes-full, adds_none}
 use Rattle.step_events.specs.Through.{Covered}
-use Rattle.step_events.specs.declared.Done.TheVariants as Done
+use Rattle.refusal.specs.declared.Refusal.TheVariants as Refusal
 
 -- a list past its limit
 tables-pass : (a b c : Bool) → c ≡ false → (a && b && c) ≡ false
@@ -42,7 +42,7 @@ created-fit t st h = state-fit (create4 t st) (create4-fit t st (fit-state st h)
 -- ---- by what came of the insertion into the state with the table listed
 module _ (new : Row) (made : State) {w ev : List ℕ} where
   after-put : (i : Insert.Inserted) (flags : ℕ) {ev' : List ℕ} → Put flags ≡ answer_of i → Represents w (with_routes (rows_after i made.routes) made)
-      → length new ≡ 32 → 34 ≤ length ev → ev' ≡ put 0 (new_route4 new flags) ev → Comes (goes (inserted new i made)) w ev ev' (Done.Rows 1)
+      → length new ≡ 32 → 34 ≤ length ev → ev' ≡ put 0 (new_route4 new flags) ev → Comes (goes (inserted new i made)) w ev ev' (Ok 1)
   after-put (Insert.placed rows emitted) flags {ev'} e h n room x =
       test-case (leb (length rows) 256)
       (λ f.
@@ -57,7 +57,7 @@ module _ (new : Row) (made : State) {w ev : List ℕ} where
   after-put Insert.nothing flags e h n room x = let z : ◌≡◌ {A = ℕ} 0 1 = cc in absurd (omega arith)
   after-put (Insert.unplaced k) flags e h n room x = let z : ◌≡◌ {A = ℕ} 0 1 = cc in absurd (omega arith)
 
-  after_nothing : (i : Insert.Inserted) → Nothing ≡ answer_of i → Represents w (with_routes (rows_after i made.routes) made) → Comes (goes (inserted new i made)) w ev ev (Done.Rows 0)
+  after_nothing : (i : Insert.Inserted) → Nothing ≡ answer_of i → Represents w (with_routes (rows_after i made.routes) made) → Comes (goes (inserted new i made)) w ev ev (Ok 0)
   after_nothing (Insert.placed rows emitted) e h =
       test-case (leb (length rows) 256)
       (λ f.
@@ -71,7 +71,7 @@ module _ (new : Row) (made : State) {w ev : List ℕ} where
   after_nothing Insert.nothing e h = adds_none made h
   after_nothing (Insert.unplaced k) e h = let z : ◌≡◌ {A = ℕ} 0 1 = cc in absurd (omega arith)
 
-  after-refused : (i : Insert.Inserted) (n : ℕ) → Refused n ≡ answer_of i → Represents w (with_routes (rows_after i made.routes) made) → Comes (goes (inserted new i made)) w ev ev (Done.Rows 0)
+  after-refused : (i : Insert.Inserted) (n : ℕ) → Refused n ≡ answer_of i → Represents w (with_routes (rows_after i made.routes) made) → Comes (goes (inserted new i made)) w ev ev (Ok 0)
   after-refused (Insert.placed rows emitted) n e h =
       test-case (leb (length rows) 256)
       (λ f.
@@ -85,7 +85,7 @@ module _ (new : Row) (made : State) {w ev : List ℕ} where
   after-refused Insert.nothing n e h = let z : ◌≡◌ {A = ℕ} 0 1 = cc in absurd (omega arith)
   after-refused (Insert.unplaced k) n e h = adds_none made h
 
-  after-full : (i : Insert.Inserted) {ev' : List ℕ} → Full ≡ answer_of i → Comes (goes (inserted new i made)) w ev ev' Done.Full
+  after-full : (i : Insert.Inserted) {ev' : List ℕ} → Full ≡ answer_of i → Comes (goes (inserted new i made)) w ev ev' (Err Refusal.Full)
   after-full (Insert.placed rows emitted) e =
       test-case (leb (length rows) 256)
       (λ f.
@@ -96,7 +96,7 @@ module _ (new : Row) (made : State) {w ev : List ℕ} where
   after-full Insert.nothing e = let z : ◌≡◌ {A = ℕ} 0 1 = cc in absurd (omega arith)
   after-full (Insert.unplaced k) e = let z : ◌≡◌ {A = ℕ} 0 1 = cc in absurd (omega arith)
 
-  tables-full : (i : Insert.Inserted) {ev' : List ℕ} → 32 < length made.tables → Comes (goes (inserted new i made)) w ev ev' Done.Full
+  tables-full : (i : Insert.Inserted) {ev' : List ℕ} → 32 < length made.tables → Comes (goes (inserted new i made)) w ev ev' (Err Refusal.Full)
   tables-full (Insert.placed rows emitted) h =
       comes-full (tables-pass (leb (length made.addresses) 64) (leb (length rows) 256) (leb (length made.tables) 32) (lt-leb (length made.tables) 32 h))
   tables-full Insert.nothing h =
@@ -106,26 +106,26 @@ module _ (new : Row) (made : State) {w ev : List ℕ} where
 
 -- ---- the whole
 module _ (new : Row) (st : State) {w ev : List ℕ} where
-  pub add_full_tables : {w₀ ev' : List ℕ} → Represents w₀ st → 32 < length (list_table (table new) (tables_of w₀)) → Comes (goes (kernel_add4 new st)) w ev ev' Done.Full
+  pub add_full_tables : {w₀ ev' : List ℕ} → Represents w₀ st → 32 < length (list_table (table new) (tables_of w₀)) → Comes (goes (kernel_add4 new st)) w ev ev' (Err Refusal.Full)
   unfolding kernel_add4 create4
   add_full_tables {w₀} h n =
       tables-full new (create4 (table new) st) (insert4 new 0xc00 st.routes) (rw (tables-at h) at n)
 
   module _ {r : Inserted} (i : InsertedInto new 0xc00 (create4 (table new) st) w r) where
-    pub add_put : (flags : ℕ) {ev' : List ℕ} → r ≡ Put flags → length new ≡ 32 → 34 ≤ length ev → ev' ≡ put 0 (new_route4 new flags) ev → Comes (goes (kernel_add4 new st)) w ev ev' (Done.Rows 1)
+    pub add_put : (flags : ℕ) {ev' : List ℕ} → r ≡ Put flags → length new ≡ 32 → 34 ≤ length ev → ev' ≡ put 0 (new_route4 new flags) ev → Comes (goes (kernel_add4 new st)) w ev ev' (Ok 1)
     unfolding kernel_add4
     add_put flags e n room x =
         after-put new (create4 (table new) st) (insert4 new 0xc00 (create4 (table new) st).routes) flags (sym e ∙ i.answer) i.holds n room x
 
-    pub add_nothing : r ≡ Nothing → Comes (goes (kernel_add4 new st)) w ev ev (Done.Rows 0)
+    pub add_nothing : r ≡ Nothing → Comes (goes (kernel_add4 new st)) w ev ev (Ok 0)
     unfolding kernel_add4
     add_nothing e = after_nothing new (create4 (table new) st) (insert4 new 0xc00 (create4 (table new) st).routes) (sym e ∙ i.answer) i.holds
 
-    pub add_refused : (n : ℕ) → r ≡ Refused n → Comes (goes (kernel_add4 new st)) w ev ev (Done.Rows 0)
+    pub add_refused : (n : ℕ) → r ≡ Refused n → Comes (goes (kernel_add4 new st)) w ev ev (Ok 0)
     unfolding kernel_add4
     add_refused n e = after-refused new (create4 (table new) st) (insert4 new 0xc00 (create4 (table new) st).routes) n (sym e ∙ i.answer) i.holds
 
-    pub add_full : {ev' : List ℕ} → r ≡ Full → Comes (goes (kernel_add4 new st)) w ev ev' Done.Full
+    pub add_full : {ev' : List ℕ} → r ≡ Full → Comes (goes (kernel_add4 new st)) w ev ev' (Err Refusal.Full)
     unfolding kernel_add4
     add_full e = after-full new (create4 (table new) st) (insert4 new 0xc00 (create4 (table new) st).routes) (sym e ∙ i.answer)
 

@@ -11,13 +11,13 @@ ghost use Rattle.state.specs.Represents.{Represents, RepresentsSome};
 ghost use Rattle.step_events.specs.Comes.{Comes, rows_of};
 
 use layout::{TABLE_LIMIT, route};
-use step_events::Done;
+use refusal::Refusal;
 use step_insert::Inserted;
 
 const CREATE_APPEND: u32 = 0xc00;
 
 // Its table is listed, and it is put behind the rows alike it with its event, unless it is there.
-pub fn kernel_add4(s: &mut [u32], ev: &mut [u32], new: &[u32]) -> Done
+pub fn kernel_add4(s: &mut [u32], ev: &mut [u32], new: &[u32]) -> Result<usize, Refusal>
     requires represents_some { RepresentsSome s.old }
     requires value { fit_route new.now ≡ true }
     requires in_bounds { 34 ≤ length ev.old }
@@ -27,17 +27,17 @@ pub fn kernel_add4(s: &mut [u32], ev: &mut [u32], new: &[u32]) -> Done
 {
     let table = new[route::TABLE];
     if TABLE_LIMIT < state_tables::tables_after(s, table) {
-        return Done::Full;
+        return Err(Refusal::Full);
     }
     state_tables::list_table(s, table);
     let came = step_insert::insert4(s, new, CREATE_APPEND);
     match came {
         Inserted::Put(flags) => {
             step_events::new_route4(ev, new, flags);
-            Done::Rows(1)
+            Ok(1)
         }
-        Inserted::Nothing => Done::Rows(0),
-        Inserted::Refused(_) => Done::Rows(0),
-        Inserted::Full => Done::Full,
+        Inserted::Nothing => Ok(0),
+        Inserted::Refused(_) => Ok(0),
+        Inserted::Full => Err(Refusal::Full),
     }
 }

@@ -1,6 +1,6 @@
 -- Adding steps from whatever fit state the words hold.
 -- Assumes nothing.
-use Rattle.std.specs.Prelude.{ℕ, ◌+◌, ◌-◌, ◌*◌, ◌≤◌, length, drop, ◌≡◌, refl, true, List, [], ◌∷◌}
+use Rattle.std.specs.Prelude.{ℕ, Ok, Err, ◌+◌, ◌-◌, ◌*◌, ◌≤◌, length, drop, ◌≡◌, refl, true, List, [], ◌∷◌}
 use Rattle.std.proofs.Common.{length-drop, length-take-le, arith, ◌∙◌}
 use Rattle.step_events.specs.Emits.{rest}
 use Rattle.lists.specs.Lists.{Row}
@@ -11,9 +11,7 @@ use Rattle.definition.specs.Reference.Insert.{create4, insert4, inserted, kernel
 use Rattle.definition.specs.Reference.Addresses.{goes}
 use Rattle.definition.specs.Preservation.Keeps.{Keeps, keeps_fit}
 use Rattle.state.specs.Represents.{Represents, RepresentsFit}
-use Rattle.step_events.specs.Comes.{Comes, rows_of, joined, comes-rows}
-use Rattle.step_events.specs.declared.Done.{Done}
-use Rattle.step_events.specs.declared.Done.TheVariants.{Rows, Refused, Full}
+use Rattle.step_events.specs.Comes.{Came, Comes, rows_of, joined, comes-rows}
 use Rattle.layout.specs.Route.{table}
 
 -- what is left of a buffer
@@ -22,14 +20,14 @@ rest-room t n ev h =
     let l : length (rest t ev) ≡ length ev - 34 * t = length-take-le (length ev - 34 * t) (drop (34 * t) ev) (rw length-drop (omega arith)) in
     omega arith
 
-abbrev pub AddsFrom : (State → Out) → List ℕ → List ℕ → List ℕ → List ℕ → Done → Type 0
+abbrev pub AddsFrom : (State → Out) → List ℕ → List ℕ → List ℕ → List ℕ → Came → Type 0
 AddsFrom f w₀ w ev₀ ev r = (st : State) → Represents w₀ st → fit_state st ≡ true → Comes (goes (f st)) w ev₀ ev r
 
 -- a step that had room leaves words that hold a fit state
-pub adds-holds : (f : State → Out) {w₀ w ev₀ ev : List ℕ} {k : ℕ} → AddsFrom f w₀ w ev₀ ev (Rows k) → (st : State) → Represents w₀ st → fit_state st ≡ true → Represents w (f st).state
+pub adds-holds : (f : State → Out) {w₀ w ev₀ ev : List ℕ} {k : ℕ} → AddsFrom f w₀ w ev₀ ev (Ok k) → (st : State) → Represents w₀ st → fit_state st ≡ true → Represents w (f st).state
 adds-holds f a st h g = (comes-rows (a st h g)).1.holds
 
-pub adds-sound : (f : State → Out) → Keeps f → {w₀ w ev₀ ev : List ℕ} {k : ℕ} → AddsFrom f w₀ w ev₀ ev (Rows k) → RepresentsFit w₀ → RepresentsFit w
+pub adds-sound : (f : State → Out) → Keeps f → {w₀ w ev₀ ev : List ℕ} {k : ℕ} → AddsFrom f w₀ w ev₀ ev (Ok k) → RepresentsFit w₀ → RepresentsFit w
 adds-sound f k a s =
     record {
       state = (f s.state).state;
@@ -64,19 +62,18 @@ kernel_add4-leaves new =
     go new (Insert.unplaced n) made = refl
 
 -- ---- answers
-pub rows_are : (n : ℕ) (t : Done) (m : ℕ) → t ≡ Rows m → rows_of t ≤ n → m ≤ n
+pub rows_are : (n : ℕ) (t : Came) (m : ℕ) → t ≡ Ok m → rows_of t ≤ n → m ≤ n
 rows_are n t m e h = rw e at h
 
-pub joined-room : (k : ℕ) (t : Done) (m : ℕ) → t ≡ Rows m → k + rows_of t ≤ 1000 → k + m ≤ 1000
+pub joined-room : (k : ℕ) (t : Came) (m : ℕ) → t ≡ Ok m → k + rows_of t ≤ 1000 → k + m ≤ 1000
 joined-room k t m e h = rw e at h
 
-pub joined-rows : (k : ℕ) (t : Done) (m : ℕ) → t ≡ Rows m → Rows (k + m) ≡ joined k t
+pub joined-rows : (k : ℕ) (t : Came) (m : ℕ) → t ≡ Ok m → Ok (k + m) ≡ joined k t
 joined-rows k t m e = rw e
 
-pub joined_le : (k n : ℕ) (t : Done) → rows_of t ≤ n → rows_of (joined k t) ≤ k + n
-joined_le k n (Rows m) h = omega arith
-joined_le k n (Refused m) h = omega arith
-joined_le k n Full h = omega arith
+pub joined_le : (k n : ℕ) (t : Came) → rows_of t ≤ n → rows_of (joined k t) ≤ k + n
+joined_le k n (Ok m) h = omega arith
+joined_le k n (Err e) h = omega arith
 
-pub joined-few : (k n : ℕ) (t r : Done) → r ≡ joined k t → rows_of t ≤ n → rows_of r ≤ k + n
+pub joined-few : (k n : ℕ) (t r : Came) → r ≡ joined k t → rows_of t ≤ n → rows_of r ≤ k + n
 joined-few k n t r e h = rw e (joined_le k n t h)

@@ -1,6 +1,6 @@
 -- An address that is there changed, and its prefix route moved before.
 -- Assumes nothing.
-use Rattle.std.specs.Prelude.{ℕ, ◌+◌, ◌-◌, ◌*◌, ◌≤◌, ◌<◌, ◌≡◌, refl, true, false}
+use Rattle.std.specs.Prelude.{ℕ, Ok, ◌+◌, ◌-◌, ◌*◌, ◌≤◌, ◌<◌, ◌≡◌, refl, true, false}
 use native.Mathlib.Omega.{arith}
 use Rattle.std.proofs.Math.Path.{sym, ap, subst}
 use Rattle.std.proofs.Common.{◌∙◌, length-take}
@@ -30,9 +30,7 @@ use Rattle.row_candidates.specs.Rows.{subnet_route}
 use Rattle.state.specs.Represents.{Represents, count-addresses, RepresentsFit}
 use Rattle.state.specs.Change.{address-at}
 use Rattle.step_events.specs.Emits.{Emits, does-one, rest}
-use Rattle.step_events.specs.Comes.{Comes, NoRows, holds-within, goes-made, adds_none, adds-also, adds-stop, comes-rows}
-use Rattle.step_events.specs.declared.Done.{Done}
-use Rattle.step_events.specs.declared.Done.TheVariants.{Rows}
+use Rattle.step_events.specs.Comes.{Came, Comes, NoRows, holds-within, goes-made, adds_none, adds-also, adds-stop, comes-rows}
 use Rattle.step_new_address.specs.Adding.{AddsFrom, adds-holds, adds-sound, also-leaves, kernel_add4-leaves}
 use Rattle.step_new_address.specs.New.{length-emitted}
 
@@ -51,16 +49,16 @@ module _ (old : Row) (fit : fit_address old ≡ true) (priority source : ℕ) (o
   row-wide = length-route x row_fits
 
 -- ---- a route taken out never lacks room
-pub del_adds : (p : Row) (st : State) {w₀ w ev₀ ev : List ℕ} {r : ℕ} → Represents w₀ st → Emits (kernel_del4 p st) w ev₀ ev r → Comes (goes (kernel_del4 p st)) w ev₀ ev (Rows r)
+pub del_adds : (p : Row) (st : State) {w₀ w ev₀ ev : List ℕ} {r : ℕ} → Represents w₀ st → Emits (kernel_del4 p st) w ev₀ ev r → Comes (goes (kernel_del4 p st)) w ev₀ ev (Ok r)
 del_adds p st h d =
     goes-made (covered (kernel_del4 p st).peak (sizes st) (kernel_del4-under p st).ever (holds-within h)) d
 
 module _ (q old : Row) where
-  pub moved_none : reroutes q old ≡ false → (st : State) {w ev : List ℕ} → Represents w st → Comes (goes (moved q old st)) w ev ev (Rows 0)
+  pub moved_none : reroutes q old ≡ false → (st : State) {w ev : List ℕ} → Represents w st → Comes (goes (moved q old st)) w ev ev (Ok 0)
   unfolding moved
   moved_none e st h = rw e (adds_none st h)
 
-  module _ (e : reroutes q old ≡ true) (fit : fit_address old ≡ true) {new gone : Row} (a : new ≡ subnet_route (Address.priority q) (local old) old) (b : gone ≡ subnet_route (Address.priority old) (local old) old) {w₀ w ev₀ ev : List ℕ} {r : Done} (u : AddsFrom (kernel_add4 new) w₀ w ev₀ ev r) where
+  module _ (e : reroutes q old ≡ true) (fit : fit_address old ≡ true) {new gone : Row} (a : new ≡ subnet_route (Address.priority q) (local old) old) (b : gone ≡ subnet_route (Address.priority old) (local old) old) {w₀ w ev₀ ev : List ℕ} {r : Came} (u : AddsFrom (kernel_add4 new) w₀ w ev₀ ev r) where
     added : AddsFrom (kernel_add4 (subnet_route (Address.priority q) (local old) old)) w₀ w ev₀ ev r
     added = rw a at u
 
@@ -68,14 +66,14 @@ module _ (q old : Row) where
     unfolding moved
     moved_other other st h g = rw e (adds-stop other (added st h g) (kernel_del4 (prefix_route (local old) old)))
 
-    pub moved-both : (k m : ℕ) → r ≡ Rows k → {w' x : List ℕ} → ((st : State) → Represents w st → Emits (kernel_del4 gone st) w' (rest k ev) x m)
-        → AddsFrom (moved q old) w₀ w' ev₀ (take (34 * k) ev ++ (x ++ drop (length ev - 34 * k) (drop (34 * k) ev))) (Rows (k + m))
+    pub moved-both : (k m : ℕ) → r ≡ Ok k → {w' x : List ℕ} → ((st : State) → Represents w st → Emits (kernel_del4 gone st) w' (rest k ev) x m)
+        → AddsFrom (moved q old) w₀ w' ev₀ (take (34 * k) ev ++ (x ++ drop (length ev - 34 * k) (drop (34 * k) ev))) (Ok (k + m))
     unfolding moved prefix_route
     moved-both k m f {w'} {x} d st h g =
-        let first : Comes (goes (kernel_add4 (subnet_route (Address.priority q) (local old) old) st)) w ev₀ ev (Rows k) = rw f at (added st h g) in
+        let first : Comes (goes (kernel_add4 (subnet_route (Address.priority q) (local old) old) st)) w ev₀ ev (Ok k) = rw f at (added st h g) in
         let later = (kernel_add4 (subnet_route (Address.priority q) (local old) old) st).state in
         let there : Represents w later = (comes-rows first).1.holds in
-        let second : Comes (goes (kernel_del4 (subnet_route (Address.priority old) (local old) old) later)) w' (rest k ev) x (Rows m) =
+        let second : Comes (goes (kernel_del4 (subnet_route (Address.priority old) (local old) old) later)) w' (rest k ev) x (Ok m) =
         del_adds (subnet_route (Address.priority old) (local old) old) later there (rw b at (d later there))
         in
         rw e (adds-also first (kernel_del4 (subnet_route (Address.priority old) (local old) old)) second)
@@ -96,15 +94,15 @@ module _ (q : Row) (clock : ℕ) (old : Row) (g : fit_add_v4 q ≡ true) (fit : 
   pub changed-fit : fit_address row ≡ true
   changed-fit = ap fit_address changed_row ∙ changed_to-fit q old clock g fit
 
-  module _ {w₀ w ev₀ ev : List ℕ} {r : Done} (m : AddsFrom (moved q old) w₀ w ev₀ ev r) where
+  module _ {w₀ w ev₀ ev : List ℕ} {r : Came} (m : AddsFrom (moved q old) w₀ w ev₀ ev r) where
     pub change-other : NoRows r → {w' ev' : List ℕ} (st : State) → Represents w₀ st → fit_state st ≡ true → (there : Row) → old ≡ there → Comes (goes (change_v4 q there clock st)) w' ev₀ ev' r
     unfolding change_v4
     change-other other {w'} {ev'} st hs c there z =
         subst (λ (a : Row). Comes (goes (change_v4 q a clock st)) w' ev₀ ev' r) z
         (adds-stop other (m st hs c) (λ later. becomes (with_addresses (replace_first (same_address q) (changed_to q old clock) later.addresses) later) (new_addr4 (changed_to q old clock) ∷ [])))
 
-    module _ (k : ℕ) (f : r ≡ Rows k) where
-      went : AddsFrom (moved q old) w₀ w ev₀ ev (Rows k)
+    module _ (k : ℕ) (f : r ≡ Ok k) where
+      went : AddsFrom (moved q old) w₀ w ev₀ ev (Ok k)
       went = rw f at m
 
       pub change-sound : RepresentsFit w₀ → RepresentsFit w
@@ -116,19 +114,19 @@ module _ (q : Row) (clock : ℕ) (old : Row) (g : fit_add_v4 q ≡ true) (fit : 
 
       pub change-done : (i : ℕ) {w' x : List ℕ} → ((st : State) → Represents w st → Represents w' (with_addresses (set st.addresses i row) st))
           → 34 ≤ length (rest k ev) → x ≡ put 0 (new_addr4 row) (rest k ev) → (st : State) → Represents w₀ st → fit_state st ≡ true → i ≡ place_of (same_address q) st.addresses → (there : Row) → old ≡ there
-          → Comes (goes (change_v4 q there clock st)) w' ev₀ (take (34 * k) ev ++ (x ++ drop (length ev - 34 * k) (drop (34 * k) ev))) (Rows (k + 1))
+          → Comes (goes (change_v4 q there clock st)) w' ev₀ (take (34 * k) ev ++ (x ++ drop (length ev - 34 * k) (drop (34 * k) ev))) (Ok (k + 1))
       unfolding change_v4
       change-done i {w'} {x} s room emitted st hs c at mine z =
           let new = changed_to q old clock in
           let later = (moved q old st).state in
-          let first : Comes (goes (moved q old st)) w ev₀ ev (Rows k) = went st hs c in
+          let first : Comes (goes (moved q old st)) w ev₀ ev (Ok k) = went st hs c in
           let place : replace_first (same_address q) new later.addresses ≡ set later.addresses i new =
           replace_at (same_address q) new later.addresses ∙ ap (λ (n : ℕ). set later.addresses n new) (ap (place_of (same_address q)) (moved-leaves q old st) ∙ sym at)
           in
           let there : Represents w' (with_addresses (set later.addresses i new) later) = rw changed_row at (s later (comes-rows first).1.holds) in
           let there' : Represents w' (with_addresses (replace_first (same_address q) new later.addresses) later) = subst (λ (l : List Row). Represents w' (with_addresses l later)) (sym place) there in
           let emitted' : x ≡ put 0 (new_addr4 new) (rest k ev) = rw changed_row at emitted in
-          subst (λ (a : Row). Comes (goes (change_v4 q a clock st)) w' ev₀ (take (34 * k) ev ++ (x ++ drop (length ev - 34 * k) (drop (34 * k) ev))) (Rows (k + 1))) z
+          subst (λ (a : Row). Comes (goes (change_v4 q a clock st)) w' ev₀ (take (34 * k) ev ++ (x ++ drop (length ev - 34 * k) (drop (34 * k) ev))) (Ok (k + 1))) z
           (adds-also first (λ later. becomes (with_addresses (replace_first (same_address q) new later.addresses) later) (new_addr4 new ∷ []))
           (goes-made (holds-within there')
           (does-one (with_addresses (replace_first (same_address q) new later.addresses) later) (new_addr4 new) there' (length-emitted new (length-address new (changed_to-fit q old clock g fit))) room emitted')))

@@ -1,6 +1,6 @@
 -- Routes added one after the other from rows laid out in a block.
 -- Assumes nothing.
-use Rattle.std.specs.Prelude.{ℕ, ◌+◌, ◌-◌, ◌*◌, ◌≤◌, ◌<◌, ◌≡◌, true, List, [], ◌++◌, length, get_or, take, drop}
+use Rattle.std.specs.Prelude.{ℕ, Ok, ◌+◌, ◌-◌, ◌*◌, ◌≤◌, ◌<◌, ◌≡◌, true, List, [], ◌++◌, length, get_or, take, drop}
 use Rattle.std.proofs.Common.{arith, sym, ap, subst, ◌∙◌, lit<}
 use Rattle.lists.specs.Lists.{Row, all, flat, put}
 use Rattle.lists.specs.At.{all_take}
@@ -16,10 +16,8 @@ use Rattle.definition.specs.Preservation.Keeps.{Keeps, through_keeps, keeps_fit}
 use Rattle.definition.specs.Preservation.Addresses.{kernel_add4_keeps}
 use Rattle.state.specs.Represents.{RepresentsSome, RepresentsFit, fit-some}
 use Rattle.step_events.specs.Emits.{does-length, rest}
-use Rattle.step_events.specs.Comes.{Comes, NoRows, joined, joined-other, holds-within, comes-rows}
+use Rattle.step_events.specs.Comes.{Came, Comes, NoRows, joined, joined-other, holds-within, comes-rows}
 use Rattle.step_events.specs.Through.{adds-start, adds-next, adds-other-end, adds-end}
-use Rattle.step_events.specs.declared.Done.{Done}
-use Rattle.step_events.specs.declared.Done.TheVariants.{Rows}
 use Rattle.step_kernel_add.specs.Add.{kernel_add4-covered}
 use Rattle.step_new_address.specs.Adding.{AddsFrom, adds-holds, adds-sound}
 
@@ -34,7 +32,7 @@ module _ (rows : List Row) (f : all fit_route rows ≡ true) (k : ℕ) (e : k �
 
 -- ---- the first i of them are added
 pub record LoopInvariant (block s₀ ev₀ : List ℕ) (i : ℕ) (s ev : List ℕ) (t : ℕ) : Type 0 where
-  pub adds : (rows : List Row) → Laid 32 fit_route block rows → AddsFrom (through kernel_add4 (take i rows)) s₀ s ev₀ ev (Rows t)
+  pub adds : (rows : List Row) → Laid 32 fit_route block rows → AddsFrom (through kernel_add4 (take i rows)) s₀ s ev₀ ev (Ok t)
 
 pub sofar-start : (block s ev : List ℕ) → LoopInvariant block s ev 0 s ev 0
 sofar-start block s ev = record { adds = λ rows h st hs f. adds-start kernel_add4 rows st hs }
@@ -54,7 +52,7 @@ module _ {block s₀ ev₀ s ev : List ℕ} {i t : ℕ} (a : LoopInvariant block
   sofar-length v y = does-length (comes-rows (a.adds y.list y.laid v.state v.holds v.fits)).1
 
   module _ (k : ℕ) (long : length block ≡ 32 * k) where
-    module _ (b : i < k) {w x : List ℕ} {r : Done} (u : AddsFrom (kernel_add4 (part 32 block i)) s w (rest t ev) x r) where
+    module _ (b : i < k) {w x : List ℕ} {r : Came} (u : AddsFrom (kernel_add4 (part 32 block i)) s w (rest t ev) x r) where
       one_more : (rows : List Row) → Laid 32 fit_route block rows
           → AddsFrom (through kernel_add4 (take (i + 1) rows)) s₀ w ev₀ (take (34 * t) ev ++ (x ++ drop (length ev - 34 * t) (drop (34 * t) ev))) (joined t r)
       one_more rows h st hs f =
@@ -65,11 +63,11 @@ module _ {block s₀ ev₀ s ev : List ℕ} {i t : ℕ} (a : LoopInvariant block
           in
           adds-next kernel_add4 rows st kernel_add4-covered (holds-within hs) i [] b' (a.adds rows h st hs f) here
 
-      pub sofar-next : (m : ℕ) → r ≡ Rows m → LoopInvariant block s₀ ev₀ (i + 1) w (take (34 * t) ev ++ (x ++ drop (length ev - 34 * t) (drop (34 * t) ev))) (t + m)
+      pub sofar-next : (m : ℕ) → r ≡ Ok m → LoopInvariant block s₀ ev₀ (i + 1) w (take (34 * t) ev ++ (x ++ drop (length ev - 34 * t) (drop (34 * t) ev))) (t + m)
       sofar-next m e =
           record {
             adds = λ rows h st hs f.
-                subst (λ (q : Done). Comes (goes (through kernel_add4 (take (i + 1) rows) st)) w ev₀ (take (34 * t) ev ++ (x ++ drop (length ev - 34 * t) (drop (34 * t) ev))) (joined t q)) e (one_more rows h st hs f);
+                subst (λ (q : Came). Comes (goes (through kernel_add4 (take (i + 1) rows) st)) w ev₀ (take (34 * t) ev ++ (x ++ drop (length ev - 34 * t) (drop (34 * t) ev))) (joined t q)) e (one_more rows h st hs f);
           }
 
       pub sofar-other : NoRows r → {w' ev' : List ℕ} (rows : List Row) → Laid 32 fit_route block rows → AddsFrom (install rows) s₀ w' ev₀ ev' r
@@ -77,6 +75,6 @@ module _ {block s₀ ev₀ s ev : List ℕ} {i t : ℕ} (a : LoopInvariant block
       sofar-other other rows h st hs f =
           adds-other-end kernel_add4 rows st kernel_add4-covered (holds-within hs) (i + 1) other (rw (← (joined-other t r other)) at (one_more rows h st hs f))
 
-    pub sofar-end : k ≤ i → (rows : List Row) → Laid 32 fit_route block rows → AddsFrom (install rows) s₀ s ev₀ ev (Rows t)
+    pub sofar-end : k ≤ i → (rows : List Row) → Laid 32 fit_route block rows → AddsFrom (install rows) s₀ s ev₀ ev (Ok t)
     unfolding install
     sofar-end b rows h st hs f = adds-end kernel_add4 rows st i (omega (arith, laid-rows block k (lit< tt) long rows h)) (a.adds rows h st hs f)

@@ -1,6 +1,6 @@
 -- A new address: put in with its event, then the routes that it brings.
 -- Assumes nothing.
-use Rattle.std.specs.Prelude.{ℕ, ◌+◌, ◌-◌, ◌*◌, ◌≤◌, ◌≡◌, Bool, true, ◌&&◌, List, [], ◌∷◌, ◌++◌, length, take, drop}
+use Rattle.std.specs.Prelude.{ℕ, refl, Ok, Err, ◌+◌, ◌-◌, ◌*◌, ◌≤◌, ◌≡◌, Bool, true, ◌&&◌, List, [], ◌∷◌, ◌++◌, length, take, drop}
 use Rattle.std.proofs.Common.{arith, sym, ap, subst, ◌∙◌, length-append}
 use Rattle.std.proofs.Math.Bool.{false}
 use Rattle.std.proofs.Math.Dec.{leb}
@@ -22,9 +22,8 @@ use Rattle.definition.specs.Preservation.Addresses.{place4-fit}
 use Rattle.definition.specs.Preservation.Growing.{length-place4}
 use Rattle.state.specs.Represents.{Represents, count-addresses}
 use Rattle.step_events.specs.Emits.{does-one, rest}
-use Rattle.step_events.specs.Comes.{Comes, joined, holds-within, goes-made, comes-full, full-no-rows, adds-also, adds-stop}
-use Rattle.step_events.specs.declared.Done.{Done}
-use Rattle.step_events.specs.declared.Done.TheVariants.{Rows, Full}
+use Rattle.step_events.specs.Comes.{Came, Comes, joined, holds-within, goes-made, comes-full, no-rows, adds-also, adds-stop}
+use Rattle.refusal.specs.declared.Refusal.TheVariants.{Full}
 use Rattle.step_new_address.specs.Adding.{AddsFrom}
 use Rattle.step_new_address.specs.Install.{block_rows, block_ready}
 
@@ -45,14 +44,14 @@ too_many a b c h = rw h
 
 module _ (new : Row) (up : Bool) (st : State) where
   -- there are as many as may be
-  pub new_full : 64 ≤ length st.addresses → {w ev₀ ev : List ℕ} → Comes (goes (new_address new up st)) w ev₀ ev Full
+  pub new_full : 64 ≤ length st.addresses → {w ev₀ ev : List ℕ} → Comes (goes (new_address new up st)) w ev₀ ev (Err Full)
   unfolding new_address
   new_full h {w} {ev₀} {ev} =
       let past : leb (length (place4 new st.addresses)) 64 ≡ false = lt-leb (length (place4 new st.addresses)) 64 (omega (arith, length-place4 new st.addresses)) in
-      let full : Comes (goes (becomes (placed new st) (new_addr4 new ∷ []))) w ev₀ ev Full =
+      let full : Comes (goes (becomes (placed new st) (new_addr4 new ∷ []))) w ev₀ ev (Err Full) =
       comes-full (too_many (leb (length (place4 new st.addresses)) 64) (leb (length st.routes) 256) (leb (length st.tables) 32) past)
       in
-      adds-stop full-no-rows full (install (candidates (place4 new st.addresses) up new))
+      adds-stop (no-rows refl) full (install (candidates (place4 new st.addresses) up new))
 
   pub placed-fit : fit_address new ≡ true → fit_state st ≡ true → fit_state (placed new st) ≡ true
   placed-fit g h =
@@ -74,13 +73,13 @@ module _ (new : Row) (up : Bool) (st : State) where
       pub new_ready : (length (take (32 * k - 0) (drop 0 x)) ≡ 32 * k) × Lays 32 fit_route (take (32 * k - 0) (drop 0 x))
       new_ready = block_ready (candidates (place4 new st.addresses) up new) routes-fit k c.0 o c.1
 
-      pub new_done : fit_state st ≡ true → {ev₀ ev : List ℕ} → 34 ≤ length ev₀ → ev ≡ put 0 (new_addr4 new) ev₀ → {w' x' : List ℕ} {r : Done}
+      pub new_done : fit_state st ≡ true → {ev₀ ev : List ℕ} → 34 ≤ length ev₀ → ev ≡ put 0 (new_addr4 new) ev₀ → {w' x' : List ℕ} {r : Came}
           → ((rows : List Row) → Laid 32 fit_route (take (32 * k - 0) (drop 0 x)) rows → AddsFrom (install rows) w w' (rest 1 ev) x' r)
-          → (z : Done) → z ≡ joined 1 r → Comes (goes (new_address new up st)) w' ev₀ (take 34 ev ++ (x' ++ drop (length ev - 34) (drop 34 ev))) z
+          → (z : Came) → z ≡ joined 1 r → Comes (goes (new_address new up st)) w' ev₀ (take 34 ev ++ (x' ++ drop (length ev - 34) (drop 34 ev))) z
       unfolding new_address
       new_done f {ev₀} {ev} room emitted {w'} {x'} {r} b z same =
           let rows = candidates (place4 new st.addresses) up new in
-          let first : Comes (goes (becomes (placed new st) (new_addr4 new ∷ []))) w ev₀ ev (Rows 1) =
+          let first : Comes (goes (becomes (placed new st) (new_addr4 new ∷ []))) w ev₀ ev (Ok 1) =
           goes-made (holds-within placed-holds) (does-one (placed new st) (new_addr4 new) placed-holds (length-emitted new (length-address new fit)) room emitted)
           in
           rw same (adds-also first (install rows) (b rows (block_rows rows routes-fit k c.0 o c.1) (placed new st) placed-holds (placed-fit fit f)))

@@ -17,21 +17,18 @@ ghost use Rattle.step_new_address.specs.Adding.{AddsFrom};
 
 use layout::{ADDRESS_LIMIT, ADDRESS_WORDS, ADDRESSES_AT, EVENT_WORDS, ROUTE_WORDS, address};
 use life::Nanoseconds;
-use step_events::Done;
+use refusal::Refusal;
 
 // The answer of one step after another that emitted k rows.
-pub fn joined(k: usize, came: Done) -> Done
+pub fn joined(k: usize, came: Result<usize, Refusal>) -> Result<usize, Refusal>
     requires { k + rows_of came ≤ 1000 }
     ensures { result ≡ joined k came }
 {
-    let Done::Rows(m) = came else {
-        return came;
-    };
-    Done::Rows(k + m)
+    Ok(k + came?)
 }
 
 // The k routes laid out in a block, in order.
-pub fn install(s: &mut [u32], ev: &mut [u32], block: &[u32], k: usize) -> Done
+pub fn install(s: &mut [u32], ev: &mut [u32], block: &[u32], k: usize) -> Result<usize, Refusal>
     requires represents_fit { RepresentsFit s.old }
     requires block_len { (length block.now ≡ 32 * k) × Lays 32 fit_route block.now }
     requires k_in_bounds { (34 * k ≤ length ev.old) × (k ≤ 100) }
@@ -43,18 +40,15 @@ pub fn install(s: &mut [u32], ev: &mut [u32], block: &[u32], k: usize) -> Done
     while i < k {
         let at = ROUTE_WORDS * i;
         let from = EVENT_WORDS * emitted;
-        let came = step_kernel_add::kernel_add4(s, &mut ev[from..], &block[at..at + ROUTE_WORDS]);
-        let Done::Rows(m) = came else {
-            return came;
-        };
+        let m = step_kernel_add::kernel_add4(s, &mut ev[from..], &block[at..at + ROUTE_WORDS])?;
         emitted += m;
         i += 1;
     }
-    Done::Rows(emitted)
+    Ok(emitted)
 }
 
 // An address put in its place with its event, then the routes that it brings.
-pub fn new_address(s: &mut [u32], ev: &mut [u32], new: &[u32], up: bool) -> Done
+pub fn new_address(s: &mut [u32], ev: &mut [u32], new: &[u32], up: bool) -> Result<usize, Refusal>
     requires represents_fit { RepresentsFit s.old }
     requires value { fit_address new.now ≡ true }
     requires in_bounds { 170 ≤ length ev.old }
@@ -63,7 +57,7 @@ pub fn new_address(s: &mut [u32], ev: &mut [u32], new: &[u32], up: bool) -> Done
 {
     let n = state::address_count(s);
     if ADDRESS_LIMIT <= n {
-        return Done::Full;
+        return Err(Refusal::Full);
     }
     let place = rows_place::place4(state_read::addresses(s), n, new);
     state::insert_address(s, place, new);
@@ -76,7 +70,7 @@ pub fn new_address(s: &mut [u32], ev: &mut [u32], new: &[u32], up: bool) -> Done
 }
 
 // An address's prefix route with a request's priority put in, and then the one with its own taken out.
-fn moved(s: &mut [u32], ev: &mut [u32], q: &[u32], old: &[u32]) -> Done
+fn moved(s: &mut [u32], ev: &mut [u32], q: &[u32], old: &[u32]) -> Result<usize, Refusal>
     requires represents_fit { RepresentsFit s.old }
     requires q_len { length q.now ≡ 18 }
     requires len { length old.now ≡ 20 }
@@ -86,7 +80,7 @@ fn moved(s: &mut [u32], ev: &mut [u32], q: &[u32], old: &[u32]) -> Done
     ensures adds_from { AddsFrom (moved q.now old.now) s.old s.new ev.old ev.new result }
 {
     if !rows_place::reroutes(q, old) {
-        return Done::Rows(0);
+        return Ok(0);
     }
     let mut new = [0u32; ROUTE_WORDS];
     row_candidates::prefix_route4(&mut new, 0, old, q[address::PRIORITY], old[address::LOCAL]);
@@ -98,17 +92,20 @@ fn moved(s: &mut [u32], ev: &mut [u32], q: &[u32], old: &[u32]) -> Done
         old[address::PRIORITY],
         old[address::LOCAL],
     );
-    let came = step_kernel_add::kernel_add4(s, ev, &new);
-    let Done::Rows(k) = came else {
-        return came;
-    };
+    let k = step_kernel_add::kernel_add4(s, ev, &new)?;
     let from = EVENT_WORDS * k;
     let went = step_kernel_del::kernel_del4(s, &mut ev[from..], &gone);
-    Done::Rows(k + went)
+    Ok(k + went)
 }
 
 // Address i, which is the requested one, with the request's priority, proto and lifetimes.
-pub fn change_v4(s: &mut [u32], ev: &mut [u32], i: usize, q: &[u32], clock: Nanoseconds) -> Done
+pub fn change_v4(
+    s: &mut [u32],
+    ev: &mut [u32],
+    i: usize,
+    q: &[u32],
+    clock: Nanoseconds,
+) -> Result<usize, Refusal>
     requires represents_fit { RepresentsFit s.old }
     requires i_bound { i < address_count s.old }
     requires q_len { (length q.now ≡ 18) × (fit_add_v4 q.now ≡ true) }
@@ -121,12 +118,9 @@ pub fn change_v4(s: &mut [u32], ev: &mut [u32], i: usize, q: &[u32], clock: Nano
     words::store(&mut old, 0, &s[at..at + ADDRESS_WORDS]);
     let mut row = [0u32; ADDRESS_WORDS];
     row_update::changed_to(q, &old, clock, &mut row);
-    let came = moved(s, ev, q, &old);
-    let Done::Rows(k) = came else {
-        return came;
-    };
+    let k = moved(s, ev, q, &old)?;
     state::replace_address(s, i, &row);
     let from = EVENT_WORDS * k;
     step_events::new_addr4(&mut ev[from..], &row);
-    Done::Rows(k + 1)
+    Ok(k + 1)
 }

@@ -1,6 +1,6 @@
 -- The ways out of an addition.
 -- Assumes nothing.
-use Rattle.std.specs.Prelude.{ℕ, ◌≤◌, ◌<◌, Bool, ◌&&◌, eqb, length}
+use Rattle.std.specs.Prelude.{ℕ, ◌≤◌, ◌<◌, Bool, ◌&&◌, Ok, Err, eqb, length}
 use Rattle.std.proofs.Math.Path.{◌≡◌, sym, ap}
 use Rattle.std.proofs.Common.{◌∙◌, arith, eqb-true}
 use Rattle.std.proofs.Math.Bool.{true, false, and-false}
@@ -31,14 +31,12 @@ use Rattle.step_insert.specs.declared.Inserted.{Inserted}
 use Rattle.step_insert.specs.declared.Inserted.TheVariants.{Put, Nothing, Refused, Full}
 use Rattle.request_gateway.specs.Rows.{reached_of}
 use Rattle.request_gateway.specs.declared.Reached.{Reached}
-use Rattle.request_gateway.specs.declared.Reached.TheVariants as Reached
 use Rattle.request_gateway.specs.declared.Reached.TheVariants.{By}
 use Rattle.step_events.specs.Row.{new_route-long}
-use Rattle.step_events.specs.Comes.{ComesWhole, whole-full}
+use Rattle.step_events.specs.Comes.{Came, ComesWhole, whole-full}
 use Rattle.step_route_request.specs.Ways.{request-refused, request-none, request-emitted}
 use Rattle.step_route_request.specs.Check.{check_all, goes_on, add_goes}
-use Rattle.step_events.specs.declared.Done as Result
-use Rattle.step_events.specs.declared.Done.TheVariants as Done
+use Rattle.refusal.specs.declared.Refusal.TheVariants as Refusal
 
 -- ---- the events of an insertion
 abbrev pub full_of : Inserted → Bool
@@ -47,11 +45,11 @@ full_of Nothing = false
 full_of (Refused n) = false
 full_of Full = true
 
-abbrev pub tell_of : Inserted → Result.Done
-tell_of (Put emitted) = Done.Rows 1
-tell_of Nothing = Done.Rows 0
-tell_of (Refused n) = Done.Refused n
-tell_of Full = Done.Full
+abbrev pub tell_of : Inserted → Came
+tell_of (Put emitted) = Ok 1
+tell_of Nothing = Ok 0
+tell_of (Refused n) = Err (Refusal.Errno n)
+tell_of Full = Err Refusal.Full
 
 abbrev pub emitted_of : Row → Inserted → List Row
 emitted_of new (Put emitted) = new_route4 new emitted ∷ []
@@ -59,7 +57,7 @@ emitted_of new Nothing = []
 emitted_of new (Refused n) = []
 emitted_of new Full = []
 
-pub record Emission (new : Row) (i : Inserted) (ev₀ ev : List ℕ) (r : Result.Done) : Type 0 where
+pub record Emission (new : Row) (i : Inserted) (ev₀ ev : List ℕ) (r : Came) : Type 0 where
   pub answer : r ≡ tell_of i
   pub events : ev ≡ put 0 (flat (emitted_of new i)) ev₀
 
@@ -71,31 +69,31 @@ not_full i e f =
 
 -- ---- an insertion, then its table listed
 module _ (new : Row) (t : ℕ) (st : State) {w : List ℕ} (ev : List ℕ) where
-  pub added : length new ≡ 32 → 34 ≤ length ev → (d : Insert.Inserted) (i : Inserted) {ev' : List ℕ} {r : Result.Done} → i ≡ answer_of d → full_of i ≡ false
+  pub added : length new ≡ 32 → 34 ≤ length ev → (d : Insert.Inserted) (i : Inserted) {ev' : List ℕ} {r : Came} → i ≡ answer_of d → full_of i ≡ false
       → Represents w (create4 t (with_routes (rows_after d st.routes) st)) → Emission new i ev ev' r → ComesWhole st (inserted_as new d (create4 t st)) w ev ev' r
   unfolding create4
   added wide room (Insert.placed rows emitted) i {ev'} {r} a n h k =
       test-case (leb (length rows) 256)
       (λ e.
       let is : i ≡ Put emitted = rw e at a in
-      let says : r ≡ Done.Rows 1 = k.answer ∙ ap tell_of is in
+      let says : r ≡ Ok 1 = k.answer ∙ ap tell_of is in
       let row : ev' ≡ put 0 (new_route4 new emitted) ev =
       k.events ∙ ap (λ (x : Inserted). put 0 (flat (emitted_of new x)) ev) is ∙ ap (λ (x : List ℕ). put 0 x ev) (flat-one (new_route4 new emitted))
       in
       rw says (request-emitted st ev (with_routes rows (create4 t st)) (rw e at h) (new_route4 new emitted) (new_route-long new emitted wide) room row))
       (λ e. absurd (not_full i (rw e at a) n))
   added wide room Insert.nothing i {ev'} {r} a n h k =
-      let says : r ≡ Done.Rows 0 = k.answer ∙ ap tell_of a in
+      let says : r ≡ Ok 0 = k.answer ∙ ap tell_of a in
       let row : ev' ≡ ev = k.events ∙ ap (λ (x : Inserted). put 0 (flat (emitted_of new x)) ev) a ∙ sym (put-no-rows ev) in
       rw (says, row) (request-none st ev (create4 t st) h)
   added wide room (Insert.unplaced m) i {ev'} {r} a n h k =
-      let says : r ≡ Done.Refused m = k.answer ∙ ap tell_of a in
+      let says : r ≡ Err (Refusal.Errno m) = k.answer ∙ ap tell_of a in
       let row : ev' ≡ ev = k.events ∙ ap (λ (x : Inserted). put 0 (flat (emitted_of new x)) ev) a ∙ sym (put-no-rows ev) in
       rw (says, row) (request-refused st ev (create4 t st) h m)
 
   -- no room for the row
   pub row-full : (d : Insert.Inserted) (i : Inserted) → i ≡ answer_of d → full_of i ≡ true
-      → Represents w (with_routes (rows_after d st.routes) st) → ComesWhole st (inserted_as new d (create4 t st)) w ev ev Done.Full
+      → Represents w (with_routes (rows_after d st.routes) st) → ComesWhole st (inserted_as new d (create4 t st)) w ev ev (Err Refusal.Full)
   unfolding create4
   row-full (Insert.placed rows emitted) i a n h =
       test-case (leb (length rows) 256)
@@ -133,23 +131,23 @@ module _ (q : Row) (t : ℕ) (st : State) (long : 32 < length (list_table t st.t
   goes-full (by linked) = inserted-full (asked_route q linked) (insert4 (asked_route q linked) (nlm_flags q) st.routes)
 
 pub table-full : (q : Row) (t : ℕ) {w : List ℕ} {st : State} (ev : List ℕ) → t ≡ table_named q → Represents w st → 32 < length (list_table t (tables_of w))
-    → ComesWhole st (add_route4 q st) w ev ev Done.Full
+    → ComesWhole st (add_route4 q st) w ev ev (Err Refusal.Full)
 table-full q t {w} {st} ev e h long =
     let past : 32 < length (list_table (table_named q) st.tables) = rw (tables-at h, e) at long in
     whole-full ev (ap roomy (add_goes q st) ∙ goes-full q (table_named q) st past (check_all q (create4 (table_named q) st))) h
 
 -- ---- telling
 module _ (new : Row) (i : Inserted) (ev : List ℕ) where
-  pub emission-put : {ev' : List ℕ} (emitted : ℕ) → i ≡ Put emitted → ev' ≡ put 0 (new_route4 new emitted) ev → Emission new i ev ev' (Done.Rows 1)
+  pub emission-put : {ev' : List ℕ} (emitted : ℕ) → i ≡ Put emitted → ev' ≡ put 0 (new_route4 new emitted) ev → Emission new i ev ev' (Ok 1)
   emission-put emitted e k = record { answer = rw e; events = rw e (k ∙ ap (λ (x : List ℕ). put 0 x ev) (sym (flat-one (new_route4 new emitted)))) }
 
-  pub emission-nothing : i ≡ Nothing → Emission new i ev ev (Done.Rows 0)
+  pub emission-nothing : i ≡ Nothing → Emission new i ev ev (Ok 0)
   emission-nothing e = record { answer = rw e; events = rw e (put-no-rows ev) }
 
-  pub emission-refused : (n : ℕ) → i ≡ Refused n → Emission new i ev ev (Done.Refused n)
+  pub emission-refused : (n : ℕ) → i ≡ Refused n → Emission new i ev ev (Err (Refusal.Errno n))
   emission-refused n e = record { answer = rw e; events = rw e (put-no-rows ev) }
 
-  pub emission-full : i ≡ Full → Emission new i ev ev Done.Full
+  pub emission-full : i ≡ Full → Emission new i ev ev (Err Refusal.Full)
   emission-full e = record { answer = rw e; events = rw e (put-no-rows ev) }
 
 -- ---- what the calls require
@@ -180,22 +178,22 @@ module _ (q : Row) (linked : Bool) (t : ℕ) (st : State) {w : List ℕ} (ev x :
   into = rw new at k
 
   pub way_full : full_of i ≡ true
-      → ComesWhole st (inserted_as (asked_route q linked) (insert4 (asked_route q linked) (nlm_flags q) st.routes) (create4 t st)) w ev ev Done.Full
+      → ComesWhole st (inserted_as (asked_route q linked) (insert4 (asked_route q linked) (nlm_flags q) st.routes) (create4 t st)) w ev ev (Err Refusal.Full)
   way_full f = row-full (asked_route q linked) t st ev (insert4 (asked_route q linked) (nlm_flags q) st.routes) i into.answer f into.holds
 
-  pub way_on : fit_route (asked_route q linked) ≡ true → 34 ≤ length ev → {y ev' : List ℕ} {r : Result.Done} → full_of i ≡ false
+  pub way_on : fit_route (asked_route q linked) ≡ true → 34 ≤ length ev → {y ev' : List ℕ} {r : Came} → full_of i ≡ false
       → Represents y (create4 t (with_routes (rows_after (insert4 x (nlm_flags q) st.routes) st.routes) st)) → Emission x i ev ev' r
       → ComesWhole st (inserted_as (asked_route q linked) (insert4 (asked_route q linked) (nlm_flags q) st.routes) (create4 t st)) y ev ev' r
   way_on fit room f h g =
       added (asked_route q linked) t st ev (length-route (asked_route q linked) fit) room (insert4 (asked_route q linked) (nlm_flags q) st.routes) i into.answer f (rw new at h) (rw new at g)
 
 module _ (q : Row) (t : ℕ) (st : State) {w : List ℕ} (ev : List ℕ) (x : Reached) (named : t ≡ table_named q) (e : reached_of x ≡ check_all q (create4 (table_named q) st)) where
-  pub way_refused : (n : ℕ) → x ≡ Reached.Refused n → Represents w (create4 t st) → ComesWhole st (add_route4 q st) w ev ev (Done.Refused n)
+  pub way_refused : (n : ℕ) → x ≡ Reached.Refused n → Represents w (create4 t st) → ComesWhole st (add_route4 q st) w ev ev (Err (Refusal.Errno n))
   way_refused n f h =
       let is : check_all q (create4 (table_named q) st) ≡ Routes.unreached n = sym e ∙ ap reached_of f in
       rw (add_goes q st, is) (request-refused st ev (create4 (table_named q) st) (rw named at h) n)
 
-  pub way_added : {ev' : List ℕ} {r : Result.Done} (linked : Bool) → x ≡ By linked
+  pub way_added : {ev' : List ℕ} {r : Came} (linked : Bool) → x ≡ By linked
       → ComesWhole st (inserted_as (asked_route q linked) (insert4 (asked_route q linked) (nlm_flags q) st.routes) (create4 t st)) w ev ev' r
       → ComesWhole st (add_route4 q st) w ev ev' r
   unfolding create4

@@ -1,6 +1,6 @@
 -- The ways out of a deletion.
 -- Assumes nothing.
-use Rattle.std.specs.Prelude.{ℕ, ◌+◌, ◌-◌, ◌*◌, ◌≤◌, ◌<◌, ◌≡◌, Bool, length, get_or, take, drop}
+use Rattle.std.specs.Prelude.{ℕ, ◌+◌, ◌-◌, ◌*◌, ◌≤◌, ◌<◌, ◌≡◌, Bool, Ok, Err, length, get_or, take, drop}
 use Rattle.std.proofs.Math.Path.{sym, ap}
 use Rattle.std.proofs.Common.{◌∙◌}
 use Rattle.std.proofs.Math.Bool.{true, false}
@@ -25,7 +25,7 @@ use Rattle.state_read.specs.Parts.{listed-there}
 use Rattle.step_events.specs.Row.{del_route-long}
 use Rattle.step_events.specs.Comes.{ComesWhole}
 use Rattle.step_route_request.specs.Ways.{request-refused, request-emitted}
-use Rattle.step_events.specs.declared.Done.TheVariants.{Rows, Refused}
+use Rattle.refusal.specs.declared.Refusal.TheVariants.{Errno}
 
 -- row i, as it is lent
 abbrev pub route_row : List ℕ → ℕ → Row
@@ -52,7 +52,7 @@ pub row-end : {w : List ℕ} → RepresentsSome w → (i : ℕ) → i < route_co
 row-end {w} v i b = omega (arith, sizes-valid v)
 
 module _ (q : Row) {w : List ℕ} {st : State} (h : Represents w st) (ev : List ℕ) where
-  pub del_unlisted : (t : ℕ) (b : Bool) → t ≡ table_named q → b ≡ among t (tables_of w) → b ≡ false → ComesWhole st (del_route4_request q st) w ev ev (Refused 3)
+  pub del_unlisted : (t : ℕ) (b : Bool) → t ≡ table_named q → b ≡ among t (tables_of w) → b ≡ false → ComesWhole st (del_route4_request q st) w ev ev (Err (Errno 3))
   unfolding del_route4_request
   del_unlisted t b e f g =
       let off : listed (table_named q) st ≡ false = ap (λ (n : ℕ). listed n st) (sym e) ∙ sym (listed-there h t) ∙ sym f ∙ g in
@@ -62,7 +62,7 @@ module _ (q : Row) {w : List ℕ} {st : State} (h : Represents w st) (ev : List 
     on : listed (table_named q) st ≡ true
     on = ap (λ (n : ℕ). listed n st) (sym e) ∙ sym (listed-there h t) ∙ sym f ∙ g
 
-    pub del_bad : (d : Bool) → d ≡ bad_prefix q → d ≡ true → ComesWhole st (del_route4_request q st) w ev ev (Refused 22)
+    pub del_bad : (d : Bool) → d ≡ bad_prefix q → d ≡ true → ComesWhole st (del_route4_request q st) w ev ev (Err (Errno 22))
     unfolding del_route4_request
     del_bad d k j =
         let bad : bad_prefix q ≡ true = sym k ∙ j in
@@ -75,14 +75,14 @@ module _ (q : Row) {w : List ℕ} {st : State} (h : Represents w st) (ev : List 
       found : first (selects q) st.routes ≡ get_elem? st.routes i
       found = first-at (selects q) st.routes ∙ ap (get_elem? st.routes) (sym place)
 
-      pub del_none : route_count w ≤ i → ComesWhole st (del_route4_request q st) w ev ev (Refused 3)
+      pub del_none : route_count w ≤ i → ComesWhole st (del_route4_request q st) w ev ev (Err (Errno 3))
       unfolding del_route4_request
       del_none r =
           let none-there : first (selects q) st.routes ≡ none = found ∙ nothing-from st.routes i (omega (arith, count-routes h)) in
           rw (on, good, none-there) (request-refused st ev st h 3)
 
       pub del_row : {w' ev' : List ℕ} → i < route_count w → Represents w' (with_routes (remove_at i st.routes) st) → ev' ≡ put 0 (del_route4 (route_row w i)) ev → 34 ≤ length ev
-          → ComesWhole st (del_route4_request q st) w' ev ev' (Rows 1)
+          → ComesWhole st (del_route4_request q st) w' ev ev' (Ok 1)
       unfolding del_route4_request remove_at
       del_row {w'} {ev'} r after emitted room =
           let there : first (selects q) st.routes ≡ some (get_or st.routes i []) = found ∙ something_at st.routes i [] (omega (arith, count-routes h)) in

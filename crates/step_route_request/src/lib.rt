@@ -17,12 +17,12 @@ ghost use Rattle.step_route_request.specs.Add.{full_of, Emission};
 ghost use Rattle.step_route_request.specs.Check.{prefsrc_check, check_all};
 
 use layout::{ROUTE_WORDS, ROUTES_AT, TABLE_LIMIT, add_route4, route};
+use refusal::Refusal;
 use request_gateway::Reached;
-use step_events::Done;
 use step_insert::Inserted;
 
 // The first row that the request names goes. No table is listed.
-pub fn del_route4(s: &mut [u32], ev: &mut [u32], q: &[u32]) -> Done
+pub fn del_route4(s: &mut [u32], ev: &mut [u32], q: &[u32]) -> Result<usize, Refusal>
     requires represents_some { RepresentsSome s.old }
     requires q_len { (length q.now ≡ 49) × (fit_del_route4 q.now ≡ true) }
     requires in_bounds { 34 ≤ length ev.old }
@@ -30,20 +30,20 @@ pub fn del_route4(s: &mut [u32], ev: &mut [u32], q: &[u32]) -> Done
 {
     let t = request_route::table_named(q);
     if !state_tables::listed(s, t) {
-        return Done::Refused(layout::NO_SUCH);
+        return Err(Refusal::Errno(layout::NO_SUCH));
     }
     if request_route::bad_prefix(q) {
-        return Done::Refused(layout::INVALID);
+        return Err(Refusal::Errno(layout::INVALID));
     }
     let n = state::route_count(s);
     let place = request_select::select_route(state_read::routes(s), n, q);
     if n <= place {
-        return Done::Refused(layout::NO_SUCH);
+        return Err(Refusal::Errno(layout::NO_SUCH));
     }
     let at = ROUTES_AT + ROUTE_WORDS * place;
     step_events::del_route4(ev, &s[at..at + ROUTE_WORDS]);
     state::remove_route(s, place);
-    Done::Rows(1)
+    Ok(1)
 }
 
 // The preferred source, once the table is listed.
@@ -97,23 +97,29 @@ fn full(i: Inserted) -> bool
 }
 
 // What an insertion comes to, with the event of a row put in.
-fn tell(ev: &mut [u32], new: &[u32], i: Inserted) -> Done
+fn tell(ev: &mut [u32], new: &[u32], i: Inserted) -> Result<usize, Refusal>
     requires { (34 ≤ length ev.old) × (length new.now ≡ 32) }
     ensures { Emission new.now i ev.old ev.new result }
 {
     match i {
         Inserted::Put(flags) => {
             step_events::new_route4(ev, new, flags);
-            Done::Rows(1)
+            Ok(1)
         }
-        Inserted::Nothing => Done::Rows(0),
-        Inserted::Refused(error) => Done::Refused(error),
-        Inserted::Full => Done::Full,
+        Inserted::Nothing => Ok(0),
+        Inserted::Refused(error) => Err(Refusal::Errno(error)),
+        Inserted::Full => Err(Refusal::Full),
     }
 }
 
 // The row is put in before its table is listed: where it has no room, nothing is written.
-fn add_checked(s: &mut [u32], ev: &mut [u32], q: &[u32], t: u32, linked: bool) -> Done
+fn add_checked(
+    s: &mut [u32],
+    ev: &mut [u32],
+    q: &[u32],
+    t: u32,
+    linked: bool,
+) -> Result<usize, Refusal>
     requires represents_fit { RepresentsFit s.old }
     requires s_len_bound { length (list_table t (tables_of s.old)) ≤ 32 }
     requires q_len { (length q.now ≡ 34) × (fit_route (asked_route q.now linked) ≡ true) }
@@ -124,14 +130,14 @@ fn add_checked(s: &mut [u32], ev: &mut [u32], q: &[u32], t: u32, linked: bool) -
     request_route::asked_route(q, linked, &mut new);
     let inserted = step_insert::insert4(s, &new, q[add_route4::REQUEST]);
     if full(inserted) {
-        return Done::Full;
+        return Err(Refusal::Full);
     }
     state_tables::list_table(s, t);
     tell(ev, &new, inserted)
 }
 
 // The table is listed whatever comes of it, unless a list has no room.
-pub fn add_route4(s: &mut [u32], ev: &mut [u32], q: &[u32]) -> Done
+pub fn add_route4(s: &mut [u32], ev: &mut [u32], q: &[u32]) -> Result<usize, Refusal>
     requires represents_fit { RepresentsFit s.old }
     requires q_len { (length q.now ≡ 34) × (fit_add_route4 q.now ≡ true) }
     requires in_bounds { 34 ≤ length ev.old }
@@ -139,13 +145,13 @@ pub fn add_route4(s: &mut [u32], ev: &mut [u32], q: &[u32]) -> Done
 {
     let t = request_route::table_named(q);
     if TABLE_LIMIT < state_tables::tables_after(s, t) {
-        return Done::Full;
+        return Err(Refusal::Full);
     }
     let checked = check(s, q);
     match checked {
         Reached::Refused(error) => {
             state_tables::list_table(s, t);
-            Done::Refused(error)
+            Err(Refusal::Errno(error))
         }
         Reached::By(linked) => add_checked(s, ev, q, t, linked),
     }

@@ -1,27 +1,20 @@
 -- What a scan that ors has seen: no bit is set where no word had one.
 -- Assumes nothing.
-use Rattle.std.specs.Prelude.{ℕ, zero, suc, ◌+◌, ◌-◌, ◌<◌, ◌≡◌, refl, Bool, true, false, ◌&&◌, List, [], ◌∷◌, ◌++◌, eqb, length, get_or, take, drop}
-use Rattle.std.proofs.Common.{sym, ap, ◌∙◌, not-suc-le-zero, le_of_suc-le-suc, add-one, arith, length-drop, take-append-drop, take-add, take_all, eqb-true, eq-eqb}
-use Rattle.std.proofs.Math.Bool.{and-true, and_assoc}
-use Rattle.std.specs.Int.Bits.{bit_or, bit_xor, or_add_and, xor_add_and, xor_self}
+use Rattle.std.specs.Prelude.{ℕ, zero, suc, ◌*◌, ◌≡◌, refl, Bool, false, ◌&&◌, List, [], ◌∷◌, ◌++◌, eqb, length, take, drop}
+use Rattle.std.proofs.Common.{sym, ap, ◌∙◌, arith, zero-mul, take-add, take-append-drop, eqb-true, eq-eqb}
+use Rattle.std.proofs.Math.Bool.{and-true, and_assoc, and_comm}
+use Rattle.std.specs.Int.Bits.{bit_or, or_add_and}
+use Rattle.std.specs.List.{fold}
+use Rattle.std.specs.Simd.{first_chunks}
 use Rattle.std.proofs.lemmas.Nat.{and_le_l, and_le_r}
 use Rattle.lists.specs.Lists.{all_zero, eq_row}
 use Rattle.lists.specs.Bools.{and_left, and_right, and_both, same_test}
 use Rattle.lists.specs.All.{eq_row-true}
 
-turned : (w : ℕ) → eqb 0 w ≡ eqb w 0
-turned w = same_test (eqb 0 w) (eqb w 0) (λ q. eq-eqb w 0 (sym (eqb-true 0 w q))) (λ q. eq-eqb 0 w (sym (eqb-true w 0 q)))
+-- the or of all the words
+abbrev pub or_all : List ℕ → ℕ
+or_all l = fold bit_or 0 l
 
--- no words, and the first one
-pub zero-none : (l : List ℕ) → length l ≡ 0 → true ≡ all_zero l
-zero-none [] e = refl
-zero-none (w ∷ l) e = absurd (omega arith)
-
-pub zero-first : (l : List ℕ) → 0 < length l → eqb (get_or l 0 0) 0 ≡ all_zero (take 1 l)
-zero-first [] h = absurd (omega arith)
-zero-first (w ∷ l) h = sym (and-true (eqb 0 w) ∙ turned w)
-
--- the words so far and one more
 pub or_none : (x w : ℕ) → eqb (bit_or x w) 0 ≡ eqb x 0 && eqb 0 w
 or_none x w =
     same_test (eqb (bit_or x w) 0) (eqb x 0 && eqb 0 w)
@@ -33,55 +26,37 @@ or_none x w =
     let q = eqb-true 0 w (and_right (eqb x 0) (eqb 0 w) e) in
     eq-eqb (bit_or x w) 0 (omega (arith, or_add_and x w)))
 
-xor_none : (x y : ℕ) → eqb 0 (bit_xor x y) ≡ eqb x y
-xor_none x y =
-    same_test (eqb 0 (bit_xor x y)) (eqb x y)
-    (λ e. let z = eqb-true 0 (bit_xor x y) e in eq-eqb x y (omega (arith, xor_add_and x y, and_le_l x y, and_le_r x y)))
-    (λ e. let p = eqb-true x y e in eq-eqb 0 (bit_xor x y) (sym (rw p (xor_self y))))
+turned : (w : ℕ) → eqb 0 w ≡ eqb w 0
+turned w = same_test (eqb 0 w) (eqb w 0) (λ q. eq-eqb w 0 (sym (eqb-true 0 w q))) (λ q. eq-eqb 0 w (sym (eqb-true w 0 q)))
 
-module _ (x : ℕ) where
-  zero-suc : (l : List ℕ) (i : ℕ) → i < length l → all_zero (take (suc i) l) ≡ all_zero (take i l) && eqb 0 (get_or l i 0)
-  zero-suc [] i h = absurd (not-suc-le-zero h)
-  zero-suc (w ∷ l) zero h = and-true (eqb 0 w)
-  zero-suc (w ∷ l) (suc i) h =
-      ap (λ (b : Bool). eqb 0 w && b) (zero-suc l i (le_of_suc-le-suc h)) ∙ sym (and_assoc (eqb 0 w) (all_zero (take i l)) (eqb 0 (get_or l i 0)))
+zero_append : (l m : List ℕ) → all_zero (l ++ m) ≡ all_zero l && all_zero m
+zero_append [] m = refl
+zero_append (v ∷ l) m = ap (λ (b : Bool). eqb 0 v && b) (zero_append l m) ∙ sym (and_assoc (eqb 0 v) (all_zero l) (all_zero m))
 
-  pub zero_more : (l : List ℕ) (i : ℕ) → i < length l → eqb x 0 ≡ all_zero (take i l) → eqb (bit_or x (get_or l i 0)) 0 ≡ all_zero (take (i + 1) l)
-  zero_more l i h e =
-      or_none x (get_or l i 0) ∙ ap (λ (b : Bool). b && eqb 0 (get_or l i 0)) e ∙ sym (rw (add-one, zero-suc l i))
+-- words behind those that were seen
+pub fold_none : (x : ℕ) (l : List ℕ) → eqb (fold bit_or x l) 0 ≡ eqb x 0 && all_zero l
+fold_none x [] = sym (and-true (eqb x 0))
+fold_none x (w ∷ l) = fold_none (bit_or x w) l ∙ rw or_none (and_assoc (eqb x 0) (eqb 0 w) (all_zero l))
 
-  -- a part scanned by itself
-  or_part : (w : ℕ) (l m : List ℕ) → eqb x 0 ≡ all_zero l → eqb w 0 ≡ all_zero m → eqb (bit_or x w) 0 ≡ all_zero (l ++ m)
-  or_part w l m e f = or_none x w ∙ rw (e, turned w, f) (parts l)
-    where
-      parts : (l : List ℕ) → all_zero l && all_zero m ≡ all_zero (l ++ m)
-      parts [] = refl
-      parts (v ∷ l) = and_assoc (eqb 0 v) (all_zero l) (all_zero m) ∙ ap (λ (b : Bool). eqb 0 v && b) (parts l)
+pub or_zero : (l : List ℕ) → eqb (or_all l) 0 ≡ all_zero l
+or_zero l = fold_none 0 l
 
-  pub zero-part : (w : ℕ) (l : List ℕ) (i n : ℕ) → eqb x 0 ≡ all_zero (take i l) → eqb w 0 ≡ all_zero (take (i + n - i) (drop i l)) → eqb (bit_or x w) 0 ≡ all_zero (take (i + n) l)
-  zero-part w l i n e f =
-      let long : i + n - i ≡ n = omega arith in
-      or_part w (take i l) (take n (drop i l)) e (rw long at f) ∙ ap all_zero (sym (take-add i n l))
+-- parts of k words behind those that were seen
+pub parts_none : (x k n : ℕ) (l : List ℕ) → eqb (fold (λ some part. bit_or some (or_all part)) x (first_chunks k n l)) 0 ≡ eqb x 0 && all_zero (take (n * k) l)
+parts_none x k zero l = rw zero-mul (sym (and-true (eqb x 0)))
+parts_none x k (suc n) l =
+    parts_none (bit_or x (or_all (take k l))) k n (drop k l)
+    ∙ rw (or_none, turned (or_all (take k l)), or_zero) (and_assoc (eqb x 0) (all_zero (take k l)) (all_zero (take (n * k) (drop k l))))
+    ∙ ap (λ (b : Bool). eqb x 0 && b) (sym (zero_append (take k l) (take (n * k) (drop k l))) ∙ ap all_zero (sym (take-add k (n * k) l)))
+    ∙ ap (λ (m : ℕ). eqb x 0 && all_zero (take m l)) (omega arith)
 
-  pub zero_rest : (w : ℕ) (l : List ℕ) (i : ℕ) → eqb x 0 ≡ all_zero (take i l) → eqb w 0 ≡ all_zero (take (length l - i) (drop i l)) → eqb (bit_or x w) 0 ≡ all_zero l
-  zero_rest w l i e f =
-      or_part w (take i l) (drop i l) e (f ∙ ap all_zero (take_all (length l - i) (drop i l) (rw length-drop (omega arith)))) ∙ ap all_zero (take-append-drop i l)
-
-  same-suc : (l m : List ℕ) (i : ℕ) → i < length l → i < length m → eq_row (take (suc i) l) (take (suc i) m) ≡ eq_row (take i l) (take i m) && eqb (get_or l i 0) (get_or m i 0)
-  same-suc [] m i h k = absurd (not-suc-le-zero h)
-  same-suc (w ∷ l) [] i h k = absurd (not-suc-le-zero k)
-  same-suc (w ∷ l) (v ∷ m) zero h k = and-true (eqb w v)
-  same-suc (w ∷ l) (v ∷ m) (suc i) h k =
-      ap (λ (b : Bool). eqb w v && b) (same-suc l m i (le_of_suc-le-suc h) (le_of_suc-le-suc k))
-      ∙ sym (and_assoc (eqb w v) (eq_row (take i l) (take i m)) (eqb (get_or l i 0) (get_or m i 0)))
-
-  pub same_more : (l m : List ℕ) (i : ℕ) → i < length l → i < length m → eqb x 0 ≡ eq_row (take i l) (take i m)
-      → eqb (bit_or x (bit_xor (get_or l i 0) (get_or m i 0))) 0 ≡ eq_row (take (i + 1) l) (take (i + 1) m)
-  same_more l m i h k e =
-      or_none x (bit_xor (get_or l i 0) (get_or m i 0))
-      ∙ ap (λ (b : Bool). b && eqb 0 (bit_xor (get_or l i 0) (get_or m i 0))) e
-      ∙ ap (λ (b : Bool). eq_row (take i l) (take i m) && b) (xor_none (get_or l i 0) (get_or m i 0))
-      ∙ sym (rw (add-one, same-suc l m i h k))
+-- a first word, the parts behind it and what is left
+pub scanned : (first k n : ℕ) (l : List ℕ) → eqb (fold (λ some part. bit_or some (or_all part)) (bit_or first (or_all (drop (n * k) l))) (first_chunks k n l)) 0 ≡ all_zero (first ∷ l)
+scanned first k n l =
+    parts_none (bit_or first (or_all (drop (n * k) l))) k n l
+    ∙ rw (or_none, turned (or_all (drop (n * k) l)), or_zero) (and_assoc (eqb first 0) (all_zero (drop (n * k) l)) (all_zero (take (n * k) l)))
+    ∙ ap (λ (b : Bool). eqb first 0 && b) (and_comm (all_zero (drop (n * k) l)) (all_zero (take (n * k) l)) ∙ sym (zero_append (take (n * k) l) (drop (n * k) l)) ∙ ap all_zero (take-append-drop (n * k) l))
+    ∙ ap (λ (b : Bool). b && all_zero l) (sym (turned first))
 
 -- rows of other lengths are not the same
 pub other-long : (l m : List ℕ) → (length l ≡ length m → ⊥) → false ≡ eq_row l m

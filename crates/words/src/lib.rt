@@ -1,8 +1,14 @@
 // Runs of words in place. Places and lengths are in words, so one set serves rows of every length.
 #![tactic(auto)]
 
-ghost use Rattle.std.specs.Prelude.{◌≡◌, ◌++◌, ◌+◌, ◌≤◌, eqb, length};
+ghost use Rattle.std.specs.Prelude.{◌≡◌, ◌++◌, ◌+◌, ◌≤◌, length};
 ghost use Rattle.lists.specs.Lists.{put, span, zeros, all_zero, eq_row, among};
+ghost use Rattle.words.specs.Scan.{or_all};
+
+// How many words a row has that moves: an address's and a route's.
+const ADDRESS_WORDS: usize = 20;
+
+const ROUTE_WORDS: usize = 32;
 
 // A word as a place, and as a wider number.
 pub fn wide(n: u32) -> usize
@@ -22,11 +28,7 @@ pub fn store(s: &mut [u32], at: usize, vs: &[u32])
     requires { at + length vs.now ≤ length s.old }
     ensures { s.new ≡ put at vs.now s.old }
 {
-    let mut i = 0usize;
-    while i < vs.len() {
-        s[at + i] = vs[i];
-        i += 1;
-    }
+    s[at..at + vs.len()].copy_from_slice(vs);
 }
 
 // All the words of another slice: a state into a local, and back.
@@ -34,7 +36,7 @@ pub fn copy(to: &mut [u32], from: &[u32])
     requires { length from.now ≡ length to.old }
     ensures { to.new ≡ from.now }
 {
-    store(to, 0, from);
+    to.copy_from_slice(from);
 }
 
 // n zeros from the place at on.
@@ -42,34 +44,18 @@ pub fn clear(s: &mut [u32], at: usize, n: usize)
     requires { at + n ≤ length s.old }
     ensures { s.new ≡ put at (zeros n) s.old }
 {
-    let mut i = 0usize;
-    while i < n {
-        s[at + i] = 0;
-        i += 1;
-    }
+    s[at..at + n].fill(0);
 }
 
-// The n words at from, copied to a place that is not behind them: the first word goes first.
-fn walk_down(s: &mut [u32], from: usize, to: usize, n: usize)
-    requires { (to ≤ from) × (from + n ≤ length s.old) }
-    ensures { s.new ≡ put to (span from n s.old) s.old }
+// The n words that stand `far` words behind the front, copied to the front: the first word goes first. Where the distance
+// is a constant, the loop becomes one memmove. (The library has no copy_within; rotate_left takes three times as long.)
+#[inline(always)]
+fn walk_down(s: &mut [u32], far: usize, n: usize)
+    requires { far + n ≤ length s.old }
+    ensures { s.new ≡ put 0 (span far n s.old) s.old }
 {
-    let mut i = 0usize;
-    while i < n {
-        s[to + i] = s[from + i];
-        i += 1;
-    }
-}
-
-// The same by a route's row of 32 words: the distance is a constant, so that the loop becomes one memmove.
-fn walk_down_32(s: &mut [u32], n: usize)
-    requires { 32 + n ≤ length s.old }
-    ensures { s.new ≡ put 0 (span 32 n s.old) s.old }
-{
-    let mut i = 0usize;
-    while i < n {
-        s[i] = s[32 + i];
-        i += 1;
+    for i in 0..n {
+        s[i] = s[far + i];
     }
 }
 
@@ -78,34 +64,22 @@ pub fn move_down(s: &mut [u32], from: usize, to: usize, n: usize)
     requires { (to ≤ from) × (from + n ≤ length s.old) }
     ensures { s.new ≡ put to (span from n s.old) s.old }
 {
-    if from - to == 32 {
-        walk_down_32(&mut s[to..], n);
-        return;
-    }
-    walk_down(s, from, to, n);
-}
-
-// The n words at from, copied to a place that is not before them: the last word goes first.
-fn walk_up(s: &mut [u32], from: usize, to: usize, n: usize)
-    requires { (from ≤ to) × (to + n ≤ length s.old) }
-    ensures { s.new ≡ put to (span from n s.old) s.old }
-{
-    let mut i = n;
-    while 0 < i {
-        i -= 1;
-        s[to + i] = s[from + i];
+    let part = &mut s[to..];
+    match from - to {
+        ADDRESS_WORDS => walk_down(part, ADDRESS_WORDS, n),
+        ROUTE_WORDS => walk_down(part, ROUTE_WORDS, n),
+        far => walk_down(part, far, n),
     }
 }
 
-// The same by a route's row, as above.
-fn walk_up_32(s: &mut [u32], n: usize)
-    requires { 32 + n ≤ length s.old }
-    ensures { s.new ≡ put 32 (span 0 n s.old) s.old }
+// The n words at the front, copied to a place `far` words behind it: the last word goes first.
+#[inline(always)]
+fn walk_up(s: &mut [u32], far: usize, n: usize)
+    requires { far + n ≤ length s.old }
+    ensures { s.new ≡ put far (span 0 n s.old) s.old }
 {
-    let mut i = n;
-    while 0 < i {
-        i -= 1;
-        s[32 + i] = s[i];
+    for i in (0..n).rev() {
+        s[far + i] = s[i];
     }
 }
 
@@ -114,11 +88,12 @@ pub fn move_up(s: &mut [u32], from: usize, to: usize, n: usize)
     requires { (from ≤ to) × (to + n ≤ length s.old) }
     ensures { s.new ≡ put to (span from n s.old) s.old }
 {
-    if to - from == 32 {
-        walk_up_32(&mut s[from..], n);
-        return;
+    let part = &mut s[from..];
+    match to - from {
+        ADDRESS_WORDS => walk_up(part, ADDRESS_WORDS, n),
+        ROUTE_WORDS => walk_up(part, ROUTE_WORDS, n),
+        far => walk_up(part, far, n),
     }
-    walk_up(s, from, to, n);
 }
 
 // The words vs put in at a place behind which n words are in use: those move up.
@@ -141,15 +116,9 @@ pub fn remove(s: &mut [u32], at: usize, k: usize, n: usize)
 
 // The words' bits together: 0 where no word is other than 0. The scan leaves nowhere early, so that it is done by vectors.
 fn or_of(s: &[u32]) -> u32
-    ensures { eqb result 0 ≡ all_zero s.now }
+    ensures { result ≡ or_all s.now }
 {
-    let mut some = 0u32;
-    let mut i = 0usize;
-    while i < s.len() {
-        some |= s[i];
-        i += 1;
-    }
-    some
+    s.iter().fold(0, |some, w| some | *w)
 }
 
 // No word is other than 0. In parts whose length is a constant, so that each is scanned without a loop; the first word is by
@@ -157,45 +126,26 @@ fn or_of(s: &[u32]) -> u32
 pub fn all_zero(s: &[u32]) -> bool
     ensures { result ≡ all_zero s.now }
 {
-    if s.len() == 0 {
+    let Some((first, rest)) = s.split_first() else {
         return true;
-    }
-    let mut some = s[0];
-    let mut i = 1usize;
-    while 64 <= s.len() - i {
-        let end = i + 64;
-        some |= or_of(&s[i..end]);
-        i = end;
-    }
-    (some | or_of(&s[i..])) == 0
+    };
+    let (parts, end) = rest.as_chunks::<64>();
+    parts
+        .iter()
+        .fold(*first | or_of(end), |some, part| some | or_of(part))
+        == 0
 }
 
 // The two are the same words, as many.
 pub fn same_words(a: &[u32], b: &[u32]) -> bool
     ensures { result ≡ eq_row a.now b.now }
 {
-    if a.len() != b.len() {
-        return false;
-    }
-    let mut some = 0u32;
-    let mut i = 0usize;
-    while i < a.len() {
-        some |= a[i] ^ b[i];
-        i += 1;
-    }
-    some == 0
+    a == b
 }
 
 // The number is one of the words.
 pub fn among(l: &[u32], n: u32) -> bool
     ensures { result ≡ among n l.now }
 {
-    let mut i = 0usize;
-    while i < l.len() {
-        if l[i] == n {
-            return true;
-        }
-        i += 1;
-    }
-    false
+    l.contains(&n)
 }

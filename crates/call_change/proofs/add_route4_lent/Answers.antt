@@ -57,4 +57,4 @@ returns c =
     in
     answers-passed (semantics (Call.add_route4 c.args.q.now c.args.room)) c.args.state.now p
     (request-answers p (λ q. add_route4 q (state_of c.args.state.now)) c.in_ok-q.ensures.0 (added-number insert4 insert_number c.args.q.now (state_of c.args.state.now) (unless-passed (fit_add_route4 c.args.q.now) p.fit))
-    (c.add_route4.ensures (state_of c.args.state.now) p.holds p.good.fits) c.of_done.ensures)
+    (c.add_route4.ensures (state_of c.args.state.now) p.holds p.good.fits))

@@ -47,4 +47,4 @@ returns c =
     in
     answers-passed (semantics (Call.add_v4 c.args.q.now (length c.args.events.now) c.args.clock)) c.args.state.now p
     (request-answers p (λ q. add_v4 q c.args.clock (state_of c.args.state.now)) c.in_ok-q.ensures.0 (add_v4-number c.args.q.now c.args.clock (state_of c.args.state.now))
-    (c.add_v4.ensures.comes_whole (state_of c.args.state.now) p.holds p.good.fits) c.of_done.ensures)
+    (c.add_v4.ensures.comes_whole (state_of c.args.state.now) p.holds p.good.fits))

@@ -56,4 +56,4 @@ returns c =
     in
     answers-passed (semantics (Call.del_route4 c.args.q.now c.args.room)) c.args.state.now p
     (request-answers p (λ q. del_route4_request q (state_of c.args.state.now)) c.in_ok-q.ensures.0 (del_route4-number c.args.q.now (state_of c.args.state.now))
-    (c.del_route4.ensures (state_of c.args.state.now) p.holds) c.of_done.ensures)
+    (c.del_route4.ensures (state_of c.args.state.now) p.holds))

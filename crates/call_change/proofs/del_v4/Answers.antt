@@ -47,4 +47,4 @@ returns c =
     in
     answers-passed (semantics (Call.del_v4 c.args.q.now (length c.args.events.now))) c.args.state.now p
     (request-answers p (λ q. del_v4 q (state_of c.args.state.now)) c.in_ok-q.ensures.0 (del_v4-number c.args.q.now (state_of c.args.state.now))
-    (c.del_v4.ensures (state_of c.args.state.now) (fitting p (room del_v4_size c.args.q.now (length c.args.events.now) p.room))) c.of_done.ensures)
+    (c.del_v4.ensures (state_of c.args.state.now) (fitting p (room del_v4_size c.args.q.now (length c.args.events.now) p.room))))

@@ -27,4 +27,4 @@ unfolding up_call
 returns c =
     let p = passed (semantics (Call.up (length c.args.events.now) c.args.clock)).checks c.args.state.now (c.checked.ensures.refuses 0 refl) c.in_ok-checked.was in
     answers-passed (semantics (Call.up (length c.args.events.now) c.args.clock)) c.args.state.now p
-    (whole-answers p (goes (up c.args.clock (state_of c.args.state.now))) tt (c.up.ensures.comes_whole (state_of c.args.state.now) p.holds p.good.fits) c.of_done.ensures)
+    (whole-answers p (goes (up c.args.clock (state_of c.args.state.now))) tt (c.up.ensures.comes_whole (state_of c.args.state.now) p.holds p.good.fits))

@@ -6,4 +6,4 @@ use Rattle.prefix.specs.Laws.{network_and, broadcast_or}
 use Rattle.prefix.proofs.broadcast4.Goals as goal
 
 pub returns : goal.returns
-returns c = rw (c.mask4-m.ensures, ← network_and c.args.ip c.args.prefix (omega arith) (omega arith)) (sym (broadcast_or c.args.ip c.args.prefix))
+returns c = rw (c.mask4-m.ensures, ← network_and c.args.ip c.args.prefix (omega arith)) (sym (broadcast_or c.args.ip c.args.prefix))

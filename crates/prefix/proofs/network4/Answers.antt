@@ -6,4 +6,4 @@ use Rattle.prefix.specs.Laws.{network_and}
 use Rattle.prefix.proofs.network4.Goals as goal
 
 pub returns : goal.returns
-returns c = rw c.mask4.ensures (sym (network_and c.args.ip c.args.prefix (omega arith) (omega arith)))
+returns c = rw c.mask4.ensures (sym (network_and c.args.ip c.args.prefix (omega arith)))

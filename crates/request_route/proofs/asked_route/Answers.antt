@@ -11,7 +11,7 @@ use Rattle.request_route.proofs.asked_route.Goals as goal
 pub returns : goal.returns
 returns c = let a = c.args in
     let t = c.table_named in
-    let e = c.error_of in
+    let e = c.rejects in
     let device = c.mark in
     let flagged = c.onlink_flag in
     let onlink = c.mark-2 in

@@ -11,16 +11,16 @@ returns-then-n-place c =
     rw c.if-not-listed.false
     (type-none c.args.rows.now c.args.n c.requires.0 l h (set_of c.args.set) c.args.ip c.table_lookup4-place.result (c.table_lookup4-place.ensures l h) c.if-n-place.true)
 
-pub returns-then-error_of-ne0 : goal.returns-then-error_of-ne0
-returns-then-error_of-ne0 c =
+pub returns-then-rejects : goal.returns-then-rejects
+returns-then-rejects c =
     λ l h.
     rw c.if-not-listed.false
     (type-rejects c.args.rows.now c.args.n c.requires.0 l h (set_of c.args.set) c.args.ip c.table_lookup4-place.result (c.table_lookup4-place.ensures l h)
-    c.if-n-place.false c.error_of.result c.error_of.ensures c.if-error_of-ne0.true)
+    c.if-n-place.false c.rejects.result c.rejects.ensures c.if-rejects.true)
 
 pub returns : goal.returns
 returns c =
     λ l h.
     rw c.if-not-listed.false
     (type-kind c.args.rows.now c.args.n c.requires.0 l h (set_of c.args.set) c.args.ip c.table_lookup4-place.result (c.table_lookup4-place.ensures l h)
-    c.if-n-place.false c.error_of.result c.error_of.ensures c.if-error_of-ne0.false)
+    c.if-n-place.false c.rejects.result c.rejects.ensures c.if-rejects.false)

@@ -9,5 +9,5 @@ returns-then-r-network4 c =
 pub returns : goal.returns
 returns c =
     fits-near (flow_of c.args.f) c.args.r.now c.network4.result c.network4.ensures
-    c.flow_tos-tos.result c.error_of-error.result
-    c.if-r-network4.false c.flow_tos-tos.ensures c.error_of-error.ensures
+    c.flow_tos-tos.result c.rejects-rejects.result
+    c.if-r-network4.false c.flow_tos-tos.ensures c.rejects-rejects.ensures

@@ -1,11 +1,10 @@
-use Prim.Native.Nat.{◌-◌}
 use mathlib.Core.Path.{refl, sym, ◌∙◌}
 use native.Mathlib.Omega.{arith}
 use Rattle.state.specs.Represents.{sound-long}
 use Rattle.step_new_address.specs.Adding.{rest-room, rows_are}
 use Rattle.step_add_v4.specs.Every.{sofar-start, sofar-sound, sofar-few, sofar-length, sofar-count, sofar-next, sofar-other, sofar-end}
-use Rattle.step_events.specs.Comes.{not_first}
-use borrow.Enum.Refused.{opened}
+use Rattle.step_events.specs.Comes.{no-rows}
+use Rattle.refusal.specs.Refusal.{passed_on}
 use Rattle.step_add_v4.proofs.install_all.Goals as goal
 
 pub address_count-n-requires : goal.address_count-n-requires
@@ -24,21 +23,22 @@ pub slice_bounds-install_at-start : goal.slice_bounds-install_at-start
 slice_bounds-install_at-start c =
     omega (arith, c.loop-i.invariant.1.0, c.loop-i.invariant.1.1.1.0, c.requires.in_bounds)
 
-pub install_at-came-requires : goal.install_at-came-requires
-install_at-came-requires c =
+pub install_at-requires : goal.install_at-requires
+install_at-requires c =
     record { represents_fit = sofar-sound c.loop-i.invariant.1.1.1.1 c.requires.represents_fit; i_bound = omega (arith, sofar-count c.loop-i.invariant.1.1.1.1 c.requires.represents_fit, c.address_count-n.ensures, c.loop-i-test.true); in_bounds = rest-room c.loop-i.emitted 136 c.loop-i.ev (omega (arith, c.loop-i.invariant.1.0, c.loop-i.invariant.1.1.1.0, c.requires.in_bounds)) }
 
-pub returns-in_default : goal.returns-in_default
-returns-in_default c =
-    record { result_bound = omega (arith, c.install_at-came.ensures.result_bound); adds_from = sofar-other c.loop-i.invariant.1.1.1.1 (omega (arith, c.address_count-n.ensures, c.loop-i-test.true)) c.install_at-came.ensures.adds_from (λ k e. not_first (rw e at (opened c.in_default.in_default-own.keys2))) }
+pub returns-in_err-emitted-clause-adds_from : goal.returns-in_err-emitted-clause-adds_from
+returns-in_err-emitted-clause-adds_from c =
+    rw (passed_on c.in_err-emitted.was c.from_residual.ensures.1)
+    (sofar-other c.loop-i.invariant.1.1.1.1 (omega (arith, c.address_count-n.ensures, c.loop-i-test.true)) c.install_at.ensures.adds_from (no-rows c.in_err-emitted.was))
 
 pub overflow_add-emitted : goal.overflow_add-emitted
 overflow_add-emitted c =
-    omega (arith, c.loop-i.invariant.1.0, rows_are 4 c.install_at-came.result c.in-Rows.m c.in-Rows.is c.install_at-came.ensures.result_bound)
+    omega (arith, c.loop-i.invariant.1.0, rows_are 4 c.install_at.result c.in_ok-emitted.field-0 c.in_ok-emitted.was c.install_at.ensures.result_bound)
 
 pub loop-i-preserved : goal.loop-i-preserved
 loop-i-preserved c =
-    let next = sofar-next c.loop-i.invariant.1.1.1.1 (omega (arith, c.address_count-n.ensures, c.loop-i-test.true)) c.install_at-came.ensures.adds_from c.in-Rows.m c.in-Rows.is in
+    let next = sofar-next c.loop-i.invariant.1.1.1.1 (omega (arith, c.address_count-n.ensures, c.loop-i-test.true)) c.install_at.ensures.adds_from c.in_ok-emitted.field-0 c.in_ok-emitted.was in
     (omega arith, (sofar-few next c.requires.represents_fit, (sound-long (sofar-sound next c.requires.represents_fit) ∙ sym (sound-long c.requires.represents_fit), (sofar-length next c.requires.represents_fit, next))))
 
 pub returns : goal.returns

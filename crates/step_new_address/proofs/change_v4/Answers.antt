@@ -7,8 +7,8 @@ use Rattle.state.specs.Represents.{fit-some, sound-few, sound-long}
 use Rattle.step_new_address.specs.Adding.{rest-room, rows_are}
 use Rattle.step_new_address.specs.Change.{old_row, old-fit, old-long, row_room, changed-fit, change-other, change-sound, change-count, change-done}
 use Rattle.definition.specs.Preservation.Fit.{length-address}
-use Rattle.step_events.specs.Comes.{not_first}
-use borrow.Enum.Refused.{opened}
+use Rattle.step_events.specs.Comes.{no-rows}
+use Rattle.refusal.specs.Refusal.{passed_on}
 use Rattle.step_new_address.proofs.change_v4.Goals as goal
 
 pub overflow_mul-at : goal.overflow_mul-at
@@ -47,66 +47,67 @@ pub changed_to-requires : goal.changed_to-requires
 changed_to-requires c =
     record { q_len = c.requires.q_len.0; len = old-long c.args.i c.requires.i_bound _ refl c.store.ensures c.requires.represents_fit; in_bounds = omega arith }
 
-pub moved-came-requires : goal.moved-came-requires
-moved-came-requires c =
+pub moved-requires : goal.moved-requires
+moved-requires c =
     let fit = old-fit c.args.i c.requires.i_bound _ refl c.store.ensures c.requires.represents_fit in
     record { represents_fit = c.requires.represents_fit; q_len = c.requires.q_len.0; len = length-address c.store.new.s fit; value = fit; in_bounds = omega (arith, c.requires.in_bounds) }
 
-pub returns-in_default : goal.returns-in_default
-returns-in_default c =
+pub returns-in_err-k-clause-comes : goal.returns-in_err-k-clause-comes
+returns-in_err-k-clause-comes c =
     let fit = old-fit c.args.i c.requires.i_bound _ refl c.store.ensures c.requires.represents_fit in
-    record { result_bound = omega (arith, c.moved-came.ensures.result_bound); comes = λ st hs g at. change-other c.args.q.now c.args.clock.0 c.store.new.s c.requires.q_len.1 fit _ refl c.changed_to.ensures c.moved-came.ensures.adds_from (λ k e. not_first (rw e at (opened c.in_default.in_default-own.keys2))) st hs g (get_or st.addresses c.args.i []) (old_row c.args.i c.requires.i_bound _ refl c.store.ensures st hs) }
+    rw (passed_on c.in_err-k.was c.from_residual.ensures.1)
+    (λ st hs g at. change-other c.args.q.now c.args.clock.0 c.store.new.s c.requires.q_len.1 fit _ refl c.changed_to.ensures c.moved.ensures.adds_from (no-rows c.in_err-k.was) st hs g (get_or st.addresses c.args.i []) (old_row c.args.i c.requires.i_bound _ refl c.store.ensures st hs))
 
 pub replace_address-requires : goal.replace_address-requires
 replace_address-requires c =
     let fit = old-fit c.args.i c.requires.i_bound _ refl c.store.ensures c.requires.represents_fit in
-    let two = rows_are 2 c.moved-came.result c.in-Rows.k c.in-Rows.is c.moved-came.ensures.result_bound in
-    let v = change-sound c.args.q.now c.args.clock.0 c.store.new.s c.requires.q_len.1 fit _ refl c.changed_to.ensures c.moved-came.ensures.adds_from c.in-Rows.k c.in-Rows.is c.requires.represents_fit in
-    let n = change-count c.args.q.now c.args.clock.0 c.store.new.s c.requires.q_len.1 fit _ refl c.changed_to.ensures c.moved-came.ensures.adds_from c.in-Rows.k c.in-Rows.is c.requires.represents_fit.state c.requires.represents_fit.holds c.requires.represents_fit.fits in
+    let two = rows_are 2 c.moved.result c.in_ok-k.k c.in_ok-k.was c.moved.ensures.result_bound in
+    let v = change-sound c.args.q.now c.args.clock.0 c.store.new.s c.requires.q_len.1 fit _ refl c.changed_to.ensures c.moved.ensures.adds_from c.in_ok-k.k c.in_ok-k.was c.requires.represents_fit in
+    let n = change-count c.args.q.now c.args.clock.0 c.store.new.s c.requires.q_len.1 fit _ refl c.changed_to.ensures c.moved.ensures.adds_from c.in_ok-k.k c.in_ok-k.was c.requires.represents_fit.state c.requires.represents_fit.holds c.requires.represents_fit.fits in
     record { represents_some = fit-some v; i_bound = omega (arith, n, c.requires.i_bound); row_value = changed-fit c.args.q.now c.args.clock.0 c.store.new.s c.requires.q_len.1 fit _ refl c.changed_to.ensures }
 
 pub overflow_mul-from : goal.overflow_mul-from
 overflow_mul-from c =
     let fit = old-fit c.args.i c.requires.i_bound _ refl c.store.ensures c.requires.represents_fit in
-    let two = rows_are 2 c.moved-came.result c.in-Rows.k c.in-Rows.is c.moved-came.ensures.result_bound in
+    let two = rows_are 2 c.moved.result c.in_ok-k.k c.in_ok-k.was c.moved.ensures.result_bound in
     omega (arith, two)
 
 pub offset_bounds-ev-from : goal.offset_bounds-ev-from
 offset_bounds-ev-from c =
     let fit = old-fit c.args.i c.requires.i_bound _ refl c.store.ensures c.requires.represents_fit in
-    let two = rows_are 2 c.moved-came.result c.in-Rows.k c.in-Rows.is c.moved-came.ensures.result_bound in
+    let two = rows_are 2 c.moved.result c.in_ok-k.k c.in_ok-k.was c.moved.ensures.result_bound in
     omega (arith, two)
 
 pub slice_bounds-new_addr4-count : goal.slice_bounds-new_addr4-count
 slice_bounds-new_addr4-count c =
     let fit = old-fit c.args.i c.requires.i_bound _ refl c.store.ensures c.requires.represents_fit in
-    let two = rows_are 2 c.moved-came.result c.in-Rows.k c.in-Rows.is c.moved-came.ensures.result_bound in
+    let two = rows_are 2 c.moved.result c.in_ok-k.k c.in_ok-k.was c.moved.ensures.result_bound in
     omega (arith, two, c.requires.in_bounds)
 
 pub slice_bounds-new_addr4-start : goal.slice_bounds-new_addr4-start
 slice_bounds-new_addr4-start c =
     let fit = old-fit c.args.i c.requires.i_bound _ refl c.store.ensures c.requires.represents_fit in
-    let two = rows_are 2 c.moved-came.result c.in-Rows.k c.in-Rows.is c.moved-came.ensures.result_bound in
+    let two = rows_are 2 c.moved.result c.in_ok-k.k c.in_ok-k.was c.moved.ensures.result_bound in
     omega (arith, two, c.requires.in_bounds)
 
 pub new_addr4-requires : goal.new_addr4-requires
 new_addr4-requires c =
     let fit = old-fit c.args.i c.requires.i_bound _ refl c.store.ensures c.requires.represents_fit in
-    let two = rows_are 2 c.moved-came.result c.in-Rows.k c.in-Rows.is c.moved-came.ensures.result_bound in
-    (rest-room c.in-Rows.k 34 c.moved-came.new.ev (omega (arith, two, c.requires.in_bounds)), length-address c.changed_to.new.out (changed-fit c.args.q.now c.args.clock.0 c.store.new.s c.requires.q_len.1 fit _ refl c.changed_to.ensures))
+    let two = rows_are 2 c.moved.result c.in_ok-k.k c.in_ok-k.was c.moved.ensures.result_bound in
+    (rest-room c.in_ok-k.k 34 c.moved.new.ev (omega (arith, two, c.requires.in_bounds)), length-address c.changed_to.new.out (changed-fit c.args.q.now c.args.clock.0 c.store.new.s c.requires.q_len.1 fit _ refl c.changed_to.ensures))
 
 pub overflow_add-result : goal.overflow_add-result
 overflow_add-result c =
     let fit = old-fit c.args.i c.requires.i_bound _ refl c.store.ensures c.requires.represents_fit in
-    let two = rows_are 2 c.moved-came.result c.in-Rows.k c.in-Rows.is c.moved-came.ensures.result_bound in
+    let two = rows_are 2 c.moved.result c.in_ok-k.k c.in_ok-k.was c.moved.ensures.result_bound in
     omega (arith, two)
 
 pub returns : goal.returns
 returns c =
     let fit = old-fit c.args.i c.requires.i_bound _ refl c.store.ensures c.requires.represents_fit in
-    let two = rows_are 2 c.moved-came.result c.in-Rows.k c.in-Rows.is c.moved-came.ensures.result_bound in
-    let room = rest-room c.in-Rows.k 34 c.moved-came.new.ev (omega (arith, two, c.requires.in_bounds)) in record {
+    let two = rows_are 2 c.moved.result c.in_ok-k.k c.in_ok-k.was c.moved.ensures.result_bound in
+    let room = rest-room c.in_ok-k.k 34 c.moved.new.ev (omega (arith, two, c.requires.in_bounds)) in record {
       result_bound = omega (arith, two);
-      comes = λ st hs g at. change-done c.args.q.now c.args.clock.0 c.store.new.s c.requires.q_len.1 fit _ refl c.changed_to.ensures c.moved-came.ensures.adds_from c.in-Rows.k c.in-Rows.is c.args.i
+      comes = λ st hs g at. change-done c.args.q.now c.args.clock.0 c.store.new.s c.requires.q_len.1 fit _ refl c.changed_to.ensures c.moved.ensures.adds_from c.in_ok-k.k c.in_ok-k.was c.args.i
           c.replace_address.ensures room c.new_addr4.ensures st hs g at (get_or st.addresses c.args.i []) (old_row c.args.i c.requires.i_bound _ refl c.store.ensures st hs);
     }

@@ -1,13 +1,7 @@
--- `words::walk_up` meets its contract: with i words to go the others are put, and those that are read still stand.
--- Assumes nothing.
-use Prim.Native.Nat.{◌+◌, ◌-◌, ◌≤◌}
-use mathlib.Core.Path.{◌≡◌}
-use lib.ListN.{length, drop}
+-- With i words to go the others are put, and those that are read still stand.
+use Rattle.std.proofs.Common.{◌≡◌, ◌+◌, drop}
 use Rattle.lists.specs.Lists.{put, span}
 use Rattle.words.proofs.walk_up.Given as goal
 
 abbrev pub invariant-loop-i : goal.invariant-loop-i
-invariant-loop-i l = (l.i ≤ l.n) × (length l.s ≡ length l.initial.s) × (l.s ≡ put (l.to + l.i) (drop l.i (span l.from l.n l.initial.s)) l.initial.s)
-
-abbrev pub decreases-loop-i : goal.decreases-loop-i
-decreases-loop-i l = l.i
+invariant-loop-i l = l.s ≡ put (l.far + l.i) (drop l.i (span 0 l.n l.initial.s)) l.initial.s
