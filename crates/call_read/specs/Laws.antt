@@ -5,6 +5,7 @@ use Rattle.std.specs.Prelude.{IsErrAnd}
 use Rattle.std.specs.Prelude.{Result as Answer}
 use Rattle.std.specs.Prelude.{Option as Chosen}
 use Rattle.std.proofs.lemmas.Result.{err_from_is_err_and}
+use denote.Ref.{Bor}
 use Rattle.std.proofs.Common.{subst, arith, ◌∙◌, eqb-true}
 use Rattle.std.proofs.Math.Path.{sym, ap}
 use mathlib.Core.List.{List, [], append-nil}

@@ -57,13 +57,6 @@ pub fn sized<const N: usize>(q: &[u32]) -> Result<&[u32; N], Refusal>
     q.as_array().ok_or(Refusal::WrongLength)
 }
 
-   ensures { (st : State) → Represents s.now st → row.new ≡ put 0 (get_or st.routes i []) row.old }
-{
-    let at = ROUTES_AT + ROUTE_WORDS * i;
-    let end = at + ROUTE_WORDS;
-    words::store(row, 0, &s[at..end]);
-}
-
 // The route of a flow, copied into the buffer.
 fn look(s: &[u32], row: &mut [u32], f: Flow) -> Result<(), Refusal>
     requires { RepresentsSome s.now × (32 ≤ length row.old) }

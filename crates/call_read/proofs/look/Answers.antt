@@ -11,14 +11,14 @@ pub returns-in_err-r : goal.returns-in_err-r
 returns-in_err-r c =
     record {
       value = λ st h.
-          let m = missed (lookup_in st (flow_of c.args.f)) (c.lookup4_in-r.ensures st h) c.in_err-r.was in
+          let m = missed (lookup_in st (flow_of c.args.f)) (c.lookup4_in.ensures st h) c.in_err-r.was in
           subst (λ x. Refuses x (found_number (lookup_in st (flow_of c.args.f)))) (sym (exit c.from_residual.ensures.1)) (no-row-number st (flow_of c.args.f) c.args.row.now m);
-      row_after = λ st h. no-row st (flow_of c.args.f) c.args.row.now (missed (lookup_in st (flow_of c.args.f)) (c.lookup4_in-r.ensures st h) c.in_err-r.was);
+      row_after = λ st h. no-row st (flow_of c.args.f) c.args.row.now (missed (lookup_in st (flow_of c.args.f)) (c.lookup4_in.ensures st h) c.in_err-r.was);
     }
 
 pub returns : goal.returns
 returns c =
     record {
-      value = λ st h. sym (ap found_number (found (lookup_in st (flow_of c.args.f)) (c.lookup4_in-r.ensures st h) c.in_ok-r.was));
-      row_after = λ st h. c.store.ensures ∙ row-found st (flow_of c.args.f) c.args.row.now (found (lookup_in st (flow_of c.args.f)) (c.lookup4_in-r.ensures st h) c.in_ok-r.was);
+      value = λ st h. sym (ap found_number (found (lookup_in st (flow_of c.args.f)) (c.lookup4_in.ensures st h) c.in_ok-r.was));
+      row_after = λ st h. c.store.ensures ∙ row-found st (flow_of c.args.f) c.args.row.now (found (lookup_in st (flow_of c.args.f)) (c.lookup4_in.ensures st h) c.in_ok-r.was);
     }
