@@ -10,13 +10,20 @@ ghost use Rattle.call_change.specs.Answer.{Answers};
 use layout::{AddRoute4, AddV4, BASE_WORDS, DelRoute4, DelV4, EVENT_BUFFER};
 use life::Nanoseconds;
 use refusal::Refusal;
+use step_events::Change;
 
 // The device goes up: 127.0.0.1 if it isn't there, then the routes of every address.
 pub fn up(state: &mut [u32], events: &mut [u32], clock: u64) -> Result<usize, Refusal>
     ensures { Answers (up_call (length events.old) clock state.old) state.new events.old events.new result }
 {
     call_read::checked(state, EVENT_BUFFER <= events.len(), true, Ok(()))?;
-    step_add_v4_atomic::up(&mut state[..BASE_WORDS], events, Nanoseconds(clock))
+    let mut change = Change {
+        state: &mut state[..BASE_WORDS],
+        events,
+        told: 0,
+    };
+    step_add_v4_atomic::up(&mut change, Nanoseconds(clock))?;
+    Ok(change.told)
 }
 
 // The device goes down. It emits nothing.
@@ -45,12 +52,13 @@ pub fn expire(state: &mut [u32], events: &mut [u32], clock: u64) -> Result<usize
         true,
         call_read::asked(request_fit::fit_expire(clock)),
     )?;
-    Ok(step_expire::expire(
-        &mut state[..BASE_WORDS],
+    let mut change = Change {
+        state: &mut state[..BASE_WORDS],
         events,
-        life::FUZZ,
-        Nanoseconds(clock),
-    ))
+        told: 0,
+    };
+    step_expire::expire(&mut change, life::FUZZ, Nanoseconds(clock));
+    Ok(change.told)
 }
 
 // An address is put in, or the one that is there changed where the request says so.
@@ -65,7 +73,13 @@ pub fn add_v4(
     let q: &AddV4 = call_read::sized(q)?;
     let fit = call_read::asked(request_fit::fit_add_v4(q));
     call_read::checked(state, EVENT_BUFFER <= events.len(), true, fit)?;
-    step_add_v4_atomic::add_v4(&mut state[..BASE_WORDS], events, q, Nanoseconds(clock))
+    let mut change = Change {
+        state: &mut state[..BASE_WORDS],
+        events,
+        told: 0,
+    };
+    step_add_v4_atomic::add_v4(&mut change, q, Nanoseconds(clock))?;
+    Ok(change.told)
 }
 
 // The first address that meets the conditions goes, with what goes with it.
@@ -75,7 +89,13 @@ pub fn del_v4(state: &mut [u32], q: &[u32], events: &mut [u32]) -> Result<usize,
     let q: &DelV4 = call_read::sized(q)?;
     let fit = call_read::asked(request_fit::fit_del_v4(q));
     call_read::checked(state, EVENT_BUFFER <= events.len(), true, fit)?;
-    step_del_v4::del_v4(&mut state[..BASE_WORDS], events, q)
+    let mut change = Change {
+        state: &mut state[..BASE_WORDS],
+        events,
+        told: 0,
+    };
+    step_del_v4::del_v4(&mut change, q)?;
+    Ok(change.told)
 }
 
 // A route is put in, or replaces one. A refusal by the reference may leave its table listed.
@@ -98,7 +118,13 @@ pub fn add_route4_lent(
     let q: &AddRoute4 = call_read::sized(q)?;
     let fit = call_read::asked(request_fit::fit_add_route4(q));
     call_read::checked(state, EVENT_BUFFER <= room, true, fit)?;
-    step_route_request::add_route4(&mut state[..BASE_WORDS], events, q)
+    let mut change = Change {
+        state: &mut state[..BASE_WORDS],
+        events,
+        told: 0,
+    };
+    step_route_request::add_route4(&mut change, q)?;
+    Ok(change.told)
 }
 
 // The first route that matches goes.
@@ -121,5 +147,11 @@ pub fn del_route4_lent(
     let q: &DelRoute4 = call_read::sized(q)?;
     let fit = call_read::asked(request_fit::fit_del_route4(q));
     call_read::checked(state, EVENT_BUFFER <= room, true, fit)?;
-    step_route_request::del_route4(&mut state[..BASE_WORDS], events, q)
+    let mut change = Change {
+        state: &mut state[..BASE_WORDS],
+        events,
+        told: 0,
+    };
+    step_route_request::del_route4(&mut change, q)?;
+    Ok(change.told)
 }

@@ -1,5 +1,5 @@
 -- `call_change::del_route4_lent` meets its contract.
-use Rattle.std.proofs.Common.{arith, sym, refl, length}
+use Rattle.std.proofs.Common.{rules, arith, sym, refl, length}
 use Rattle.layout.specs.Request.{del_route4_size, fit_del_route4}
 use Rattle.definition.specs.Reference.Routes.{del_route4_request}
 use Rattle.definition.proofs.Preservation.Numbers.{del_route4-number}
@@ -9,7 +9,7 @@ use Rattle.definition.specs.Step.{unless, events_fit, semantics, del_route4_call
 use Rattle.state.specs.Represents.{fit-some}
 use Rattle.call_read.specs.Laws.{passed, lent, request}
 use Rattle.call_change.specs.Laws.{unsized, request-checked, long, answers-unsized, answers-refused, answers-passed, sound, room}
-use Rattle.call_change.specs.Steps.{request-answers}
+use Rattle.call_change.specs.Steps.{ok-answers, err-answers, taken}
 use Rattle.call_change.proofs.del_route4_lent.Goals as goal
 
 pub returns-in_err-q : goal.returns-in_err-q
@@ -24,8 +24,8 @@ returns-in_err-checked c =
     answers-refused (semantics (Call.del_route4 c.args.q.now c.args.room)) c.args.state.now c.args.events.now
     (request-checked del_route4_size c.args.q.now c.args.state.now c.in_ok-q.ensures c.checked.result (events_fit c.args.room) (λ q. unless (fit_del_route4 q) 202) (c.checked.ensures.refuses _ (request c.asked-fit.result c.asked-fit.ensures (c.fit_del_route4.ensures (long del_route4_size c.args.q.now c.args.state.now c.in_ok-q.ensures))))) c.in_err-checked.was c.from_residual-in_err-checked.ensures.1
 
-pub slice_bounds-del_route4-end-2 : goal.slice_bounds-del_route4-end-2
-slice_bounds-del_route4-end-2 c =
+pub slice_bounds-change-end-2 : goal.slice_bounds-change-end-2
+slice_bounds-change-end-2 c =
     sym
     (lent
     (passed (semantics (Call.del_route4 c.args.q.now c.args.room)).checks c.args.state.now
@@ -47,6 +47,17 @@ del_route4-requires-clause-in_bounds c =
     in
     omega (arith, c.requires (room del_route4_size c.args.q.now c.args.room p.room))
 
+pub returns-in_err-del_route4 : goal.returns-in_err-del_route4
+unfolding del_route4_call
+returns-in_err-del_route4 c =
+    let p =
+    passed (semantics (Call.del_route4 c.args.q.now c.args.room)).checks c.args.state.now
+    (request-checked del_route4_size c.args.q.now c.args.state.now c.in_ok-q.ensures c.checked.result (events_fit c.args.room) (λ q. unless (fit_del_route4 q) 202) (c.checked.ensures.refuses _ (request c.asked-fit.result c.asked-fit.ensures (c.fit_del_route4.ensures (long del_route4_size c.args.q.now c.args.state.now c.in_ok-q.ensures))))) c.in_ok-checked.was
+    in
+    answers-passed (semantics (Call.del_route4 c.args.q.now c.args.room)) c.args.state.now p
+    (err-answers refl refl (λ z. search (rules, z)) (λ z. search (rules, z)) p c.in_err-del_route4.was c.from_residual-in_err-del_route4.ensures.1 (del_route4_request c.args.q.now (state_of c.args.state.now)) (del_route4-number c.args.q.now (state_of c.args.state.now))
+    (taken (λ q. del_route4_request q (state_of c.args.state.now)) c.in_ok-q.ensures.0 (c.del_route4.ensures (state_of c.args.state.now) p.holds)))
+
 pub returns : goal.returns
 unfolding del_route4_call
 returns c =
@@ -55,5 +66,5 @@ returns c =
     (request-checked del_route4_size c.args.q.now c.args.state.now c.in_ok-q.ensures c.checked.result (events_fit c.args.room) (λ q. unless (fit_del_route4 q) 202) (c.checked.ensures.refuses _ (request c.asked-fit.result c.asked-fit.ensures (c.fit_del_route4.ensures (long del_route4_size c.args.q.now c.args.state.now c.in_ok-q.ensures))))) c.in_ok-checked.was
     in
     answers-passed (semantics (Call.del_route4 c.args.q.now c.args.room)) c.args.state.now p
-    (request-answers p (λ q. del_route4_request q (state_of c.args.state.now)) c.in_ok-q.ensures.0 (del_route4-number c.args.q.now (state_of c.args.state.now))
-    (c.del_route4.ensures (state_of c.args.state.now) p.holds))
+    (ok-answers refl refl (λ z. search (rules, z)) (λ z. search (rules, z)) p c.in_ok-del_route4.was (del_route4_request c.args.q.now (state_of c.args.state.now)) (del_route4-number c.args.q.now (state_of c.args.state.now))
+    (taken (λ q. del_route4_request q (state_of c.args.state.now)) c.in_ok-q.ensures.0 (c.del_route4.ensures (state_of c.args.state.now) p.holds)))

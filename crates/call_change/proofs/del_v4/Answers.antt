@@ -1,5 +1,5 @@
 -- `call_change::del_v4` meets its contract.
-use Rattle.std.proofs.Common.{arith, sym, refl, length}
+use Rattle.std.proofs.Common.{rules, arith, sym, refl, length}
 use Rattle.layout.specs.Request.{del_v4_size, fit_del_v4}
 use Rattle.definition.specs.Reference.Removal.{del_v4}
 use Rattle.definition.proofs.Preservation.Numbers.{del_v4-number}
@@ -8,7 +8,7 @@ use Rattle.definition.specs.Words.{state_of}
 use Rattle.definition.specs.Step.{unless, events_fit, semantics, del_v4_call}
 use Rattle.call_read.specs.Laws.{passed, lent, request}
 use Rattle.call_change.specs.Laws.{unsized, request-checked, long, answers-unsized, answers-refused, answers-passed, room}
-use Rattle.call_change.specs.Steps.{fitting, request-answers}
+use Rattle.call_change.specs.Steps.{fitting, ok-answers, err-answers, taken}
 use Rattle.call_change.proofs.del_v4.Goals as goal
 
 pub returns-in_err-q : goal.returns-in_err-q
@@ -23,20 +23,31 @@ returns-in_err-checked c =
     answers-refused (semantics (Call.del_v4 c.args.q.now (length c.args.events.now))) c.args.state.now c.args.events.now
     (request-checked del_v4_size c.args.q.now c.args.state.now c.in_ok-q.ensures c.checked.result (events_fit (length c.args.events.now)) (λ q. unless (fit_del_v4 q) 202) (c.checked.ensures.refuses _ (request c.asked-fit.result c.asked-fit.ensures (c.fit_del_v4.ensures (long del_v4_size c.args.q.now c.args.state.now c.in_ok-q.ensures))))) c.in_err-checked.was c.from_residual-in_err-checked.ensures.1
 
-pub slice_bounds-del_v4-end-2 : goal.slice_bounds-del_v4-end-2
-slice_bounds-del_v4-end-2 c =
+pub slice_bounds-change-end-2 : goal.slice_bounds-change-end-2
+slice_bounds-change-end-2 c =
     sym
     (lent
     (passed (semantics (Call.del_v4 c.args.q.now (length c.args.events.now))).checks c.args.state.now
     (request-checked del_v4_size c.args.q.now c.args.state.now c.in_ok-q.ensures c.checked.result (events_fit (length c.args.events.now)) (λ q. unless (fit_del_v4 q) 202) (c.checked.ensures.refuses _ (request c.asked-fit.result c.asked-fit.ensures (c.fit_del_v4.ensures (long del_v4_size c.args.q.now c.args.state.now c.in_ok-q.ensures))))) c.in_ok-checked.was))
 
-pub del_v4-requires-clause-some_room : goal.del_v4-requires-clause-some_room
-del_v4-requires-clause-some_room c =
+pub del_v4-requires : goal.del_v4-requires
+del_v4-requires c =
     let p =
     passed (semantics (Call.del_v4 c.args.q.now (length c.args.events.now))).checks c.args.state.now
     (request-checked del_v4_size c.args.q.now c.args.state.now c.in_ok-q.ensures c.checked.result (events_fit (length c.args.events.now)) (λ q. unless (fit_del_v4 q) 202) (c.checked.ensures.refuses _ (request c.asked-fit.result c.asked-fit.ensures (c.fit_del_v4.ensures (long del_v4_size c.args.q.now c.args.state.now c.in_ok-q.ensures))))) c.in_ok-checked.was
     in
-    record { state = state_of c.args.state.now; fits = fitting p (room del_v4_size c.args.q.now (length c.args.events.now) p.room) }
+    record { state = state_of c.args.state.now; fits = fitting p refl refl (room del_v4_size c.args.q.now (length c.args.events.now) p.room) }
+
+pub returns-in_err-del_v4 : goal.returns-in_err-del_v4
+unfolding del_v4_call
+returns-in_err-del_v4 c =
+    let p =
+    passed (semantics (Call.del_v4 c.args.q.now (length c.args.events.now))).checks c.args.state.now
+    (request-checked del_v4_size c.args.q.now c.args.state.now c.in_ok-q.ensures c.checked.result (events_fit (length c.args.events.now)) (λ q. unless (fit_del_v4 q) 202) (c.checked.ensures.refuses _ (request c.asked-fit.result c.asked-fit.ensures (c.fit_del_v4.ensures (long del_v4_size c.args.q.now c.args.state.now c.in_ok-q.ensures))))) c.in_ok-checked.was
+    in
+    answers-passed (semantics (Call.del_v4 c.args.q.now (length c.args.events.now))) c.args.state.now p
+    (err-answers refl refl (λ z. search (rules, z)) (λ z. search (rules, z)) p c.in_err-del_v4.was c.from_residual-in_err-del_v4.ensures.1 (del_v4 c.args.q.now (state_of c.args.state.now)) (del_v4-number c.args.q.now (state_of c.args.state.now))
+    (taken (λ q. del_v4 q (state_of c.args.state.now)) c.in_ok-q.ensures.0 (c.del_v4.ensures (state_of c.args.state.now) (fitting p refl refl (room del_v4_size c.args.q.now (length c.args.events.now) p.room)))))
 
 pub returns : goal.returns
 unfolding del_v4_call
@@ -46,5 +57,5 @@ returns c =
     (request-checked del_v4_size c.args.q.now c.args.state.now c.in_ok-q.ensures c.checked.result (events_fit (length c.args.events.now)) (λ q. unless (fit_del_v4 q) 202) (c.checked.ensures.refuses _ (request c.asked-fit.result c.asked-fit.ensures (c.fit_del_v4.ensures (long del_v4_size c.args.q.now c.args.state.now c.in_ok-q.ensures))))) c.in_ok-checked.was
     in
     answers-passed (semantics (Call.del_v4 c.args.q.now (length c.args.events.now))) c.args.state.now p
-    (request-answers p (λ q. del_v4 q (state_of c.args.state.now)) c.in_ok-q.ensures.0 (del_v4-number c.args.q.now (state_of c.args.state.now))
-    (c.del_v4.ensures (state_of c.args.state.now) (fitting p (room del_v4_size c.args.q.now (length c.args.events.now) p.room))))
+    (ok-answers refl refl (λ z. search (rules, z)) (λ z. search (rules, z)) p c.in_ok-del_v4.was (del_v4 c.args.q.now (state_of c.args.state.now)) (del_v4-number c.args.q.now (state_of c.args.state.now))
+    (taken (λ q. del_v4 q (state_of c.args.state.now)) c.in_ok-q.ensures.0 (c.del_v4.ensures (state_of c.args.state.now) (fitting p refl refl (room del_v4_size c.args.q.now (length c.args.events.now) p.room)))))

@@ -1,5 +1,5 @@
 -- `call_change::expire` meets its contract.
-use Rattle.std.proofs.Common.{sym, refl, length, leb-true}
+use Rattle.std.proofs.Common.{rules, sym, refl, length, leb-true}
 use Rattle.life.specs.Life.{allowance}
 use Rattle.definition.specs.Reference.Removal.{expire}
 use Rattle.definition.proofs.Preservation.Peaks.{expire-roomy}
@@ -8,7 +8,7 @@ use Rattle.definition.specs.Words.{state_of}
 use Rattle.definition.specs.Step.{event_room, semantics, expire_call}
 use Rattle.call_read.specs.Laws.{passed, lent, request}
 use Rattle.call_change.specs.Laws.{answers-refused, answers-passed}
-use Rattle.call_change.specs.Steps.{fitting, within-answers}
+use Rattle.call_change.specs.Steps.{fitting, goes-answers}
 use Rattle.call_change.proofs.expire.Goals as goal
 
 pub returns-in_err-checked : goal.returns-in_err-checked
@@ -16,18 +16,18 @@ unfolding expire_call
 returns-in_err-checked c =
     answers-refused (semantics (Call.expire (length c.args.events.now) c.args.clock)) c.args.state.now c.args.events.now (c.checked.ensures.refuses _ (request c.asked.result c.asked.ensures c.fit_expire.ensures)) c.in_err-checked.was c.from_residual.ensures.1
 
-pub slice_bounds-expire-end-2 : goal.slice_bounds-expire-end-2
-slice_bounds-expire-end-2 c = sym (lent (passed (semantics (Call.expire (length c.args.events.now) c.args.clock)).checks c.args.state.now (c.checked.ensures.refuses _ (request c.asked.result c.asked.ensures c.fit_expire.ensures)) c.in_ok-checked.was))
+pub slice_bounds-change-end-2 : goal.slice_bounds-change-end-2
+slice_bounds-change-end-2 c = sym (lent (passed (semantics (Call.expire (length c.args.events.now) c.args.clock)).checks c.args.state.now (c.checked.ensures.refuses _ (request c.asked.result c.asked.ensures c.fit_expire.ensures)) c.in_ok-checked.was))
 
 pub expire-requires : goal.expire-requires
 expire-requires c =
     let p = passed (semantics (Call.expire (length c.args.events.now) c.args.clock)).checks c.args.state.now (c.checked.ensures.refuses _ (request c.asked.result c.asked.ensures c.fit_expire.ensures)) c.in_ok-checked.was in
-    record { state = state_of c.args.state.now; fits = fitting p (leb-true event_room (length c.args.events.now) p.room) }
+    record { state = state_of c.args.state.now; fits = fitting p refl refl (leb-true event_room (length c.args.events.now) p.room) }
 
 pub returns : goal.returns
 unfolding expire_call
 returns c =
     let p = passed (semantics (Call.expire (length c.args.events.now) c.args.clock)).checks c.args.state.now (c.checked.ensures.refuses _ (request c.asked.result c.asked.ensures c.fit_expire.ensures)) c.in_ok-checked.was in
     answers-passed (semantics (Call.expire (length c.args.events.now) c.args.clock)) c.args.state.now p
-    (within-answers (state_of c.args.state.now) (expire allowance c.args.clock (state_of c.args.state.now)) c.args.state.now (expire-roomy allowance c.args.clock (state_of c.args.state.now) p.good)
-    (c.expire.ensures (state_of c.args.state.now) (fitting p (leb-true event_room (length c.args.events.now) p.room))))
+    (goes-answers refl refl (λ z. search (rules, z)) (λ z. search (rules, z)) c.args.state.now (expire allowance c.args.clock (state_of c.args.state.now)) (expire-roomy allowance c.args.clock (state_of c.args.state.now) p.good)
+    (c.expire.ensures (state_of c.args.state.now) (fitting p refl refl (leb-true event_room (length c.args.events.now) p.room))).emits)
