@@ -15,7 +15,7 @@ ghost use Rattle.step_insert.specs.Search.{in_front, in_run, run_start, run_end,
 ghost use Rattle.step_insert.specs.Run.{Run};
 ghost use Rattle.step_insert.specs.Plan.{planned, placed, created, replacing, among, InsertedInto};
 
-use layout::{ROUTE_LIMIT, ROUTE_WORDS, route};
+use layout::{ROUTE_LIMIT, ROUTE_WORDS, RouteRow, route};
 use refusal::Refusal;
 
 fn one_if(b: bool) -> usize
@@ -227,7 +227,7 @@ fn plan4(rows: &[u32], n: usize, new: &[u32], flags: u32) -> Plan
 
 // A route put into its place, the rows as the definition has them: the flags to tell of it, none where it is there already. A full
 // list stays as it is.
-pub fn insert4(s: &mut [u32], new: &[u32], flags: u32) -> Result<Option<u32>, Refusal>
+pub fn insert4(s: &mut [u32], new: &RouteRow, flags: u32) -> Result<Option<u32>, Refusal>
     requires represents_some { RepresentsSome s.old }
     requires value { fit_route new.now ≡ true }
     ensures represents_some_2 { RepresentsSome s.new }
