@@ -11,6 +11,7 @@ use itoa::{Buffer, Integer};
 use layout::{RouteRow, route};
 
 // Lent bytes, and how many at their front are written.
+#[derive(Drop)]
 pub struct Text<'a> {
     pub out: &'a mut [u8],
     pub len: usize,
