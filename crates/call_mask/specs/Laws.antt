@@ -1,7 +1,7 @@
 -- A call with a good mask is the base's call with its prefix, whole; that one with another is refused by 207, after 200 and 201, is
 -- proved in proofs/Laws.antt.
 -- Assumes nothing.
-use Rattle.std.specs.Prelude.{ℕ, ◌≡◌, Bool, cond, ◌&&◌, List, eqb, length, set}
+use Rattle.std.specs.Prelude.{ℕ, ◌≡◌, Bool, cond, ◌&&◌, List, eqb, length, set, Ok, Err}
 use Rattle.std.proofs.Common.{arith, sym, ap, subst, ◌∙◌}
 use Rattle.std.proofs.Math.Path.{refl}
 use Rattle.std.proofs.Math.Bool.{true, false, and-false}
@@ -10,8 +10,8 @@ use Rattle.std.proofs.Math.ListN.{length-set}
 use borrow.Author.Tests.{ne_eqb, eq-eqb}
 use Rattle.lists.specs.Lists.{Row}
 use Rattle.lists.specs.Bools.{cond-true, cond-false}
-use Rattle.netmask.specs.declared.Prefix.TheVariants.{Length}
-use Rattle.netmask.specs.declared.Prefix.TheVariants.{Refused as PrefixRefused}
+use Rattle.refusal.specs.declared.Refusal.{Refusal}
+use Rattle.refusal.specs.Refusal.{number_of}
 use Rattle.netmask.specs.Netmask.{good, bad_mask, prefix_of}
 use Rattle.netmask.specs.Laws.{MaskOf, its_ones, good-mask, prefix-good, prefix_bad}
 use Rattle.definition.specs.Words.{state_size, formed}
@@ -65,10 +65,10 @@ pub bad_some : (events : ℕ) (w : List ℕ) {n m : ℕ} → (m ≡ 0 → ⊥) �
 bad_some events w {m = m} some c z = refused-some (eqb (length w) state_size && events_fit events) (formed w && true) m some (sym c ∙ z)
 
 -- the prefix put in the place of the mask: what the code finds of a mask
-pub to-prefix_bad : (m n : ℕ) → prefix_of m ≡ PrefixRefused n → (n ≡ unless (good m) bad_mask) × (good m ≡ false)
-to-prefix_bad m n e = let b = prefix_bad m n e in (b.1 ∙ sym (cond-false (good m) 0 bad_mask b.0), b.0)
+pub to-prefix_bad : (m : ℕ) (r : Refusal) → prefix_of m ≡ Err r → (number_of r ≡ unless (good m) bad_mask) × (good m ≡ false)
+to-prefix_bad m r e = let b = prefix_bad m r e in (b.1 ∙ sym (cond-false (good m) 0 bad_mask b.0), b.0)
 
-pub to-prefix-good : (m p : ℕ) → prefix_of m ≡ Length p → (0 ≡ unless (good m) bad_mask) × (p ≡ ones m)
+pub to-prefix-good : (m p : ℕ) → prefix_of m ≡ Ok p → (0 ≡ unless (good m) bad_mask) × (p ≡ ones m)
 to-prefix-good m p e = let g = prefix-good m p e in (sym (cond-true (good m) 0 bad_mask g.0), sym g.1)
 
 -- the checks of a call by a request of so many words, with a mask at a place

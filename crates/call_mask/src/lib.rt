@@ -9,7 +9,6 @@ ghost use Rattle.call_mask.specs.Masked.{mask_at, prefixed, add_v4_mask_call, de
 
 use call_change::Done;
 use layout::{ADD_V4_WORDS, DEL_V4_WORDS, EVENT_BUFFER, address, del_v4};
-use netmask::Prefix;
 
 // The prefix put in the place of the mask; the number that refuses the mask, 0 if it is good.
 pub fn to_prefix(q: &mut [u32], at: usize) -> u32
@@ -18,8 +17,8 @@ pub fn to_prefix(q: &mut [u32], at: usize) -> u32
     ensures q_after { good (mask_at at q.old) ≡ true → q.new ≡ prefixed at q.old }
 {
     match netmask::prefix_of(q[at]) {
-        Prefix::Refused(n) => n,
-        Prefix::Length(p) => {
+        Err(refusal) => refusal.number(),
+        Ok(p) => {
             q[at] = p;
             0
         }

@@ -12,7 +12,7 @@ ghost use Rattle.call_reply.specs.Answer.{reply_from, reply_of, prefix_by};
 use call_change::Done;
 use call_message::Asked;
 use call_read::{Chosen, Found, Listed, Local, Sourced};
-use netmask::Prefix;
+use refusal::Refusal;
 use row_address::LeftReply;
 
 // The number is 0, or the refusal's number and then the rest is 0.
@@ -132,12 +132,12 @@ pub fn listed(l: Listed) -> Reply
     }
 }
 
-pub fn prefix(a: Prefix) -> Reply
+pub fn prefix(a: Result<u32, Refusal>) -> Reply
     ensures { result ≡ reply_from (prefix_by a) }
 {
     match a {
-        Prefix::Refused(n) => refused(n),
-        Prefix::Length(n) => valued(n),
+        Err(refusal) => refused(refusal.number()),
+        Ok(n) => valued(n),
     }
 }
 

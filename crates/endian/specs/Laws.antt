@@ -1,10 +1,13 @@
 -- Laws of words as bytes: lengths, each way back, and how both go with lists joined, cut and changed at multiples of four.
 -- Assumes nothing.
 use Rattle.std.specs.Prelude.{ℕ, zero, suc, ◌+◌, ◌*◌, ◌/◌, ◌%◌, ◌≤◌, ◌<◌, ◌≡◌, refl, List, [], ◌∷◌, ◌++◌, length, get_or, set, take, drop}
-use Rattle.std.proofs.Common.{◌∙◌, append_assoc, mod-eq_of_lt, mul-suc, zero-add, add-one, arith, length-append, take-suc, length-take-le}
+use Rattle.std.proofs.Common.{◌∙◌, append_assoc, mod-eq_of_lt, mul-suc, zero-add, add-zero, add-one, arith, length-append, take-suc, length-take-le}
 use Rattle.std.proofs.Math.Nat.{div-div-eq-div-mul}
 use Rattle.std.proofs.Math.Numerals.{add-four}
-use Rattle.std.proofs.Math.Seq.{take-nil, drop-nil}
+use Rattle.std.proofs.Math.Seq.{take-nil, drop-nil, get_or-take, get_or-drop}
+use Rattle.std.proofs.Math.Path.{ap}
+use Rattle.std.specs.Simd.{first_chunks}
+use Rattle.std.specs.Int.{w32, from_le_bytes}
 use Rattle.lists.specs.Lists.{put}
 use Rattle.lists.specs.Put.{put-none, put-more, put-take, put_whole}
 use Rattle.endian.specs.Endian.{word, words_of, bytes_of}
@@ -159,6 +162,10 @@ words_of-put at n bs l e h =
     ∙ rw (words_of_append n bs (drop (4 * at + length bs) l) e, far, words_of-take at l, words_of-drop (at + length (words_of bs)) l)
 
 -- ---- one word more
+-- the library's words of four bytes are those words, and its bytes are those bytes
+pub quad-word : (q : List ℕ) → from_le_bytes w32 q ≡ word (get_or q 0 0) (get_or q 1 0) (get_or q 2 0) (get_or q 3 0)
+quad-word q = refl
+
 -- the word at a place
 pub get_d_words_of : (b : List ℕ) (i : ℕ) → i < length b / 4
     → get_or (words_of b) i 0 ≡ word (get_or b (4 * i) 0) (get_or b (4 * i + 1) 0) (get_or b (4 * i + 2) 0) (get_or b (4 * i + 3) 0)
@@ -175,18 +182,31 @@ get_d_words_of (a ∷ b ∷ c ∷ d ∷ l) (suc i) h =
     let p3 : 4 * suc i + 3 ≡ suc (suc (suc (suc (4 * i + 3)))) = omega arith in
     rw (p1, p2, p3, p) (get_d_words_of l i (omega arith))
 
+-- a byte of the four that are the word at a place
+quad_at : (n : ℕ) (b : List ℕ) (i j : ℕ) → i < n → j < 4 → get_or (get_or (first_chunks 4 n b) i []) j 0 ≡ get_or b (4 * i + j) 0
+quad_at zero b i j h k = absurd (omega arith)
+quad_at (suc n) b zero j h k = get_or-take 4 b j 0 k ∙ ap (λ m. get_or b m 0) (omega arith)
+quad_at (suc n) b (suc i) j h k =
+    quad_at n (drop 4 b) i j (omega arith) k ∙ get_or-drop 4 b (4 * i + j) 0 ∙ ap (λ m. get_or b m 0) (omega arith)
+
+pub word-of-quad : (n : ℕ) (b : List ℕ) (i : ℕ) → i < n
+    → from_le_bytes w32 (get_or (first_chunks 4 n b) i []) ≡ word (get_or b (4 * i) 0) (get_or b (4 * i + 1) 0) (get_or b (4 * i + 2) 0) (get_or b (4 * i + 3) 0)
+word-of-quad n b i h =
+    quad-word (get_or (first_chunks 4 n b) i [])
+    ∙ rw (quad_at n b i 0 h (omega arith), quad_at n b i 1 h (omega arith), quad_at n b i 2 h (omega arith), quad_at n b i 3 h (omega arith), add-zero)
+
 module _ (b l : List ℕ) (h : length b ≤ 4 * length l) where
   words-room : length (words_of b) ≤ length l
   words-room = omega (arith, length-words_of b)
 
   -- an iteration of the loop that reads words
   pub word_more : (i : ℕ) → i < length b / 4 → (v : ℕ)
-      → v ≡ word (get_or b (4 * i) 0) (get_or b (4 * i + 1) 0) (get_or b (4 * i + 2) 0) (get_or b (4 * i + 3) 0)
+      → v ≡ from_le_bytes w32 (get_or (first_chunks 4 (length b / 4) b) i [])
       → set (put 0 (take i (words_of b)) l) i v ≡ put 0 (take (i + 1) (words_of b)) l
   word_more i k v e =
       let far : i < length (words_of b) = omega (arith, length-words_of b) in
       let room : 0 + length (words_of b) ≤ length l = omega (arith, words-room) in
-      rw (e, ← get_d_words_of b i k)
+      rw (e, word-of-quad (length b / 4) b i k, ← get_d_words_of b i k)
       (rw (zero-add i) at (put-take 0 (words_of b) l i room far))
 
 -- words as many as there is room for are all of it

@@ -9,14 +9,14 @@ use Rattle.call_mask.specs.Masked.{mask_at}
 use Rattle.call_mask.specs.Laws.{to-prefix_bad, to-prefix-good}
 use Rattle.call_mask.proofs.to_prefix.Goals as goal
 
-pub returns-in-Refused : goal.returns-in-Refused
-returns-in-Refused c =
+pub returns-in-Err : goal.returns-in-Err
+returns-in-Err c =
     let m = mask_at c.args.at c.args.q.now in
-    let said = to-prefix_bad m _ (sym c.prefix_of.ensures ∙ c.in-Refused.is) in
-    record { value = said.0; q_after = λ g. absurd (true-false (good m) g said.1) }
+    let said = to-prefix_bad m _ (sym c.prefix_of.ensures ∙ c.in-Err.is) in
+    record { value = c.number.ensures ∙ said.0; q_after = λ g. absurd (true-false (good m) g said.1) }
 
-pub returns-in-Length : goal.returns-in-Length
-returns-in-Length c =
+pub returns-in-Ok : goal.returns-in-Ok
+returns-in-Ok c =
     let m = mask_at c.args.at c.args.q.now in
-    let said = to-prefix-good m _ (sym c.prefix_of.ensures ∙ c.in-Length.is) in
+    let said = to-prefix-good m _ (sym c.prefix_of.ensures ∙ c.in-Ok.is) in
     record { value = said.0; q_after = λ g. ap (λ (p : ℕ). set c.args.q.now c.args.at p) said.1 }
