@@ -1,8 +1,8 @@
 -- What a message comes to as an answer, and that its headers lie within it.
 -- Assumes nothing.
-use Rattle.std.specs.Prelude.{ℕ, suc, ◌-◌, ◌≤◌, ◌<◌, ◌≡◌, eqb, leb, length, get_or, take, drop}
+use Rattle.std.specs.Prelude.{Bool, true, false, Result, Ok, Err, IsErrAnd, ◌≢◌, ℕ, suc, ◌-◌, ◌≤◌, ◌<◌, ◌≡◌, eqb, leb, length, get_or, take, drop}
 use Rattle.std.proofs.Math.Path.{refl, ap}
-use Rattle.std.proofs.Common.{sym, ◌∙◌, arith, length-take, get_or-take, length-take-le}
+use Rattle.std.proofs.Common.{subst, sym, ◌∙◌, arith, length-take, get_or-take, length-take-le}
 use mathlib.Core.List.{List, [], ◌∷◌}
 use Rattle.std.proofs.Math.ListN.{length-append}
 use borrow.Author.Tests.{eq-eqb, ne_eqb, le-leb, leb-true}
@@ -23,11 +23,14 @@ use Rattle.netlink_request.specs.Laws.{length-asked}
 use Rattle.netlink_request.specs.Metrics.{pairs_of, pairs-short}
 use Rattle.definition.specs.Call.{Reply}
 use Rattle.definition.specs.Call.{refusal as refusing}
-use Rattle.call_read.specs.Answer.{Writes}
+use Rattle.refusal.specs.declared.Refusal.{Refusal}
+use Rattle.refusal.specs.declared.Refusal.TheVariants.{WrongLength}
+use Rattle.refusal.specs.Refusal.{number_of, Refuses, unless}
+use Rattle.call_read.specs.Answer.{Writes, refused_by}
+use Rattle.call_read.specs.Laws.{exit, refuses_some}
 use Rattle.call_message.specs.declared.Asked.{Asked}
-use Rattle.call_message.specs.declared.Asked.TheVariants.{Refused, Request}
 use Rattle.call_message.specs.Message.{replied, read_call}
-use Rattle.call_message.specs.Answer.{asked_by, asked_of}
+use Rattle.call_message.specs.Answer.{asked_by}
 
 -- ---- the headers lie within the message
 module _ (up n : ℕ) (m : List ℕ) (l : List Attribute) where
@@ -95,8 +98,11 @@ module _ (up : ℕ) (m : List ℕ) (l : List Attribute) where
 abbrev pub request_in : ℕ → List ℕ → Row
 request_in up m = request up m (message_type m) (attributes (body m))
 
+abbrev request_of : ℕ → ℕ → Asked
+request_of kind words = record { kind = kind; words = words }
+
 abbrev Answers : ℕ → List ℕ → ℕ → ℕ → List ℕ → List ℕ → Type 0
-Answers up m kind words w w' = (Request kind words ≡ Request (message_type m) (length (request_in up m))) × (w' ≡ put 0 (request_in up m) w)
+Answers up m kind words w w' = (request_of kind words ≡ request_of (message_type m) (length (request_in up m))) × (w' ≡ put 0 (request_in up m) w)
 
 -- the attributes of a message's n bytes, from a place on
 abbrev body_at : ℕ → List ℕ → ℕ → List Attribute
@@ -111,7 +117,7 @@ module _ (up : ℕ) (m : List ℕ) (t n : ℕ) (e : t ≡ message_type m) (f : n
   answered : (k c : ℕ) (q : Row) → t ≡ k → request_in up m ≡ q → length q ≡ c → w' ≡ put 0 q w → Answers up m k c w w'
   answered k c q g r h z =
       let long : c ≡ length (request_in up m) = sym (ap length r ∙ h) in
-      ((λ i. Request ((sym g ∙ e) i) (long i)), z ∙ ap (λ (x : List ℕ). put 0 x w) (sym r))
+      ((λ i. request_of ((sym g ∙ e) i) (long i)), z ∙ ap (λ (x : List ℕ). put 0 x w) (sym r))
 
   pub new_addr-answered : t ≡ rtm_new_addr → 24 ≤ n → w' ≡ put 0 (new_addr up (take n m) (body_at n m 24)) w → Answers up m 20 18 w w'
   unfolding request
@@ -158,23 +164,30 @@ body_below m n at h e = omega (arith, h 0, h 1, h 2, h 3, length-take (n - at) (
 
 -- ---- the answers
 module _ (room up : ℕ) (m b : List ℕ) where
-  refused-by : (n : ℕ) → (n ≡ 0 → ⊥) → read_call room up m ≡ refusing n → Writes asked_by asked_of (read_call room up m) b b (Refused n)
-  refused-by n h e = rw e (record { answer = rw (ne_eqb n 0 h); says = refl; rows = put-no-rows b })
+  refused-by : {t : Result Asked Refusal} (e : Refusal) (n : ℕ) → (number_of e ≡ n) × (n ≢ 0) → IsErrAnd t (λ x. x ≡ e) → read_call room up m ≡ refusing n → Writes asked_by (read_call room up m) b b t
+  refused-by e n h x f =
+      subst (λ (y : Result Asked Refusal). Writes asked_by (read_call room up m) b b y) (sym (exit x))
+      (rw f (record { refuses = h; says = ap refused_by h.0; rows = put-no-rows b }))
 
-  pub no_room : room < 49 → Writes asked_by asked_of (read_call room up m) b b (Refused 200)
+  pub no_room : {r : Result (Unit {0}) Refusal} {t : Result Asked Refusal} {e : Refusal} → r ≡ unless (leb 49 room) WrongLength → r ≡ Err e → IsErrAnd t (λ x. x ≡ e)
+      → Writes asked_by (read_call room up m) b b t
   unfolding read_call
-  no_room h = refused-by 200 (λ z. omega arith) (rw (fails (leb 49 room) (λ e. omega (arith, leb-true 49 room e))))
+  no_room {t = t} {e} g f x = short (leb 49 room) refl (sym f ∙ g)
+    where
+      short : (v : Bool) → leb 49 room ≡ v → Err e ≡ unless v WrongLength → Writes asked_by (read_call room up m) b b t
+      short true k h = cc
+      short false k h = let w : e ≡ WrongLength = cc in refused-by e 200 (ap number_of w, λ z. omega (arith, z)) x (rw k)
 
   module _ (h : 49 ≤ room) where
-    pub not-read : (n : ℕ) → n ≡ refusal m → (n ≡ 0 → ⊥) → Writes asked_by asked_of (read_call room up m) b b (Refused n)
+    pub not-read : {r : Result (Unit {0}) Refusal} {t : Result Asked Refusal} {e : Refusal} → Refuses r (refusal m) → r ≡ Err e → IsErrAnd t (λ x. x ≡ e) → Writes asked_by (read_call room up m) b b t
     unfolding read_call read
-    not-read n e z = refused-by n z (rw (le-leb 49 room h, ← e, ne_eqb n 0 z))
+    not-read {e = e} c f x = let z = refuses_some c f in refused-by e (refusal m) z x (rw (le-leb 49 room h, ne_eqb (refusal m) 0 z.1))
 
-    pub is_read : {b' : List ℕ} {r : Asked} → refusal m ≡ 0 → r ≡ Request (message_type m) (length (request_in up m)) → b' ≡ put 0 (request_in up m) b
-        → Writes asked_by asked_of (read_call room up m) b b' r
+    pub is_read : {b' : List ℕ} {r : Asked} → refusal m ≡ 0 → r ≡ request_of (message_type m) (length (request_in up m)) → b' ≡ put 0 (request_in up m) b
+        → Writes asked_by (read_call room up m) b b' (Ok r)
     unfolding read_call read
     is_read {b'} {r} z e f =
-        rw (le-leb 49 room h, eq-eqb (refusal m) 0 z, e) (record { answer = refl; says = refl; rows = f ∙ ap (λ (q : List ℕ). put 0 q b) (sym (flat-one (request_in up m))) })
+        rw (le-leb 49 room h, eq-eqb (refusal m) 0 z, e) (record { refuses = refl; says = refl; rows = f ∙ ap (λ (q : List ℕ). put 0 q b) (sym (flat-one (request_in up m))) })
 
 -- ---- the words written are as many as the reply says, and at most 49
 request-short : (up : ℕ) (m : List ℕ) (t : ℕ) (l : List Attribute) → length (request up m t l) ≤ 49

@@ -7,23 +7,24 @@ ghost use Rattle.netlink.specs.Exactly.{Shaped};
 ghost use Rattle.netlink.specs.Reader.{message_type};
 ghost use Rattle.call_read.specs.Answer.{Writes};
 ghost use Rattle.call_message.specs.Message.{read_call};
-ghost use Rattle.call_message.specs.Answer.{asked_by, asked_of};
+ghost use Rattle.call_message.specs.Answer.{asked_by};
 ghost use Rattle.call_message.specs.Laws.{request_in};
 
 use layout::{ADD_ROUTE4_WORDS, ADD_V4_WORDS, DEL_ROUTE4_WORDS, DEL_V4_WORDS};
 use netlink::codes;
+use refusal::Refusal;
 
-// What a reading answers: a refusal's number, or the message's type and the words of the request that it wrote.
-#[derive(Clone, Copy)]
-pub enum Asked {
-    Refused(u32),
-    Request { kind: u32, words: u32 },
+// What a reading answers: the message's type, and the words of the request that it wrote.
+#[derive(Clone, Copy, Debug, PartialEq, Eq)]
+pub struct Asked {
+    pub kind: u32,
+    pub words: u32,
 }
 
 // The request of a message that isn't refused. Only its own bytes are handed on.
 fn requested(message: &[u8], request: &mut [u32], up: u32) -> Asked
     requires { Shaped message.now × (49 ≤ length request.old) }
-    ensures value { result ≡ Asked.Request (message_type message.now) (length (request_in up message.now)) }
+    ensures value { result ≡ record { kind = message_type message.now; words = length (request_in up message.now) } }
     ensures request_after { request.new ≡ put 0 (request_in up message.now) request.old }
 {
     let end = netlink_refusal::message_length(message);
@@ -35,7 +36,7 @@ fn requested(message: &[u8], request: &mut [u32], up: u32) -> Asked
             up,
             request,
         );
-        return Asked::Request {
+        return Asked {
             kind: codes::RTM_NEWADDR as u32,
             words: ADD_V4_WORDS as u32,
         };
@@ -46,7 +47,7 @@ fn requested(message: &[u8], request: &mut [u32], up: u32) -> Asked
             &message[codes::ADDRESS_ATTRIBUTES_AT..end],
             request,
         );
-        return Asked::Request {
+        return Asked {
             kind: codes::RTM_DELADDR as u32,
             words: DEL_V4_WORDS as u32,
         };
@@ -58,7 +59,7 @@ fn requested(message: &[u8], request: &mut [u32], up: u32) -> Asked
             up,
             request,
         );
-        return Asked::Request {
+        return Asked {
             kind: codes::RTM_NEWROUTE as u32,
             words: ADD_ROUTE4_WORDS as u32,
         };
@@ -68,22 +69,17 @@ fn requested(message: &[u8], request: &mut [u32], up: u32) -> Asked
         &message[codes::ROUTE_ATTRIBUTES_AT..end],
         request,
     );
-    Asked::Request {
+    Asked {
         kind: codes::RTM_DELROUTE as u32,
         words: DEL_ROUTE4_WORDS as u32,
     }
 }
 
 // A message into the request that the base judges; `up` goes into the requests that have it.
-pub fn read(message: &[u8], request: &mut [u32], up: u32) -> Asked
-    ensures { Writes asked_by asked_of (read_call (length request.old) up message.now) request.old request.new result }
+pub fn read(message: &[u8], request: &mut [u32], up: u32) -> Result<Asked, Refusal>
+    ensures { Writes asked_by (read_call (length request.old) up message.now) request.old request.new result }
 {
-    if request.len() < DEL_ROUTE4_WORDS {
-        return Asked::Refused(200);
-    }
-    let n = netlink_refusal::refusal(message);
-    if n != 0 {
-        return Asked::Refused(n);
-    }
-    requested(message, request, up)
+    refusal::unless(DEL_ROUTE4_WORDS <= request.len(), Refusal::WrongLength)?;
+    call_read::asked(netlink_refusal::refusal(message))?;
+    Ok(requested(message, request, up))
 }

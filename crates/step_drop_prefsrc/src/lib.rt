@@ -28,7 +28,8 @@ fn dependent_iteration(change: &mut Change<'_>, i: usize, j: usize, ip: u32) -> 
     state_retain::settle(change.state, i, j)
 }
 
-// The main rows with the preferred source ip go, in their order: one pass tells them and closes the gaps.
+// The main rows with the preferred source ip go, in their order: one pass tells them and closes the gaps. The rows move
+// under the loop, so it goes by places.
 pub fn drop_dependents(change: &mut Change<'_>, ip: u32)
     requires { SomeRoom potential change.old }
     ensures { (st : State) → RoomFor potential st change.old → EmitsWithin potential st (dependents_go ip st) change.old change.new }
