@@ -1,7 +1,8 @@
 -- The routes that go with an address, in the order in which they go.
 -- Assumes nothing.
-use Rattle.std.specs.Prelude.{ℕ, ◌≡◌, refl, Bool, true, false, List, [], ◌∷◌, ◌++◌, map}
+use Rattle.std.specs.Prelude.{ℕ, ◌≡◌, refl, Bool, true, false, List, [], ◌∷◌, ◌++◌, map, length}
 use Rattle.lists.specs.Lists.{Row, keep}
+use Rattle.lists.specs.Rows.{length-zeros}
 use Rattle.prefix.specs.Mask.{network, broadcast}
 use Rattle.layout.specs.Address as Address
 use Rattle.layout.specs.Address.{address, prefix}
@@ -10,6 +11,11 @@ use Rattle.definition.specs.Reference.Addresses.{kernel_route, local_route, pref
 use Rattle.definition.specs.Reference.Removal.{any_priority, of_kind, leaving}
 use Rattle.row_subnet.specs.OwnRoutes.{has_prefix_route, has_broadcast_routes}
 use Rattle.row_candidates.specs.Rows.{named_routes, prefix_routes, subnet_routes}
+
+-- a row of 32 words
+pub route-long : (dst len priority kind source : ℕ) → length (kernel_route dst len priority kind source) ≡ 32
+unfolding kernel_route
+route-long dst len priority kind source = rw (length-zeros 17)
 
 going : (b c d : Bool) (named dst len priority subnet source : ℕ) (last : Row)
     → map any_priority (keep (of_kind local_kind) (only b (kernel_route named 32 0 broadcast_kind source) ++ (only c (kernel_route dst len priority local_kind source) ++ only d (kernel_route subnet 32 0 broadcast_kind source))))

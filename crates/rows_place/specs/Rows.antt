@@ -10,11 +10,11 @@ use Rattle.rows_place.specs.Behind.{behind_of, behind-at}
 
 -- ---- the place
 -- a secondary goes to the end
-pub place-last : (new : Row) (l : List Row) → secondary new ≡ true → place4 new l ≡ insert_at (length l) new l
+pub place-last : (new : Row) (l : List Row) (n : ℕ) → length l ≡ n → secondary new ≡ true → place4 new l ≡ insert_at n new l
 unfolding place4 insert_at
-place-last new l e =
-    let front : take (length l) l ≡ l = take_all (length l) l (omega arith) in
-    let back : drop (length l) l ≡ [] = drop_of_length-le l {i = length l} (omega arith) in
+place-last new l n long e =
+    let front : take n l ≡ l = take_all n l (omega arith) in
+    let back : drop n l ≡ [] = drop_of_length-le l {i = n} (omega arith) in
     rw (e, front, back)
 
 pub place-behind : (new : Row) (l : List Row) (k : ℕ) → secondary new ≡ false → k ≡ behind_of (yields new) l → place4 new l ≡ insert_at k new l

@@ -60,7 +60,7 @@ module _ {st : State} (l : List Row) (j : ℕ) {a b : Change} (g : Leaving st l 
 abbrev pub falls : ℕ → Bool → State → Bool
 falls ip lost st = lost && any (dependent_on ip) st.routes && not (local4 st ip) && listed main_table st
 
-fall-falls : (ip : ℕ) (lost : Bool) (st : State) → fall_from ip lost st ≡ cond (falls ip lost st) (dependents_go ip st) (stays st)
+pub fall-falls : (ip : ℕ) (lost : Bool) (st : State) → fall_from ip lost st ≡ cond (falls ip lost st) (dependents_go ip st) (stays st)
 unfolding fall_from through
 fall-falls ip false st = refl
 fall-falls ip true st =

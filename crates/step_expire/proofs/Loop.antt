@@ -46,7 +46,7 @@ next-less i n left j b m l q =
 pub some-room : {a : Change} → SomeRoom potential a → (i : ℕ) → i < address_count a.state.now → 34 * (a.told + 1) ≤ length a.events.now
 some-room y i b = omega (arith, y.fits.room, count-addresses y.fits.holds)
 
-module _ (allowance now : ℕ) {st : State} {a : Change} (i : ℕ) (b : i < address_count a.state.now) (f : RoomFor potential st a) where
+module _ {st : State} {a : Change} {i : ℕ} (b : i < address_count a.state.now) (f : RoomFor potential st a) where
   abbrev row : Row
   row = get_or st.addresses i []
 
@@ -59,23 +59,6 @@ module _ (allowance now : ℕ) {st : State} {a : Change} (i : ℕ) (b : i < addr
   pub iteration-fits : fit_address row ≡ true
   iteration-fits = all-at fit_address i st.addresses [] in_use f.holds.addresses_fit
 
-  pub iteration-due : {c : Change} → due allowance now row ≡ true → EmitsWithin potential st (remove_v4 row st) a c → EmitsWithin potential st (expire_turn allowance now i st) a c
-  unfolding expire_turn
-  iteration-due d t = step_eq (cond-true (due allowance now row) (remove_v4 row st) _ d) t
-
-  pub iteration-stays : due allowance now row ≡ false → deprecates allowance now row ≡ false → EmitsWithin potential st (expire_turn allowance now i st) a a
-  unfolding expire_turn
-  iteration-stays d e = step_eq (cond-false (due allowance now row) (remove_v4 row st) _ d ∙ cond-false (deprecates allowance now row) _ (stays st) e) (step-none potential f)
-
-  pub iteration-deprecates : {c : Change} → due allowance now row ≡ false → deprecates allowance now row ≡ true
-      → Represents c.state.now (with_addresses (set st.addresses i (deprecate row)) st) → Tells (new_addr4 (deprecate row) ∷ []) a c → EmitsWithin potential st (expire_turn allowance now i st) a c
-  unfolding expire_turn new_addr4
-  iteration-deprecates d e h w =
-      step_eq (cond-false (due allowance now row) (remove_v4 row st) _ d ∙ cond-true (deprecates allowance now row) _ (stays st) e)
-      (step-one potential (with_addresses (set st.addresses i (deprecate row)) st) (new_addr4 (deprecate row)) f h
-      (omega (arith, length-append (deprecate row) (zeros 12), length-zeros 12, length-address (deprecate row) (deprecate-fit row iteration-fits)))
-      (live-lighter allowance now st i in_use iteration-fits e) w)
-
   -- a removal leaves fewer
   pub removal-fewer : {c : Change} → EmitsWithin potential st (remove_v4 row st) a c → address_count c.state.now < address_count a.state.now
   removal-fewer t = omega (arith, count-addresses f.holds, count-addresses t.emits.holds, removed_fewer row st iteration-there)
@@ -83,6 +66,24 @@ module _ (allowance now : ℕ) {st : State} {a : Change} (i : ℕ) (b : i < addr
   -- a mark as many
   pub marked-same : (c : Change) → Represents c.state.now (with_addresses (set st.addresses i (deprecate row)) st) → address_count c.state.now ≡ address_count a.state.now
   marked-same c h = omega (arith, count-addresses f.holds, count-addresses h, length-set st.addresses i (deprecate row))
+
+  module _ (allowance now : ℕ) where
+    pub iteration-due : {c : Change} → due allowance now row ≡ true → EmitsWithin potential st (remove_v4 row st) a c → EmitsWithin potential st (expire_turn allowance now i st) a c
+    unfolding expire_turn
+    iteration-due d t = step_eq (cond-true (due allowance now row) (remove_v4 row st) _ d) t
+
+    pub iteration-stays : due allowance now row ≡ false → deprecates allowance now row ≡ false → EmitsWithin potential st (expire_turn allowance now i st) a a
+    unfolding expire_turn
+    iteration-stays d e = step_eq (cond-false (due allowance now row) (remove_v4 row st) _ d ∙ cond-false (deprecates allowance now row) _ (stays st) e) (step-none potential f)
+
+    pub iteration-deprecates : {c : Change} → due allowance now row ≡ false → deprecates allowance now row ≡ true
+        → Represents c.state.now (with_addresses (set st.addresses i (deprecate row)) st) → Tells (new_addr4 (deprecate row) ∷ []) a c → EmitsWithin potential st (expire_turn allowance now i st) a c
+    unfolding expire_turn new_addr4
+    iteration-deprecates d e h w =
+        step_eq (cond-false (due allowance now row) (remove_v4 row st) _ d ∙ cond-true (deprecates allowance now row) _ (stays st) e)
+        (step-one potential (with_addresses (set st.addresses i (deprecate row)) st) (new_addr4 (deprecate row)) f h
+        (omega (arith, length-append (deprecate row) (zeros 12), length-zeros 12, length-address (deprecate row) (deprecate-fit row iteration-fits)))
+        (live-lighter allowance now st i in_use iteration-fits e) w)
 
 -- ---- the pass so far
 abbrev pub Expiring : ℕ → ℕ → State → ℕ → Change → Change → Type 0

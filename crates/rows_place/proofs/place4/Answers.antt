@@ -1,4 +1,4 @@
-use Rattle.std.proofs.Common.{[], arith, sym, ap, ◌∙◌, take_all}
+use Rattle.std.proofs.Common.{refl, [], arith, sym, ap, ◌∙◌, take_all}
 use Rattle.definition.specs.Reference.Addresses.{yields}
 use Rattle.rows_place.specs.Behind.{behind_of, behind_le, behind_more}
 use Rattle.rows_place.specs.Rows.{place-last, place-behind}
@@ -6,7 +6,7 @@ use Rattle.rows_place.proofs.place4.Goals as goal
 use Rattle.rows_place.proofs.place4.Goals.{then-yields, else-yields}
 
 pub returns-then-secondary-clause-value : goal.returns-then-secondary-clause-value
-returns-then-secondary-clause-value c = place-last c.args.new.now c.args.addresses.rows.now (sym c.secondary.ensures ∙ c.if-secondary.true)
+returns-then-secondary-clause-value c = place-last c.args.new.now c.args.addresses.rows.now _ refl (sym c.secondary.ensures ∙ c.if-secondary.true)
 
 pub loop-i-preserved : goal.loop-i-preserved
 loop-i-preserved c =

@@ -14,16 +14,16 @@ pub returns-then-due-clause-next : goal.returns-then-due-clause-next
 returns-then-due-clause-next c =
     let y = c.requires.some_room in
     let rows = c.addresses.ensures.rows y.state (rw c.words.ensures y.fits.holds) in
-    let there = iteration-there c.args.clock.allowance.0 c.args.clock.time.0 c.args.i c.requires.i_bound y.fits in
+    let there = iteration-there c.requires.i_bound y.fits in
     next-again c.args.i (address_count c.args.change.now.state.now) (address_count c.remove_v4.new.change.state.now)
-    (removal-fewer c.args.clock.allowance.0 c.args.clock.time.0 c.args.i c.requires.i_bound y.fits (rw rows at (c.remove_v4.ensures y.state y.fits) there))
+    (removal-fewer c.requires.i_bound y.fits (rw rows at (c.remove_v4.ensures y.state y.fits) there))
 
 pub returns-then-due-clause-emits : goal.returns-then-due-clause-emits
 returns-then-due-clause-emits c =
     λ st f.
     let rows = c.addresses.ensures.rows st (rw c.words.ensures f.holds) in
-    let there = iteration-there c.args.clock.allowance.0 c.args.clock.time.0 c.args.i c.requires.i_bound f in
-    iteration-due c.args.clock.allowance.0 c.args.clock.time.0 c.args.i c.requires.i_bound f (rw rows at (sym c.due.ensures ∙ c.if-due.true))
+    let there = iteration-there c.requires.i_bound f in
+    iteration-due c.requires.i_bound f _ _ (rw rows at (sym c.due.ensures ∙ c.if-due.true))
     (rw rows at (c.remove_v4.ensures st f) there)
 
 pub returns-clause-next : goal.returns-clause-next
@@ -33,7 +33,7 @@ returns-clause-next c =
     elim c.if-deprecates.branch [
       | then-deprecates w ↦
           next-on c.args.i (address_count c.args.change.now.state.now) (address_count c.if-deprecates.change.state.now)
-          (rw w.change-is (omega (arith, marked-same c.args.clock.allowance.0 c.args.clock.time.0 c.args.i c.requires.i_bound y.fits w.mark.new.change (rw rows at (w.mark.ensures.represents y.state y.fits.holds)))))
+          (rw w.change-is (omega (arith, marked-same c.requires.i_bound y.fits w.mark.new.change (rw rows at (w.mark.ensures.represents y.state y.fits.holds)))))
       | else-deprecates w ↦
           next-on c.args.i (address_count c.args.change.now.state.now) (address_count c.if-deprecates.change.state.now) (rw w.change-is (omega arith))
     ]
@@ -46,9 +46,9 @@ returns-clause-emits c =
     elim c.if-deprecates.branch [
       | then-deprecates w ↦
           rw w.change-is
-          (iteration-deprecates c.args.clock.allowance.0 c.args.clock.time.0 c.args.i c.requires.i_bound f d (rw rows at (sym c.deprecates.ensures ∙ w.if-deprecates.true))
+          (iteration-deprecates c.requires.i_bound f _ _ d (rw rows at (sym c.deprecates.ensures ∙ w.if-deprecates.true))
           (rw rows at (w.mark.ensures.represents st f.holds)) (rw rows at w.mark.ensures.tells))
       | else-deprecates w ↦
           rw w.change-is
-          (iteration-stays c.args.clock.allowance.0 c.args.clock.time.0 c.args.i c.requires.i_bound f d (rw rows at (sym c.deprecates.ensures ∙ w.if-deprecates.false)))
+          (iteration-stays c.requires.i_bound f _ _ d (rw rows at (sym c.deprecates.ensures ∙ w.if-deprecates.false)))
     ]
