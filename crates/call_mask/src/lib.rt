@@ -9,7 +9,6 @@ ghost use Rattle.call_change.specs.Answer.{Answers};
 ghost use Rattle.call_mask.specs.Masked.{mask_at, prefixed, mask_checks, add_v4_mask_call, del_v4_mask_call};
 
 use layout::{ADD_V4_WORDS, DEL_V4_WORDS, EVENT_BUFFER, address, del_v4};
-use netmask::Prefix;
 use refusal::Refusal;
 
 // The request with the prefix in the place of the mask.
@@ -18,13 +17,8 @@ pub fn prefixed<const N: usize>(q: &[u32; N], at: usize) -> Result<[u32; N], Ref
     ensures { MatchResult result (λ own. (good (mask_at at q.now) ≡ true) × (own ≡ prefixed at q.now)) (λ e. (e ≡ Refusal.BadMask) × (good (mask_at at q.now) ≡ false)) }
 {
     let mut own = *q;
-    match netmask::prefix_of(own[at]) {
-        Prefix::Refused(_) => Err(Refusal::BadMask),
-        Prefix::Length(p) => {
-            own[at] = p;
-            Ok(own)
-        }
-    }
+    own[at] = netmask::prefix_of(own[at])?;
+    Ok(own)
 }
 
 // The same of a call's request, a mask that isn't good refused behind the state and the room for events.

@@ -24,11 +24,12 @@ use Rattle.definition.specs.Reference.Lookup.{lookup_in}
 use Rattle.definition.proofs.Preservation.Numbers.{OfFound, lookup-number}
 use Rattle.definition.specs.Preservation.Encode.{Admissible}
 use Rattle.definition.proofs.Preservation.Step.{base-long, good-held, checked-held, checked-passes, acted, perform-case}
+use Rattle.rows_lookup.specs.Answer.{answered}
+use Rattle.refusal.specs.declared.Refusal.TheVariants.{Errno}
 use Rattle.rows_source.specs.declared.Selected as Selected
 use Rattle.rows_source.specs.declared.Selected.{Selected}
 use Rattle.rows_source.specs.Selected.{local_in}
 use Rattle.state.specs.Represents.{Represents, RepresentsSome, holds-decode, count-routes, sizes-valid}
-use Rattle.state.specs.Change.{route-at}
 use Rattle.call_read.specs.Answer.{Says, Writes, Numbers, numbers, found_number, rows_in, chosen, valuing, nothing, flag, optional, refused_by}
 
 -- ---- the answers of checks
@@ -189,30 +190,23 @@ module _ (w row : List ℕ) (request : ℕ) (f : Lookup.Flow) where
       writes_passed (looking row request f) w p
       (record { refuses = t.refuses; says = t.says; rows = g ∙ ap (λ (l : List Row). put 0 (flat l) row) (found_rows x) })
 
--- the row at a place, as the code lends it
-pub found_at : (w : List ℕ) (st : State) → Represents w st → (i : ℕ) → i < route_count w → take (routes_at + 32 * i + 32 - (routes_at + 32 * i)) (drop (routes_at + 32 * i) w) ≡ get_or st.routes i []
-unfolding span
-found_at w st h i b =
-    let whole : routes_at + 32 * i + 32 - (routes_at + 32 * i) ≡ 32 = omega arith in
-    let there : i < length st.routes = omega (arith, count-routes h) in
-    ap (λ (n : ℕ). take n (drop (routes_at + 32 * i) w)) whole ∙ route-at h i there
-
--- a row that is found stands in the buffer; a refusal writes nothing
-module _ (st : State) (f : Lookup.Flow) (row : List ℕ) where
-  pub row-found : {r : Row} → Lookup.route r ≡ lookup_in st f → put 0 r row ≡ put 0 (flat (rows_in (lookup_in st f))) row
+-- what a lookup over rows answers: the row that it found stands in the buffer, and a refusal writes nothing
+module _ (x : Lookup.Found) (row : List ℕ) where
+  pub look-row : (p : List ℕ) → Ok p ≡ answered x → (0 ≡ found_number x) × (put 0 p row ≡ put 0 (flat (rows_in x)) row)
   unfolding flat
-  row-found {r} e = ap (λ (x : List ℕ). put 0 x row) (sym (append-nil r)) ∙ ap (λ (x : Lookup.Found). put 0 (flat (rows_in x)) row) e
+  look-row p e = go x e
+    where
+      go : (y : Lookup.Found) → Ok p ≡ answered y → (0 ≡ found_number y) × (put 0 p row ≡ put 0 (flat (rows_in y)) row)
+      go (Lookup.route r) f =
+          let same : p ≡ r = cc in
+          (refl, ap (λ (z : List ℕ). put 0 z row) (same ∙ sym (append-nil r)))
+      go (Lookup.no_route n) f = cc
 
-  pub no-row : {n : ℕ} → Lookup.no_route n ≡ lookup_in st f → row ≡ put 0 (flat (rows_in (lookup_in st f))) row
-  no-row e = put-no-rows row ∙ ap (λ (x : Lookup.Found). put 0 (flat (rows_in x)) row) e
-
-  pub no-row-number : {n : ℕ} → Lookup.no_route n ≡ lookup_in st f → (n ≡ found_number (lookup_in st f)) × (found_number (lookup_in st f) ≢ 0)
-  no-row-number {n} e =
-      let number : n ≡ found_number (lookup_in st f) = ap found_number e in
-      (number, λ z. omega (arith, number, z, (subst OfFound (sym e) (lookup-number st f)).positive))
-
--- where a route in use ends
-pub at-end : {w : List ℕ} {i : ℕ} → RepresentsSome w → i < route_count w → (routes_at + 32 * i + 32 ≤ length w) × (i < 256)
-at-end v b =
-    let s = sizes-valid v in
-    (omega (arith, s.long, s.routes), omega (arith, s.routes))
+  pub look-refused : (e : Refusal) → OfFound x → Err e ≡ answered x → ((number_of e ≡ found_number x) × (found_number x ≢ 0)) × (row ≡ put 0 (flat (rows_in x)) row)
+  look-refused e o f = go x o f
+    where
+      go : (y : Lookup.Found) → OfFound y → Err e ≡ answered y → ((number_of e ≡ found_number y) × (found_number y ≢ 0)) × (row ≡ put 0 (flat (rows_in y)) row)
+      go (Lookup.route r) o g = cc
+      go (Lookup.no_route n) o g =
+          let same : e ≡ Errno n = cc in
+          ((ap number_of same, λ z. omega (arith, z, o.positive)), put-no-rows row)

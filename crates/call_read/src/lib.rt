@@ -12,9 +12,9 @@ ghost use Rattle.definition.specs.Step.{checked, dump4_call, lookup4_call, looku
 ghost use Rattle.state.specs.Represents.{Represents, RepresentsSome};
 ghost use Rattle.call_read.specs.Answer.{Says, Writes, nothing, flag, optional, valuing, found_number, rows_in, chosen};
 
-use layout::{BASE_WORDS, LISTING_BUFFER, ROUTE_WORDS, ROUTES_AT, STATE_WORDS};
+use layout::{BASE_WORDS, LISTING_BUFFER, ROUTE_WORDS, STATE_WORDS};
 use refusal::Refusal;
-use rows_lookup::{Flow, Looked};
+use rows_lookup::Flow;
 use rows_source::Selected;
 
 pub fn asked(n: u32) -> Result<(), Refusal>
@@ -57,29 +57,15 @@ pub fn sized<const N: usize>(q: &[u32]) -> Result<&[u32; N], Refusal>
     q.as_array().ok_or(Refusal::WrongLength)
 }
 
-// Route i, copied into the buffer.
-fn copy_route(s: &[u32], i: usize, row: &mut [u32])
-    requires { RepresentsSome s.now × (i < route_count s.now) × (32 ≤ length row.old) }
-    ensures { (st : State) → Represents s.now st → row.new ≡ put 0 (get_or st.routes i []) row.old }
-{
-    let at = ROUTES_AT + ROUTE_WORDS * i;
-    let end = at + ROUTE_WORDS;
-    words::store(row, 0, &s[at..end]);
-}
-
 // The route of a flow, copied into the buffer.
 fn look(s: &[u32], row: &mut [u32], f: Flow) -> Result<(), Refusal>
     requires { RepresentsSome s.now × (32 ≤ length row.old) }
     ensures value { (st : State) → Represents s.now st → Refuses result (found_number (lookup_in st (flow_of f))) }
     ensures row_after { (st : State) → Represents s.now st → row.new ≡ put 0 (flat (rows_in (lookup_in st (flow_of f)))) row.old }
 {
-    match state_read::lookup4_in(s, f) {
-        Looked::At(i) => {
-            copy_route(s, i, row);
-            Ok(())
-        }
-        Looked::Refused(n) => Err(Refusal::Errno(n)),
-    }
+    let r = state_read::lookup4_in(s, f)?;
+    words::store(row, 0, r);
+    Ok(())
 }
 
 // The route to a destination, in the row buffer.

@@ -1,8 +1,9 @@
 -- A reply's numbers; the rows stand in the buffer that was lent.
+use Rattle.std.specs.Prelude.{ℕ, Result, Ok, Err}
 use Rattle.definition.specs.Call as Call
 use Rattle.call_read.specs.Answer.{Numbers, numbers, refused_by, valuing}
-use Rattle.netmask.specs.declared.Prefix.{Prefix}
-use Rattle.netmask.specs.declared.Prefix.TheVariants.{Refused, Length}
+use Rattle.refusal.specs.declared.Refusal.{Refusal}
+use Rattle.refusal.specs.Refusal.{number_of}
 use Rattle.call_reply.specs.declared.Reply.{Reply}
 
 abbrev pub reply_from : Numbers → Reply
@@ -10,11 +11,6 @@ reply_from n = record { number = n.number; present = n.present; value = n.value;
 
 abbrev pub reply_of : Call.Reply → Reply
 reply_of r = reply_from (numbers r)
-
--- the numbers of what a netmask says
-abbrev pub prefix_by : Prefix → Numbers
-prefix_by (Refused n) = refused_by n
-prefix_by (Length n) = valuing n
 
 -- and back: the numbers that a reply holds
 abbrev pub numbers_in : Reply → Numbers

@@ -8,10 +8,9 @@ ghost use Rattle.definition.specs.Step.{unfit};
 ghost use Rattle.call_read.specs.Answer.{answer_by, refused_by, nothing, flag, valuing, optional};
 ghost use Rattle.call_message.specs.Answer.{asked_by};
 ghost use Rattle.row_address.specs.Row.{reply_of as row-address·reply_of};
-ghost use Rattle.call_reply.specs.Answer.{reply_from, reply_of, prefix_by};
+ghost use Rattle.call_reply.specs.Answer.{reply_from, reply_of};
 
 use call_message::Asked;
-use netmask::Prefix;
 use refusal::Refusal;
 use row_address::LeftReply;
 
@@ -165,14 +164,5 @@ pub fn remaining(l: LeftReply) -> Reply
             value: preferred,
             second: valid,
         },
-    }
-}
-
-pub fn prefix(a: Prefix) -> Reply
-    ensures { result ≡ reply_from (prefix_by a) }
-{
-    match a {
-        Prefix::Refused(n) => Reply::from(Refusal::Errno(n)),
-        Prefix::Length(n) => valued(n),
     }
 }

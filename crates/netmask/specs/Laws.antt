@@ -1,13 +1,15 @@
 -- A mask is good exactly if it is the mask of a prefix of at most 32, and then that prefix is the count of its ones.
 -- Assumes nothing.
-use Rattle.std.specs.Prelude.{◌≡◌, refl, Bool, true, false, cond, ◌↔◌, ℕ, zero, suc, ◌+◌, ◌-◌, ◌*◌, ◌/◌, ◌%◌, ◌^◌, ◌≤◌, ◌<◌}
+use Rattle.std.specs.Prelude.{◌≡◌, refl, Bool, true, false, cond, ◌↔◌, ℕ, zero, suc, ◌+◌, ◌-◌, ◌*◌, ◌/◌, ◌%◌, ◌^◌, ◌≤◌, ◌<◌, Ok, Err}
 use Rattle.std.proofs.Common.{sym, ap, ap₂, ◌∙◌, pow-suc, zero-add, add-zero, suc-add, mul-one, arith, pow_pos, eqb-true, eq-eqb}
 use Rattle.std.specs.Int.Bits.{shifted_half, shifted_even}
 use Rattle.std.specs.Int.Count.{ones, ones_step, ones-ones, count_trailing_zeros, under}
 use Rattle.std.proofs.lemmas.Nat.{ones_cat, ones-le}
 use Rattle.std.proofs.Math.Pow.{high_ones}
 use Rattle.prefix.specs.Mask.{mask}
-use Rattle.netmask.specs.declared.Prefix.TheVariants.{Refused, Length}
+use Rattle.refusal.specs.declared.Refusal.{Refusal}
+use Rattle.refusal.specs.declared.Refusal.TheVariants.{BadMask}
+use Rattle.refusal.specs.Refusal.{number_of}
 use Rattle.netmask.specs.Netmask.{good, prefix_of, bad_mask}
 
 -- ---- the mask of a prefix is good
@@ -113,27 +115,27 @@ good_exactly m h = (
 )
 
 -- and by what is said of a mask
-length-ones : (b : Bool) (n p : ℕ) → cond b (Length n) (Refused bad_mask) ≡ Length p → (b ≡ true) × (n ≡ p)
+length-ones : (b : Bool) (n p : ℕ) → cond b (Ok n) (Err BadMask) ≡ Ok p → (b ≡ true) × (n ≡ p)
 length-ones true n p e = (refl, cc)
 length-ones false n p e = (cc, cc)
 
-refused_bad : (b : Bool) (n m : ℕ) → cond b (Length n) (Refused bad_mask) ≡ Refused m → (b ≡ false) × (m ≡ bad_mask)
-refused_bad true n m e = (cc, cc)
-refused_bad false n m e = (refl, cc)
+refused_bad : (b : Bool) (n : ℕ) (r : Refusal) → cond b (Ok n) (Err BadMask) ≡ Err r → (b ≡ false) × (number_of r ≡ bad_mask)
+refused_bad true n r e = (cc, cc)
+refused_bad false n r e = (refl, let same : BadMask ≡ r = cc in sym (ap number_of same))
 
-pub prefix-good : (m p : ℕ) → prefix_of m ≡ Length p → (good m ≡ true) × (ones m ≡ p)
+pub prefix-good : (m p : ℕ) → prefix_of m ≡ Ok p → (good m ≡ true) × (ones m ≡ p)
 unfolding prefix_of
 prefix-good m p e = length-ones (good m) (ones m) p e
 
-pub prefix_bad : (m n : ℕ) → prefix_of m ≡ Refused n → (good m ≡ false) × (n ≡ bad_mask)
+pub prefix_bad : (m : ℕ) (r : Refusal) → prefix_of m ≡ Err r → (good m ≡ false) × (number_of r ≡ bad_mask)
 unfolding prefix_of
-prefix_bad m n e = refused_bad (good m) (ones m) n e
+prefix_bad m r e = refused_bad (good m) (ones m) r e
 
-pub prefix-mask : (p : ℕ) → p ≤ 32 → prefix_of (mask p) ≡ Length p
+pub prefix-mask : (p : ℕ) → p ≤ 32 → prefix_of (mask p) ≡ Ok p
 unfolding prefix_of
 prefix-mask p h = rw (good-mask p h, ones-mask p h) refl
 
-pub prefix_exactly : (m p : ℕ) → m < 2 ^ 32 → (prefix_of m ≡ Length p) ↔ MaskOf m p
+pub prefix_exactly : (m p : ℕ) → m < 2 ^ 32 → (prefix_of m ≡ Ok p) ↔ MaskOf m p
 prefix_exactly m p h = (
   (λ e.
       let l = prefix-good m p e in
@@ -142,14 +144,14 @@ prefix_exactly m p h = (
 )
 
 -- ---- 0.0.0.0, 255.255.255.0, 255.255.255.255
-pub no_ones : prefix_of 0 ≡ Length 0
+pub no_ones : prefix_of 0 ≡ Ok 0
 unfolding mask
 no_ones = prefix-mask 0 (omega arith)
 
-pub three-bytes : prefix_of 4294967040 ≡ Length 24
+pub three-bytes : prefix_of 4294967040 ≡ Ok 24
 unfolding mask
 three-bytes = prefix-mask 24 (omega arith)
 
-pub no-zeros : prefix_of 4294967295 ≡ Length 32
+pub no-zeros : prefix_of 4294967295 ≡ Ok 32
 unfolding mask
 no-zeros = prefix-mask 32 (omega arith)

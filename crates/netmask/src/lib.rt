@@ -4,24 +4,17 @@
 ghost use Rattle.std.specs.Prelude.{◌≡◌};
 ghost use Rattle.netmask.specs.Netmask.{prefix_of};
 
-// What a netmask says.
-#[derive(Clone, Copy)]
-pub enum Prefix {
-    Refused(u32),
-    Length(u32),
-}
-
-// The refusal of a mask that isn't good.
-pub const BAD_MASK: u32 = 207;
+use refusal::Refusal;
 
 // The prefix of a netmask; any word may be asked.
-pub fn prefix_of(mask: u32) -> Prefix
+#[tactic(auto, unfolding(crate::specs::Netmask::prefix_of, crate::specs::Netmask::good))]
+pub fn prefix_of(mask: u32) -> Result<u32, Refusal>
     ensures { result ≡ prefix_of mask }
 {
-    let ones = u32::count_ones(mask);
-    let zeros = u32::trailing_zeros(mask);
+    let ones = mask.count_ones();
+    let zeros = mask.trailing_zeros();
     if ones + zeros != 32 {
-        return Prefix::Refused(BAD_MASK);
+        return Err(Refusal::BadMask);
     }
-    Prefix::Length(ones)
+    Ok(ones)
 }
