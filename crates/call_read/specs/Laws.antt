@@ -5,6 +5,7 @@ use Rattle.std.specs.Prelude.{IsErrAnd}
 use Rattle.std.specs.Prelude.{Result as Answer}
 use Rattle.std.specs.Prelude.{Option as Chosen}
 use Rattle.std.proofs.lemmas.Result.{err_from_is_err_and}
+use denote.Ref.{Bor}
 use Rattle.std.proofs.Common.{subst, arith, ◌∙◌, eqb-true}
 use Rattle.std.proofs.Math.Path.{sym, ap}
 use mathlib.Core.List.{List, [], append-nil}
@@ -14,6 +15,7 @@ use Rattle.lists.specs.Lists.{Row, flat, put, span}
 use Rattle.lists.specs.Put.{put-no-rows}
 use Rattle.lists.specs.Bools.{cond-case, and_left}
 use Rattle.refusal.specs.declared.Refusal.{Refusal}
+use Rattle.refusal.specs.declared.Refusal.TheVariants.{Errno}
 use Rattle.refusal.specs.Refusal.{number_of, Refuses, unless}
 use Rattle.definition.specs.State.{State}
 use Rattle.definition.specs.Words.{base_size, state_size, base, state_of, formed, route_count, routes_at}
@@ -24,12 +26,13 @@ use Rattle.definition.specs.Reference.Lookup.{lookup_in}
 use Rattle.definition.proofs.Preservation.Numbers.{OfFound, lookup-number}
 use Rattle.definition.specs.Preservation.Encode.{Admissible}
 use Rattle.definition.proofs.Preservation.Step.{base-long, good-held, checked-held, checked-passes, acted, perform-case}
+use Rattle.lists.specs.Library.{lent_ok}
 use Rattle.rows_lookup.specs.Answer.{answered}
-use Rattle.refusal.specs.declared.Refusal.TheVariants.{Errno}
 use Rattle.rows_source.specs.declared.Selected as Selected
 use Rattle.rows_source.specs.declared.Selected.{Selected}
 use Rattle.rows_source.specs.Selected.{local_in}
 use Rattle.state.specs.Represents.{Represents, RepresentsSome, holds-decode, count-routes, sizes-valid}
+use Rattle.state.specs.Change.{route-at}
 use Rattle.call_read.specs.Answer.{Says, Writes, Numbers, numbers, found_number, rows_in, chosen, valuing, nothing, flag, optional, refused_by}
 
 -- ---- the answers of checks
@@ -190,23 +193,28 @@ module _ (w row : List ℕ) (request : ℕ) (f : Lookup.Flow) where
       writes_passed (looking row request f) w p
       (record { refuses = t.refuses; says = t.says; rows = g ∙ ap (λ (l : List Row). put 0 (flat l) row) (found_rows x) })
 
--- what a lookup over rows answers: the row that it found stands in the buffer, and a refusal writes nothing
-module _ (x : Lookup.Found) (row : List ℕ) where
-  pub look-row : (p : List ℕ) → Ok p ≡ answered x → (0 ≡ found_number x) × (put 0 p row ≡ put 0 (flat (rows_in x)) row)
-  unfolding flat
-  look-row p e = go x e
-    where
-      go : (y : Lookup.Found) → Ok p ≡ answered y → (0 ≡ found_number y) × (put 0 p row ≡ put 0 (flat (rows_in y)) row)
-      go (Lookup.route r) f =
-          let same : p ≡ r = cc in
-          (refl, ap (λ (z : List ℕ). put 0 z row) (same ∙ sym (append-nil r)))
-      go (Lookup.no_route n) f = cc
+-- what a lookup found, by its answer
+pub found : {a : Answer (Bor Row) Refusal} {r : Bor Row} (x : Lookup.Found) → lent_ok a ≡ answered x → a ≡ Ok r → Lookup.route r.now ≡ x
+found {r = r} (Lookup.route p) e k = let same : ◌≡◌ {A = Answer Row Refusal} (Ok r.now) (Ok p) = rw k at e in ap Lookup.route (let is : r.now ≡ p = cc in is)
+found {r = r} (Lookup.no_route n) e k = let bad : ◌≡◌ {A = Answer Row Refusal} (Ok r.now) (Err (Errno n)) = rw k at e in cc
 
-  pub look-refused : (e : Refusal) → OfFound x → Err e ≡ answered x → ((number_of e ≡ found_number x) × (found_number x ≢ 0)) × (row ≡ put 0 (flat (rows_in x)) row)
-  look-refused e o f = go x o f
-    where
-      go : (y : Lookup.Found) → OfFound y → Err e ≡ answered y → ((number_of e ≡ found_number y) × (found_number y ≢ 0)) × (row ≡ put 0 (flat (rows_in y)) row)
-      go (Lookup.route r) o g = cc
-      go (Lookup.no_route n) o g =
-          let same : e ≡ Errno n = cc in
-          ((ap number_of same, λ z. omega (arith, z, o.positive)), put-no-rows row)
+pub missed : {a : Answer (Bor Row) Refusal} {m : Refusal} (x : Lookup.Found) → lent_ok a ≡ answered x → a ≡ Err m → Lookup.no_route (number_of m) ≡ x
+missed {m = m} (Lookup.route p) e k = let bad : ◌≡◌ {A = Answer Row Refusal} (Err m) (Ok p) = rw k at e in cc
+missed {m = m} (Lookup.no_route n) e k =
+    let same : ◌≡◌ {A = Answer Row Refusal} (Err m) (Err (Errno n)) = rw k at e in
+    let is : m ≡ Errno n = cc in
+    ap (λ (y : Refusal). Lookup.no_route (number_of y)) is
+
+-- a row that is found stands in the buffer; a refusal writes nothing
+module _ (st : State) (f : Lookup.Flow) (row : List ℕ) where
+  pub row-found : {r : Row} → Lookup.route r ≡ lookup_in st f → put 0 r row ≡ put 0 (flat (rows_in (lookup_in st f))) row
+  unfolding flat
+  row-found {r} e = ap (λ (x : List ℕ). put 0 x row) (sym (append-nil r)) ∙ ap (λ (x : Lookup.Found). put 0 (flat (rows_in x)) row) e
+
+  pub no-row : {n : ℕ} → Lookup.no_route n ≡ lookup_in st f → row ≡ put 0 (flat (rows_in (lookup_in st f))) row
+  no-row e = put-no-rows row ∙ ap (λ (x : Lookup.Found). put 0 (flat (rows_in x)) row) e
+
+  pub no-row-number : {n : ℕ} → Lookup.no_route n ≡ lookup_in st f → (n ≡ found_number (lookup_in st f)) × (found_number (lookup_in st f) ≢ 0)
+  no-row-number {n} e =
+      let number : n ≡ found_number (lookup_in st f) = ap found_number e in
+      (number, λ z. omega (arith, number, z, (subst OfFound (sym e) (lookup-number st f)).positive))
