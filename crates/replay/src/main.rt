@@ -5,6 +5,7 @@
 ghost use Rattle.std.specs.Prelude.{◌≡◌, ℕ, ◌+◌, ◌*◌, ◌%◌, ◌^◌, ◌<◌, ◌≤◌, length, take, slice_index, slice_set, IfSome};
 ghost use Rattle.definition.specs.Step.{event_room};
 
+use call_dispatch::numbered::Call;
 use layout::EVENT_BUFFER;
 use recorded::{HELD_WORDS, Verdict, record};
 use std::env::FillError;
@@ -69,23 +70,10 @@ fn say(rt: &impl Print, text: &str) {
     let _ = print!(rt; "{text}");
 }
 
+// The name of a call, by its number.
 fn say_call(rt: &impl Print, code: u32) {
-    match code {
-        1 => say(rt, "up"),
-        2 => say(rt, "down"),
-        3 => say(rt, "add_v4"),
-        4 => say(rt, "del_v4"),
-        5 => say(rt, "expire"),
-        6 => say(rt, "add_route4"),
-        7 => say(rt, "del_route4"),
-        8 => say(rt, "dump4"),
-        9 => say(rt, "lookup4"),
-        10 => say(rt, "lookup4_flow"),
-        11 => say(rt, "local4"),
-        12 => say(rt, "source4"),
-        13 => say(rt, "source"),
-        14 => say(rt, "select4"),
-        _ => say(rt, "left"),
+    if let Ok(call) = Call::try_from(code) {
+        let _ = print!(rt; "{call}");
     }
 }
 
