@@ -13,12 +13,12 @@ ghost use Rattle.definition.specs.Words.{address_count};
 ghost use Rattle.definition.specs.Step.{select4_call};
 ghost use Rattle.rows_source.specs.Selected.{wanted, local_in};
 ghost use Rattle.state.specs.Represents.{Represents, RepresentsSome};
-ghost use Rattle.call_read.specs.Answer.{Says, chosen_by, sourced_by, chosen_of, sourced_of};
+ghost use Rattle.call_read.specs.Answer.{Says, optional, valuing};
 ghost use Rattle.call_records.specs.Best.{better, select_rank, selected_of, primary_rank, primary_in};
 ghost use Rattle.call_records.specs.Call.{primary_of_call};
 
-use call_read::{Chosen, Sourced};
 use layout::{ADDRESS_LIMIT, ADDRESS_WORDS, BASE_WORDS};
+use refusal::Refusal;
 use row_address::V4;
 use rows_source::Selected;
 
@@ -185,28 +185,27 @@ fn primary_of_in(s: &[u32], row: &[u32]) -> u32
 }
 
 // The call on the words of a state.
-pub fn select4_words(state: &[u32], dst_present: u32, dst: u32, scope: u32) -> Chosen
-    ensures { Says chosen_by chosen_of (select4_call dst_present dst scope state.now).reply result }
+pub fn select4_words(
+    state: &[u32],
+    dst_present: u32,
+    dst: u32,
+    scope: u32,
+) -> Result<Option<u32>, Refusal>
+    ensures { Says optional (select4_call dst_present dst scope state.now).reply result }
 {
-    let n = call_read::checked(
+    call_read::checked(
         state,
         true,
         true,
-        request_fit::fit_select(dst_present, dst, scope),
-    );
-    if n != 0 {
-        return Chosen::Refused(n);
-    }
-    call_read::chosen_for(select4_in(&state[..BASE_WORDS], dst_present == 1, dst, scope))
+        call_read::asked(request_fit::fit_select(dst_present, dst, scope)),
+    )?;
+    Ok(call_read::chosen(select4_in(&state[..BASE_WORDS], dst_present == 1, dst, scope)))
 }
 
 // By the words of a state, the local address of the primary whose subnet an address is in, handed over as any row of words.
-pub fn primary_of_words(state: &[u32], row: &[u32]) -> Sourced
-    ensures { Says sourced_by sourced_of (primary_of_call row.now state.now).reply result }
+pub fn primary_of_words(state: &[u32], row: &[u32]) -> Result<u32, Refusal>
+    ensures { Says valuing (primary_of_call row.now state.now).reply result }
 {
-    let n = call_read::checked(state, true, row_address::fit_address(row), 0);
-    if n != 0 {
-        return Sourced::Refused(n);
-    }
-    Sourced::Address(primary_of_in(&state[..BASE_WORDS], row))
+    call_read::checked(state, true, row_address::fit_address(row), Ok(()))?;
+    Ok(primary_of_in(&state[..BASE_WORDS], row))
 }

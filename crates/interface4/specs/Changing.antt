@@ -1,4 +1,4 @@
--- The calls on bytes that change the state, by their numbers.
+-- The calls on bytes that change the state, by their descriptions.
 -- Assumes nothing.
 use Rattle.std.specs.Prelude.{ℕ, ◌*◌, ◌-◌, ◌≤◌, ◌≡◌, refl, Bool, true, false, cond, ◌&&◌, ◌≢◌, eqb, leb, length, drop}
 use Rattle.std.proofs.Common.{arith, ◌∙◌, eqb-true, leb-true}
@@ -22,57 +22,74 @@ use Rattle.definition.proofs.Noninterference.ReadBack.{shaped}
 use Rattle.definition_bytes.specs.Bytes.{state_fits, with, suffices, inner, Made}
 use Rattle.call_reply.specs.declared.Reply.{Reply}
 use Rattle.call_reply.specs.Answer.{numbers_in}
-use Rattle.call_dispatch.specs.Numbered.{Change, change_at, one_at, Did}
-use Rattle.call_dispatch.specs.Laws.{change-case, change-is}
+use Rattle.call_dispatch.specs.Numbered.{Change, up_at, down_at, add_v4_at, del_v4_at, expire_at, add_route4_at, del_route4_at, Did}
 use Rattle.interface4.specs.Made.{Wrote, wrote, part-words, Gave, gave_room, made-no, made-yes}
 use Rattle.interface4.specs.Quiet.{expire-stays}
 
--- ---- what a changing call is on bytes, whatever its number
+-- ---- what a changing call is on bytes
 -- its number and value say that it left every word
 abbrev Still : Change → Result → Type 0
 Still x r = x.still r.reply.number r.reply.value ≡ true
 
-record OnBytes (x : Change) (q : Row) (t room : ℕ) : Type 0 where
-  inside : inner (x.call q t room) ≡ x.call (words_of q) t event_room
-  fits : (s : List ℕ) → cond (eqb x.size 0) (length q) 0 ≡ 0 → suffices (x.call q t room) s ≡ eqb (length q) (4 * x.size) && with s (4 * event_room) room
-  stays : (w : List ℕ) → Still x (step (x.call q t room) w) → (step (x.call q t room) w).words ≡ w
+pub record OnBytes (x : Change) (q : Row) (t room : ℕ) : Type 0 where
+  pub inside : inner (x.call q t room) ≡ x.call (words_of q) t event_room
+  pub fits : (s : List ℕ) → cond (eqb x.size 0) (length q) 0 ≡ 0 → suffices (x.call q t room) s ≡ eqb (length q) (4 * x.size) && with s (4 * event_room) room
+  pub stays : (w : List ℕ) → Still x (step (x.call q t room) w) → (step (x.call q t room) w).words ≡ w
+  pub changes : alters (semantics (x.call q t room)).action ≡ true
+  pub buffer : (semantics (x.call q t room)).lent ≡ for_events room
+
+-- with a request of so many words, at most those of the longest
+pub record Described (x : Change) (words : ℕ) : Type 0 where
+  pub size : words ≡ x.size
+  pub few : words ≤ del_route4_size
+  pub on : (q : Row) (t room : ℕ) → OnBytes x q t room
 
 nonzero : (n : ℕ) → leb 1 n ≡ true → n ≢ 0
 nonzero n h z = omega (arith, leb-true 1 n h)
 
-change-on : (code : ℕ) (q : Row) (t room : ℕ) → OnBytes (change_at code) q t room
-change-on code q t room =
-    change-case (λ (x : Change). OnBytes x q t room)
-    (record { inside = refl; fits = λ s h. rw h; stays = λ w h. others_leave (Call.up room t) w (λ st. refl) (nonzero _ h) })
-    (record { inside = refl; fits = λ s h. rw h; stays = λ w h. others_leave (Call.down room) w (λ st. refl) (nonzero _ h) })
-    (record { inside = refl; fits = λ s h. refl; stays = λ w h. others_leave (Call.add_v4 q room t) w (λ st. refl) (nonzero _ h) })
-    (record { inside = refl; fits = λ s h. refl; stays = λ w h. others_leave (Call.del_v4 q room) w (λ st. refl) (nonzero _ h) })
-    (record { inside = refl; fits = λ s h. rw h; stays = expire-stays room t })
-    (record { inside = refl; fits = λ s h. refl; stays = unfit-stays (Call.add_route4 q room) })
-    (record { inside = refl; fits = λ s h. refl; stays = λ w h. others_leave (Call.del_route4 q room) w (λ st. refl) (nonzero _ h) })
-    code
+up-on : (q : Row) (t room : ℕ) → OnBytes up_at q t room
+up-on q t room = record { inside = refl; fits = λ s h. rw h; stays = λ w h. others_leave (Call.up room t) w (λ st. refl) (nonzero _ h); changes = refl; buffer = refl }
 
--- all but two leave the words with every refusal
-abbrev Refusing : ℕ → ℕ → Change → Type 0
-Refusing number value x = leb 1 number ≡ x.still number value
+pub up-described : Described up_at 0
+up-described = record { size = refl; few = omega arith; on = up-on }
 
-pub still-rest : (code number value : ℕ) → (code ≡ 5 → ⊥) → (code ≡ 6 → ⊥) → leb 1 number ≡ (change_at code).still number value
-still-rest code number value h i =
-    let P = Refusing number value in
-    cond-case P (eqb code 1) (λ e. refl) (λ e.
-    cond-case P (eqb code 2) (λ e. refl) (λ e.
-    cond-case P (eqb code 3) (λ e. refl) (λ e.
-    cond-case P (eqb code 4) (λ e. refl) (λ e.
-    cond-case P (eqb code 5) (λ e. absurd (h (eqb-true code 5 e))) (λ e.
-    cond-case P (eqb code 6) (λ e. absurd (i (eqb-true code 6 e))) (λ e. refl))))))
+down-on : (q : Row) (t room : ℕ) → OnBytes down_at q t room
+down-on q t room = record { inside = refl; fits = λ s h. rw h; stays = λ w h. others_leave (Call.down room) w (λ st. refl) (nonzero _ h); changes = refl; buffer = refl }
+
+pub down-described : Described down_at 0
+down-described = record { size = refl; few = omega arith; on = down-on }
+
+add_v4-on : (q : Row) (t room : ℕ) → OnBytes add_v4_at q t room
+add_v4-on q t room = record { inside = refl; fits = λ s h. refl; stays = λ w h. others_leave (Call.add_v4 q room t) w (λ st. refl) (nonzero _ h); changes = refl; buffer = refl }
+
+pub add_v4-described : Described add_v4_at 18
+add_v4-described = record { size = refl; few = omega arith; on = add_v4-on }
+
+del_v4-on : (q : Row) (t room : ℕ) → OnBytes del_v4_at q t room
+del_v4-on q t room = record { inside = refl; fits = λ s h. refl; stays = λ w h. others_leave (Call.del_v4 q room) w (λ st. refl) (nonzero _ h); changes = refl; buffer = refl }
+
+pub del_v4-described : Described del_v4_at 11
+del_v4-described = record { size = refl; few = omega arith; on = del_v4-on }
+
+expire-on : (q : Row) (t room : ℕ) → OnBytes expire_at q t room
+expire-on q t room = record { inside = refl; fits = λ s h. rw h; stays = expire-stays room t; changes = refl; buffer = refl }
+
+pub expire-described : Described expire_at 0
+expire-described = record { size = refl; few = omega arith; on = expire-on }
+
+add_route4-on : (q : Row) (t room : ℕ) → OnBytes add_route4_at q t room
+add_route4-on q t room = record { inside = refl; fits = λ s h. refl; stays = unfit-stays (Call.add_route4 q room); changes = refl; buffer = refl }
+
+pub add_route4-described : Described add_route4_at 34
+add_route4-described = record { size = refl; few = omega arith; on = add_route4-on }
+
+del_route4-on : (q : Row) (t room : ℕ) → OnBytes del_route4_at q t room
+del_route4-on q t room = record { inside = refl; fits = λ s h. refl; stays = λ w h. others_leave (Call.del_route4 q room) w (λ st. refl) (nonzero _ h); changes = refl; buffer = refl }
+
+pub del_route4-described : Described del_route4_at 49
+del_route4-described = record { size = refl; few = omega arith; on = del_route4-on }
 
 -- ---- as many bytes as there must be
--- the words of the request that a number asks for; where there are none, no byte is handed over
-pub record Asks (code size : ℕ) (q : List ℕ) : Type 0 where
-  pub words : size ≡ (change_at code).size
-  pub few : size ≤ del_route4_size
-  pub none : cond (eqb size 0) (length q) 0 ≡ 0
-
 abbrev pub change_fits : ℕ → List ℕ → List ℕ → List ℕ → Bool
 change_fits size q s ev = eqb (length q) (4 * size) && with s (4 * event_room) (length ev)
 
@@ -96,26 +113,26 @@ pub state-back : (w b b' : List ℕ) → length w ≡ state_size → length b �
 state-back w b b' h k e = e ∙ put_whole (bytes_of w) b (omega (arith, length-bytes_of w))
 
 -- ---- the call
-module _ (code size : ℕ) (q s ev : List ℕ) (t : ℕ) (asks : Asks code size q) where
+module _ (x : Change) (size : ℕ) (d : Described x size) (q s ev : List ℕ) (t : ℕ) (none : cond (eqb size 0) (length q) 0 ≡ 0) where
   abbrev call : Call
-  call = (change_at code).call q t (length ev)
+  call = x.call q t (length ev)
 
   lent : Lent (semantics call).lent ev
-  lent = subst (λ (k : Buffer). Lent k ev) (sym (change-is code q t (length ev)).buffer) refl
+  lent = subst (λ (k : Buffer). Lent k ev) (sym (d.on q t (length ev)).buffer) refl
 
   suffice : suffices call s ≡ change_fits size q s ev
   suffice =
-      (change-on code q t (length ev)).fits s (subst (λ (n : ℕ). cond (eqb n 0) (length q) 0 ≡ 0) asks.words asks.none)
-      ∙ ap (λ (n : ℕ). change_fits n q s ev) (sym asks.words)
+      (d.on q t (length ev)).fits s (subst (λ (n : ℕ). cond (eqb n 0) (length q) 0 ≡ 0) d.size none)
+      ∙ ap (λ (n : ℕ). change_fits n q s ev) (sym d.size)
 
   pub changed-no : {n : Numbers} → change_fits size q s ev ≡ false → n ≡ numbers (refusal 200) → Made call s ev n s ev
   unfolding lent
   changed-no h e = made-no call s ev lent (suffice ∙ h) e
 
   -- made on the words r of the request and w of the state, each read into words that were there, and on the event buffer e
-  module _ (fit : change_fits size q s ev ≡ true) (l v : List ℕ) {r w e w' e' : List ℕ} {n : Numbers}
-      (request : r ≡ put 0 (words_of q) l) (state : w ≡ put 0 (words_of s) v) (long : length v ≡ state_size)
-      (m : Gave ((change_at code).call (take (size - 0) (drop 0 r)) t event_room) w e n w' e') where
+  module _ (fit : change_fits size q s ev ≡ true) (u v : List ℕ) {r w e w' e' : List ℕ} {n : Numbers}
+      (request : r ≡ put 0 (words_of q) u) (state : w ≡ put 0 (words_of s) v) (long : length v ≡ state_size)
+      (m : Gave (x.call (take (size - 0) (drop 0 r)) t event_room) w e n w' e') where
     there : EnoughBytes size q s ev
     there = fits size q s ev fit
 
@@ -126,15 +143,15 @@ module _ (code size : ℕ) (q s ev : List ℕ) (t : ℕ) (asks : Asks code size 
     made : Gave (inner call) (words_of s) e n w' e'
     unfolding there
     made =
-        let asked : take (size - 0) (drop 0 r) ≡ words_of q = part-words size q l r there.request request in
-        let same = ap (λ (x : Row). (change_at code).call x t event_room) asked ∙ sym (change-on code q t (length ev)).inside in
-        subst (λ (x : List ℕ). Gave (inner call) x e n w' e') words (subst (λ (d : Call). Gave d w e n w' e') same m)
+        let asked : take (size - 0) (drop 0 r) ≡ words_of q = part-words size q u r there.request request in
+        let same = ap (λ (y : Row). x.call y t event_room) asked ∙ sym (d.on q t (length ev)).inside in
+        subst (λ (y : List ℕ). Gave (inner call) y e n w' e') words (subst (λ (z : Call). Gave z w e n w' e') same m)
 
     emitted : Wrote (for_events event_room) n (step (inner call) (words_of s)).reply.rows
     unfolding made
     emitted =
-        let inside = (change-on code q t (length ev)).inside in
-        let events = ap (λ (d : Call). (semantics d).lent) inside ∙ (change-is code (words_of q) t event_room).buffer in
+        let inside = (d.on q t (length ev)).inside in
+        let events = ap (λ (z : Call). (semantics z).lent) inside ∙ (d.on (words_of q) t event_room).buffer in
         let reply = (step (inner call) (words_of s)).reply in
         wrote (for_events event_room) reply n (subst (λ (k : Buffer). Shaped k reply) events (shaped (inner call) (words_of s))) made.reply
 
@@ -144,24 +161,21 @@ module _ (code size : ℕ) (q s ev : List ℕ) (t : ℕ) (asks : Asks code size 
     emitted-room = (omega (arith, emitted.long, gave_room (inner call) (words_of s) e made), emitted.room)
 
     -- where its numbers say so, the bytes are those of the words that it left
-    pub still : Below 256 s → (change_at code).still n.number n.value ≡ true → s ≡ bytes_of w'
+    pub still : Below 256 s → x.still n.number n.value ≡ true → s ≡ bytes_of w'
     unfolding there
     still f h =
-        let x = take (size - 0) (drop 0 r) in
-        let numbered = ap (λ (y : Numbers). (change_at code).still y.number y.value) m.reply in
-        let stays = (change-on code x t event_room).stays w (sym numbered ∙ h) in
+        let l = take (size - 0) (drop 0 r) in
+        let numbered = ap (λ (y : Numbers). x.still y.number y.value) m.reply in
+        let stays = (d.on l t event_room).stays w (sym numbered ∙ h) in
         sym (bytes-words state_size s there.state f) ∙ ap bytes_of (sym (m.words ∙ stays ∙ words))
 
     pub changed-yes : {s' ev' : List ℕ} → s' ≡ bytes_of w' → ev' ≡ put 0 (bytes_of (take (Event.size * n.value) e')) ev
         → Below 4294967296 w' → Below 4294967296 e' → Made call s ev n s' ev'
     unfolding lent made emitted
     changed-yes p v f g =
-        let written = cond-true (alters (semantics call).action) (bytes_of w') s (change-is code q t (length ev)).changes in
+        let written = cond-true (alters (semantics call).action) (bytes_of w') s (d.on q t (length ev)).changes in
         made-yes call s ev lent (Event.size * n.value) (suffice ∙ fit) made emitted.long (p ∙ sym written) v f g
 
--- ---- one that writes one row at most, lent on the room of a row
-pub one_gave : (code : ℕ) (q : Row) (w e : List ℕ) {w' e' : List ℕ} (r : Reply) → one_at code ≡ change_at code
-    → Did (step ((one_at code).call q 0 event_room) w) e r w' e' → Gave ((change_at code).call q 0 event_room) w e (numbers_in r) w' e'
-one_gave code q w e {w'} {e'} r same d =
-    subst (λ (x : Change). Gave (x.call q 0 event_room) w e (numbers_in r) w' e') same
-    (record { reply = ap numbers_in d.answer; words = d.words; buffer = d.buffer })
+-- what the call on words did, by its contract
+pub did-gave : {c : Call} {w e w' e' : List ℕ} {r : Reply} → Did (step c w) e r w' e' → Gave c w e (numbers_in r) w' e'
+did-gave d = record { reply = ap numbers_in d.answer; words = d.words; buffer = d.buffer }

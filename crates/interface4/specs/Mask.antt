@@ -1,6 +1,6 @@
 -- Requests with a netmask on bytes: where there are as many bytes as there must be, the call on their words, given back as bytes.
 -- Assumes nothing.
-use Rattle.std.specs.Prelude.{ℕ, ◌*◌, ◌≡◌, refl, Bool, true, false, cond, ◌&&◌, List, [], eqb, leb, length}
+use Rattle.std.specs.Prelude.{ℕ, ◌*◌, ◌≡◌, ◌≢◌, refl, Bool, true, false, cond, ◌&&◌, List, [], eqb, leb, length}
 use native.Mathlib.Omega.{arith}
 use Rattle.std.proofs.Math.Path.{sym, ap, subst}
 use Rattle.std.proofs.Common.{◌∙◌, eqb-true, eq-eqb, ne_eqb}
@@ -10,15 +10,18 @@ use Rattle.lists.specs.Bools.{test-case, cond-true, cond-false, true-false, and_
 use Rattle.endian.specs.Endian.{words_of, bytes_of}
 use Rattle.endian.specs.Laws.{Below, length-words_of, length-bytes_of, bytes-words, words-bytes, words-below}
 use Rattle.netmask.specs.Netmask.{good, bad_mask, prefix_of}
-use Rattle.definition.specs.Words.{state_size}
+use Rattle.definition.specs.Words.{state_size, formed}
 use Rattle.definition.specs.Call.{Call, Reply, Numbers, numbers, refusal}
 use Rattle.definition.specs.Step.{Result, refuses, Checks, checked, Semantics, alters, semantics, perform, step, event_room, events_fit, request_is, unless, add_v4_refusal}
 use Rattle.layout.specs.Request.{add_v4_size, del_v4_size, fit_del_v4}
 use Rattle.definition_bytes.specs.Bytes.{on_bytes, state_on, state_fits, with, suffices, inner, Narrow, Made}
 use Rattle.call_read.specs.Laws.{call-refused}
-use Rattle.call_mask.specs.Masked.{add_v4_mask, del_v4_mask, mask_at, prefixed, masked}
-use Rattle.call_mask.specs.Laws.{mask_checks, good-is, bad_mask_lem, bad_some, mask-good}
-use Rattle.call_reply.specs.Answer.{reply_from, reply_of, prefix_by}
+use Rattle.call_mask.specs.Masked.{add_v4_mask, del_v4_mask, mask_at, prefixed, masked, mask_checks}
+use Rattle.call_mask.specs.Laws.{good-is, bad-checked, refused-some}
+use Rattle.call_reply.specs.declared.Reply as Rep
+use Rattle.call_reply.specs.Answer.{reply_from, reply_of, numbers_in}
+use Rattle.call_read.specs.Answer.{answer_by, valuing}
+use Rattle.std.proofs.lemmas.Bool.{eqb-false}
 use Rattle.interface4.specs.Answer.{prefix_reply}
 use Rattle.interface4.specs.Made.{no_rows}
 use Rattle.interface4.specs.Changing.{change_fits}
@@ -32,7 +35,7 @@ pub record MadeOn (fit : Bool) (x : Result) (s b : List ℕ) (n : Numbers) (s' b
   pub narrow : fit ≡ true → Narrow x
 
 -- ---- the prefix of a netmask
-pub prefix-said : (m : ℕ) → reply_from (prefix_by (prefix_of m)) ≡ reply_of (prefix_reply m)
+pub prefix-said : (m : ℕ) → reply_from (answer_by valuing (prefix_of m)) ≡ reply_of (prefix_reply m)
 unfolding prefix_of
 prefix-said m = test-case (good m) (λ e. rw e) (λ e. rw e)
 
@@ -128,34 +131,31 @@ module _ {size at : ℕ} {f : Row → ℕ → Call} (k : Asking size at f) (q s 
   abbrev call : Semantics
   call = masked (good (mask_at at (words_of q))) (semantics (f (prefixed at (words_of q)) event_room))
 
-  -- v are the words of the request, and m the number that its mask is refused with
-  pub bad_on : {v : List ℕ} {m : ℕ} {n : Numbers} → length q ≡ 4 * size → Below 256 s → v ≡ words_of q → m ≡ unless (good (mask_at at v)) bad_mask
-      → (m ≡ 0 → ⊥) → n ≡ numbers (on_bytes (with s (4 * event_room) (length ev)) (refusal (checked (record { buffers = true; row = true; request = m }) (words_of s))))
+  -- with a bad mask
+  pub bad_on : {n : Numbers} → length q ≡ 4 * size → Below 256 s → good (mask_at at (words_of q)) ≡ false
+      → n ≡ numbers (on_bytes (with s (4 * event_room) (length ev)) (refusal (checked (record { buffers = true; row = true; request = bad_mask }) (words_of s))))
       → MadeOn (change_fits size q s ev) (perform call (words_of s)) s ev n s ev
-  bad_on {v} {m} {n} h low same e some n-is =
+  bad_on {n} h low b n-is =
       let w = words_of s in
-      let number = checked (record { buffers = events_fit event_room; row = true; request = m }) w in
-      let said : m ≡ unless (good (mask_at at (words_of q))) bad_mask = subst (λ (x : Row). m ≡ unless (good (mask_at at x)) bad_mask) same e in
+      let number = checked (record { buffers = events_fit event_room; row = true; request = bad_mask }) w in
       let long : length (words_of q) ≡ size = omega (arith, length-words_of q, h) in
       let is : number ≡ checked (mask_checks size at (words_of q) event_room (k.request (prefixed at (words_of q)))) w =
-      bad_mask_lem size at (words_of q) event_room (k.request (prefixed at (words_of q))) w long said some refl
+      bad-checked size at (words_of q) event_room (k.request (prefixed at (words_of q))) w long b
       in
       let own : checked (mask_checks size at (words_of q) event_room (k.request (prefixed at (words_of q)))) w ≡ checked call.checks w =
       ap (λ (x : Checks). checked (record { buffers = x.buffers; row = x.row; request = cond (good (mask_at at (words_of q))) x.request bad_mask }) w)
       (sym (k.checks (prefixed at (words_of q)) event_room))
       in
-      mask-number size q s ev (perform call w) number h low (call-refused call w (is ∙ own) (bad_some event_room w some refl)) n-is
+      mask-number size q s ev (perform call w) number h low
+      (call-refused call w (is ∙ own) (refused-some (eqb (length w) state_size && events_fit event_room) (formed w && true) bad_mask (λ z. omega (arith, z)))) n-is
 
-  -- v' are the words with the prefix, and b their bytes
-  pub good-on : {v v' b s' ev' : List ℕ} {m : ℕ} {n : Numbers} → length q ≡ 4 * size → v ≡ words_of q → m ≡ unless (good (mask_at at v)) bad_mask → m ≡ 0
-      → (good (mask_at at v) ≡ true → v' ≡ prefixed at v) → words_of b ≡ v' → length b ≡ 4 * size → Made (f b (length ev)) s ev n s' ev'
-      → MadeOn (change_fits size q s ev) (perform call (words_of s)) s ev n s' ev'
-  good-on {v} {v'} {b} h same e z put_in o long made =
+  -- b are the bytes of the words with the prefix
+  pub good-on : {b s' ev' : List ℕ} {n : Numbers} → length q ≡ 4 * size → good (mask_at at (words_of q)) ≡ true → words_of b ≡ prefixed at (words_of q) → length b ≡ 4 * size
+      → Made (f b (length ev)) s ev n s' ev' → MadeOn (change_fits size q s ev) (perform call (words_of s)) s ev n s' ev'
+  good-on {b} h is-good own long made =
       let w = words_of s in
-      let is-good : good (mask_at at v) ≡ true = mask-good (good (mask_at at v)) e z in
-      let own : words_of b ≡ prefixed at (words_of q) = o ∙ put_in is-good ∙ ap (prefixed at) same in
       let base : perform call w ≡ step (f (prefixed at (words_of q)) event_room) w =
-      good-is (semantics (f (prefixed at (words_of q)) event_room)) (good (mask_at at (words_of q))) w (ap (λ (x : Row). good (mask_at at x)) (sym same) ∙ is-good)
+      good-is (semantics (f (prefixed at (words_of q)) event_room)) (good (mask_at at (words_of q))) w is-good
       in
       let inner-is : step (inner (f b (length ev))) w ≡ step (f (prefixed at (words_of q)) event_room) w =
       ap (λ (c : Call). step c w) (k.inside b (length ev) ∙ ap (λ (x : Row). f x event_room) own)
@@ -165,3 +165,17 @@ module _ {size at : ℕ} {f : Row → ℕ → Call} (k : Asking size at f) (q s 
       ap (λ (t : Bool). t && rest) (eq-eqb (length q) (4 * size) h ∙ sym (eq-eqb (length b) (4 * size) long)) ∙ sym (k.fits b s (length ev))
       in
       mask-made (f b (length ev)) (change_fits size q s ev) (perform call w) (k.changes b (length ev)) fit (base ∙ sym inner-is) made
+
+-- the reply r that refuses a request of N words with its mask at a place
+pub record BadBytes (size at : ℕ) (q s : List ℕ) (room : ℕ) (r : Rep.Reply) : Type 0 where
+  pub unsized : length q ≢ 4 * size → r ≡ reply_of (refusal 200)
+  pub masked : length q ≡ 4 * size → (good (mask_at at (words_of q)) ≡ false)
+      × (r ≡ reply_of (on_bytes (with s (4 * event_room) room) (refusal (checked (record { buffers = true; row = true; request = bad_mask }) (words_of s)))))
+
+module _ {size at : ℕ} {f : Row → ℕ → Call} (k : Asking size at f) (q s ev : List ℕ) where
+  pub refused-on : {r : Rep.Reply} → Below 256 s → BadBytes size at q s (length ev) r
+      → MadeOn (change_fits size q s ev) (perform (masked (good (mask_at at (words_of q))) (semantics (f (prefixed at (words_of q)) event_room))) (words_of s)) s ev (numbers_in r) s ev
+  refused-on {r} low b =
+      test-case (eqb (length q) (4 * size))
+      (λ e. let h = eqb-true (length q) (4 * size) e in let m = b.masked h in bad_on k q s ev h low m.0 (ap numbers_in m.1))
+      (λ e. let h = eqb-false (length q) (4 * size) e in mask-unsized size q s ev (perform (masked (good (mask_at at (words_of q))) (semantics (f (prefixed at (words_of q)) event_room))) (words_of s)) h (ap numbers_in (b.unsized h)))

@@ -1,4 +1,4 @@
--- The calls on bytes that read, by their numbers.
+-- The calls on bytes that read.
 -- Assumes nothing.
 use Rattle.std.specs.Prelude.{ℕ, ◌*◌, ◌/◌, ◌-◌, ◌≤◌, ◌≡◌, Bool, true, false, cond, eqb, leb, length, take, drop}
 use Rattle.std.proofs.Common.{arith, sym, ◌∙◌, take_all, eqb-true, leb-true, eq-eqb, ne_eqb}
@@ -18,8 +18,7 @@ use Rattle.definition.specs.Noninterference.Public as Words
 use Rattle.definition.specs.Noninterference.Public.{Lent, width, many}
 use Rattle.definition.proofs.Noninterference.ReadBack.{shaped}
 use Rattle.definition_bytes.specs.Bytes.{state_fits, row_words, with, suffices, inner, Made}
-use Rattle.call_dispatch.specs.Numbered.{find_at, ask_at}
-use Rattle.call_dispatch.specs.Laws.{find_is, ask_is}
+use Rattle.definition.specs.Reference.Lookup.{lookup4, lookup4_flow}
 use Rattle.interface4.specs.Made.{Wrote, wrote, part-words, made_gave, made-no, made-yes}
 
 -- ---- as many bytes as there must be
@@ -59,11 +58,11 @@ row-part row l m k e f =
     rw none (sym (cond-false whole (words_of row) [] h)))
 
 -- ---- a call that reads, by the call on words that it is, what that call writes and how many bytes it wants
-record OnBytes (c d : Call) (k : Buffer) (s : List ℕ) (fit : Bool) : Type 0 where
-  inside : inner c ≡ d
-  suffice : suffices c s ≡ fit
-  reads : alters (semantics c).action ≡ false
-  buffer : (semantics d).lent ≡ k
+pub record OnBytes (c d : Call) (k : Buffer) (s : List ℕ) (fit : Bool) : Type 0 where
+  pub inside : inner c ≡ d
+  pub suffice : suffices c s ≡ fit
+  pub reads : alters (semantics c).action ≡ false
+  pub buffer : (semantics d).lent ≡ k
 
 module _ {c d : Call} {k : Buffer} {s : List ℕ} {fit : Bool} (x : OnBytes c d k s fit) {w e e' : List ℕ} {n : Numbers}
     (ew : w ≡ words_of s) (m : Words.Made d w e n w e') where
@@ -116,61 +115,58 @@ pub one : (b : Bool) → bool_byte b ≤ 1
 one true = omega arith
 one false = omega arith
 
-module _ (code a b c : ℕ) (s out : List ℕ) where
-  find_on : OnBytes (find_at code (length out) a b c) (find_at code Route.size a b c) (for_row Route.size) s (with s (4 * Route.size) (length out))
-  find_on =
-      record {
-        inside = test-case (eqb code 9) (λ e. rw e) (λ e. rw e);
-        suffice = test-case (eqb code 9) (λ e. rw e) (λ e. rw e);
-        reads = (find_is code (length out) a b c).reads;
-        buffer = (find_is code Route.size a b c).buffer;
-      }
+module _ (ip tos oif : ℕ) (s out : List ℕ) where
+  find_on : OnBytes (Call.lookup4_flow (length out) ip tos oif) (Call.lookup4_flow Route.size ip tos oif) (for_row Route.size) s (with s (4 * Route.size) (length out))
+  find_on = record { inside = refl; suffice = refl; reads = refl; buffer = refl }
 
-  lent : Lent (semantics (find_at code (length out) a b c)).lent out
-  lent = subst (λ (k : Buffer). Lent k out) (sym (find_is code (length out) a b c).buffer) refl
+  pub found-no : {n : Numbers} → with s (4 * Route.size) (length out) ≡ false → n ≡ numbers (refusal 200) → Made (Call.lookup4_flow (length out) ip tos oif) s out n s out
+  found-no h e = made-no (Call.lookup4_flow (length out) ip tos oif) s out refl h e
 
-  pub found-no : {n : Numbers} → with s (4 * Route.size) (length out) ≡ false → n ≡ numbers (refusal 200) → Made (find_at code (length out) a b c) s out n s out
-  unfolding find_on lent
-  found-no h e = made-no (find_at code (length out) a b c) s out lent (find_on.suffice ∙ h) e
-
-  pub found-yes : {w e e' out' : List ℕ} {n : Numbers} → w ≡ words_of s → length e ≡ Route.size → Words.Made (find_at code (length e) a b c) w e n w e'
+  pub found-yes : {w e e' out' : List ℕ} {n : Numbers} → w ≡ words_of s → length e ≡ Route.size → Words.Made (Call.lookup4_flow (length e) ip tos oif) w e n w e'
       → with s (4 * Route.size) (length out) ≡ true → Below 256 s → out' ≡ put 0 (bytes_of (take (Route.size * bool_byte (eqb n.number 0)) e')) out
-      → Below 4294967296 e' → Made (find_at code (length out) a b c) s out n s out'
-  unfolding find_on lent
+      → Below 4294967296 e' → Made (Call.lookup4_flow (length out) ip tos oif) s out n s out'
+  unfolding find_on
   found-yes {w} {e} {e'} {out'} {n} ew long m h f v g =
-      let m' : Words.Made (find_at code Route.size a b c) w e n w e' = subst (λ (room : ℕ). Words.Made (find_at code room a b c) w e n w e') long m in
-      read-yes find_on ew m' out lent h f (v ∙ ap (λ (i : ℕ). put 0 (bytes_of (take (Route.size * i) e')) out) (bit (eqb n.number 0))) g
+      let m' : Words.Made (Call.lookup4_flow Route.size ip tos oif) w e n w e' = subst (λ (room : ℕ). Words.Made (Call.lookup4_flow room ip tos oif) w e n w e') long m in
+      read-yes find_on ew m' out refl h f (v ∙ ap (λ (i : ℕ). put 0 (bytes_of (take (Route.size * i) e')) out) (bit (eqb n.number 0))) g
+
+-- for no type of service and any device
+pub flow-any : {ip : ℕ} {s out out' : List ℕ} {n : Numbers} → Made (Call.lookup4_flow (length out) ip 0 0) s out n s out' → Made (Call.lookup4 (length out) ip) s out n s out'
+unfolding lookup4 lookup4_flow
+flow-any m = record { lent = m.lent; reply = m.reply; state = m.state; buffer = m.buffer; narrow = m.narrow }
 
 -- ---- a question
 no_words : Below 4294967296 []
 no_words i = omega arith
 
-module _ (code : ℕ) (row : Row) (a b c : ℕ) (s : List ℕ) where
-  ask_on : OnBytes (ask_at code row a b c) (ask_at code (row_words (4 * Route.size) row) a b c) unlent s (state_fits s)
-  ask_on =
-      record {
-        inside =
-            test-case (eqb code 11) (λ e. rw e) (λ e.
-            test-case (eqb code 12) (λ f. rw (e, f)) (λ f.
-            test-case (eqb code 13) (λ g. rw (e, f, g)) (λ g. rw (e, f, g))));
-        suffice =
-            test-case (eqb code 11) (λ e. rw e) (λ e.
-            test-case (eqb code 12) (λ f. rw (e, f)) (λ f.
-            test-case (eqb code 13) (λ g. rw (e, f, g)) (λ g. rw (e, f, g))));
-        reads = (ask_is code row a b c).reads;
-        buffer = (ask_is code (row_words (4 * Route.size) row) a b c).buffer;
-      }
+-- a call that is lent no buffer, by the row that is handed over
+pub record Asks (f : Row → Call) : Type 0 where
+  pub on : (row : Row) (s : List ℕ) → OnBytes (f row) (f (row_words (4 * Route.size) row)) unlent s (state_fits s)
+  pub unlent_is : (row : Row) → (semantics (f row)).lent ≡ unlent
 
-  lent_none : Lent (semantics (ask_at code row a b c)).lent []
-  lent_none = subst (λ (k : Buffer). Lent k []) (sym (ask_is code row a b c).buffer) tt
+pub local4-asks : (ip : ℕ) → Asks (λ row. Call.local4 ip)
+local4-asks ip = record { on = λ row s. record { inside = refl; suffice = refl; reads = refl; buffer = refl }; unlent_is = λ row. refl }
 
-  pub asked-no : {n : Numbers} → state_fits s ≡ false → n ≡ numbers (refusal 200) → Made (ask_at code row a b c) s [] n s []
-  unfolding ask_on lent_none
-  asked-no h e = made-no (ask_at code row a b c) s [] lent_none (ask_on.suffice ∙ h) e
+pub source4-asks : (ip : ℕ) → Asks (λ row. Call.source4 row ip)
+source4-asks ip = record { on = λ row s. record { inside = refl; suffice = refl; reads = refl; buffer = refl }; unlent_is = λ row. refl }
 
-  pub asked-yes : {w r : List ℕ} {n : Numbers} → w ≡ words_of s → r ≡ row_words (4 * Route.size) row → Words.Made (ask_at code r a b c) w [] n w []
-      → state_fits s ≡ true → Below 256 s → Made (ask_at code row a b c) s [] n s []
-  unfolding ask_on lent_none
-  asked-yes {w} {r} {n} ew er m h f =
-      let m' = subst (λ (x : Row). Words.Made (ask_at code x a b c) w [] n w []) er m in
-      read-yes ask_on ew m' [] lent_none h f (bytes-none []) no_words
+pub source-asks : (ip : ℕ) → Asks (λ row. Call.source ip)
+source-asks ip = record { on = λ row s. record { inside = refl; suffice = refl; reads = refl; buffer = refl }; unlent_is = λ row. refl }
+
+pub select4-asks : (dst_present dst scope : ℕ) → Asks (λ row. Call.select4 dst_present dst scope)
+select4-asks dst_present dst scope = record { on = λ row s. record { inside = refl; suffice = refl; reads = refl; buffer = refl }; unlent_is = λ row. refl }
+
+module _ {f : Row → Call} (k : Asks f) (row : Row) (s : List ℕ) where
+  lent_none : Lent (semantics (f row)).lent []
+  lent_none = subst (λ (b : Buffer). Lent b []) (sym (k.unlent_is row)) tt
+
+  pub asked-no : {n : Numbers} → state_fits s ≡ false → n ≡ numbers (refusal 200) → Made (f row) s [] n s []
+  unfolding lent_none
+  asked-no h e = made-no (f row) s [] lent_none ((k.on row s).suffice ∙ h) e
+
+  pub asked-yes : {w r : List ℕ} {n : Numbers} → w ≡ words_of s → r ≡ row_words (4 * Route.size) row → Words.Made (f r) w [] n w []
+      → state_fits s ≡ true → Below 256 s → Made (f row) s [] n s []
+  unfolding lent_none
+  asked-yes {w} {r} {n} ew er m h low =
+      let m' = subst (λ (x : Row). Words.Made (f x) w [] n w []) er m in
+      read-yes (k.on row s) ew m' [] lent_none h low (bytes-none []) no_words

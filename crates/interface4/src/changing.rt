@@ -1,13 +1,14 @@
 // The calls on bytes that change the state.
-ghost use Rattle.std.specs.Prelude.{◌≡◌, true, ◌*◌, length};
+ghost use Rattle.std.specs.Prelude.{◌≡◌, ℕ, true, cond, eqb, ◌*◌, length};
 ghost use Rattle.endian.specs.Endian.{bytes_of};
 ghost use Rattle.endian.specs.Laws.{Below};
 ghost use Rattle.definition.specs.Words.{state_size};
 ghost use Rattle.definition.specs.Call.{Call};
+ghost use Rattle.definition.specs.Step.{step, event_room};
 ghost use Rattle.definition_bytes.specs.Bytes.{Made};
 ghost use Rattle.call_reply.specs.Answer.{numbers_in};
-ghost use Rattle.call_dispatch.specs.Numbered.{change_at, one_at};
-ghost use Rattle.interface4.specs.Changing.{Asks};
+ghost use Rattle.call_dispatch.specs.Numbered.{Change, Did, up_at, down_at, add_v4_at, del_v4_at, expire_at, add_route4_at, del_route4_at};
+ghost use Rattle.interface4.specs.Changing.{Described, up-described, down-described, add_v4-described, del_v4-described, expire-described, add_route4-described, del_route4-described};
 
 use crate::{EVENT_BYTES, STATE_BYTES, rows};
 use call_reply::Reply;
@@ -15,16 +16,168 @@ use layout::{
     ADD_ROUTE4_WORDS, ADD_V4_WORDS, DEL_ROUTE4_WORDS, DEL_V4_WORDS, EVENT_BUFFER, EVENT_WORDS,
     STATE_WORDS,
 };
+use refusal::Refusal;
 
-// The call with this number and value left every word. A refusal of add_route4 by the reference may have listed the table.
-fn still(code: u32, number: u32, value: u32) -> bool
-    ensures { result ≡ (change_at code).still number value }
-{
-    match code {
-        5 => value == 0,
-        6 => call_reply::unfit(number),
-        _ => 1 <= number,
+// A call on words, by the definition's description of it. It is lent ROOM words for its rows: those of all that there may be, or, where
+// it writes one at most, of one, since clearing the room of all would be most of its time.
+trait Changing<const ROOM: usize> {
+    ghost change: { Change };
+
+    // The words of its request.
+    ghost WORDS: { ℕ };
+
+    const WORDS: usize;
+
+    fn make(state: &mut [u32], q: &[u32], clock: u64, events: &mut [u32; ROOM]) -> Reply
+        ensures { Did (step (change.call q.now clock event_room) state.old)
+            events.old result state.new events.new };
+
+    // With this reply it left every word.
+    fn still(reply: Reply) -> bool
+        ensures { result ≡ change.still reply.number reply.value };
+
+    ghost described: { Described change WORDS };
+}
+
+struct Up;
+
+impl Changing<EVENT_BUFFER> for Up {
+    ghost change = { up_at };
+
+    ghost WORDS = { 0 };
+
+    const WORDS: usize = 0;
+
+    fn make(state: &mut [u32], _q: &[u32], clock: u64, events: &mut [u32; EVENT_BUFFER]) -> Reply {
+        call_dispatch::up(state, events, clock)
     }
+
+    fn still(reply: Reply) -> bool {
+        1 <= reply.number
+    }
+
+    ghost described = { up-described };
+}
+
+struct Down;
+
+impl Changing<EVENT_WORDS> for Down {
+    ghost change = { down_at };
+
+    ghost WORDS = { 0 };
+
+    const WORDS: usize = 0;
+
+    fn make(state: &mut [u32], _q: &[u32], _clock: u64, events: &mut [u32; EVENT_WORDS]) -> Reply {
+        call_dispatch::down_lent(state, EVENT_BUFFER, events)
+    }
+
+    fn still(reply: Reply) -> bool {
+        1 <= reply.number
+    }
+
+    ghost described = { down-described };
+}
+
+struct AddV4;
+
+impl Changing<EVENT_BUFFER> for AddV4 {
+    ghost change = { add_v4_at };
+
+    ghost WORDS = { 18 };
+
+    const WORDS: usize = ADD_V4_WORDS;
+
+    fn make(state: &mut [u32], q: &[u32], clock: u64, events: &mut [u32; EVENT_BUFFER]) -> Reply {
+        call_dispatch::add_v4(state, q, events, clock)
+    }
+
+    fn still(reply: Reply) -> bool {
+        1 <= reply.number
+    }
+
+    ghost described = { add_v4-described };
+}
+
+struct DelV4;
+
+impl Changing<EVENT_BUFFER> for DelV4 {
+    ghost change = { del_v4_at };
+
+    ghost WORDS = { 11 };
+
+    const WORDS: usize = DEL_V4_WORDS;
+
+    fn make(state: &mut [u32], q: &[u32], _clock: u64, events: &mut [u32; EVENT_BUFFER]) -> Reply {
+        call_dispatch::del_v4(state, q, events)
+    }
+
+    fn still(reply: Reply) -> bool {
+        1 <= reply.number
+    }
+
+    ghost described = { del_v4-described };
+}
+
+struct Expire;
+
+impl Changing<EVENT_BUFFER> for Expire {
+    ghost change = { expire_at };
+
+    ghost WORDS = { 0 };
+
+    const WORDS: usize = 0;
+
+    fn make(state: &mut [u32], _q: &[u32], clock: u64, events: &mut [u32; EVENT_BUFFER]) -> Reply {
+        call_dispatch::expire(state, events, clock)
+    }
+
+    fn still(reply: Reply) -> bool {
+        reply.value == 0
+    }
+
+    ghost described = { expire-described };
+}
+
+struct AddRoute4;
+
+impl Changing<EVENT_WORDS> for AddRoute4 {
+    ghost change = { add_route4_at };
+
+    ghost WORDS = { 34 };
+
+    const WORDS: usize = ADD_ROUTE4_WORDS;
+
+    fn make(state: &mut [u32], q: &[u32], _clock: u64, events: &mut [u32; EVENT_WORDS]) -> Reply {
+        call_dispatch::add_route4_lent(state, q, EVENT_BUFFER, events)
+    }
+
+    fn still(reply: Reply) -> bool {
+        // A refusal by the reference may have listed the table.
+        call_reply::unfit(reply.number)
+    }
+
+    ghost described = { add_route4-described };
+}
+
+struct DelRoute4;
+
+impl Changing<EVENT_WORDS> for DelRoute4 {
+    ghost change = { del_route4_at };
+
+    ghost WORDS = { 49 };
+
+    const WORDS: usize = DEL_ROUTE4_WORDS;
+
+    fn make(state: &mut [u32], q: &[u32], _clock: u64, events: &mut [u32; EVENT_WORDS]) -> Reply {
+        call_dispatch::del_route4_lent(state, q, EVENT_BUFFER, events)
+    }
+
+    fn still(reply: Reply) -> bool {
+        1 <= reply.number
+    }
+
+    ghost described = { del_route4-described };
 }
 
 // The state's words, as bytes. Where the call kept them, the bytes are there already.
@@ -40,57 +193,30 @@ fn give_back(kept: bool, s: &[u32], state: &mut [u8])
     endian::bytes_of(s, state);
 }
 
-// A changing call by its number, with a request of so many words, or none.
-fn change(
-    code: u32,
+// The call on bytes, with the bytes of its request, or none.
+fn change<const ROOM: usize, T: Changing<ROOM>>(
     state: &mut [u8],
     request: &[u8],
-    size: usize,
     clock: u64,
     events: &mut [u8],
 ) -> Reply
-    requires { Asks code size request.now }
-    ensures { Made ((change_at code).call request.now clock (length events.old))
+    requires { cond (eqb T.WORDS 0) (length request.now) 0 ≡ 0 }
+    ensures { Made (T.change.call request.now clock (length events.old))
         state.old events.old (numbers_in result) state.new events.new }
 {
-    if !((request.len() == 4 * size)
+    if !((request.len() == 4 * T::WORDS)
         & ((state.len() == STATE_BYTES) & (EVENT_BYTES <= events.len())))
     {
-        return call_reply::refused(200);
+        return Reply::from(Refusal::WrongLength);
     }
     let mut q = [0u32; DEL_ROUTE4_WORDS];
     endian::words_of(request, &mut q);
     let mut s = [0u32; STATE_WORDS];
     endian::words_of(state, &mut s);
-    let mut e = [0u32; EVENT_BUFFER];
-    let answer = call_dispatch::change(code, &mut s, &q[0..size], clock, &mut e);
-    let kept = still(code, answer.number, answer.value);
-    give_back(kept, &s, state);
+    let mut e = [0u32; ROOM];
+    let answer = T::make(&mut s, &q[0..T::WORDS], clock, &mut e);
+    give_back(T::still(answer), &s, state);
     rows::give_rows(&e, EVENT_WORDS, answer.value, events);
-    answer
-}
-
-// One that writes one row at most: it is lent no more than that, since clearing the room of all rows would be most of its time.
-fn change_one(code: u32, state: &mut [u8], request: &[u8], size: usize, events: &mut [u8]) -> Reply
-    requires asks { Asks code size request.now }
-    requires code_value { one_at code ≡ change_at code }
-    ensures { Made ((change_at code).call request.now 0 (length events.old))
-        state.old events.old (numbers_in result) state.new events.new }
-{
-    if !((request.len() == 4 * size)
-        & ((state.len() == STATE_BYTES) & (EVENT_BYTES <= events.len())))
-    {
-        return call_reply::refused(200);
-    }
-    let mut q = [0u32; DEL_ROUTE4_WORDS];
-    endian::words_of(request, &mut q);
-    let mut s = [0u32; STATE_WORDS];
-    endian::words_of(state, &mut s);
-    let mut row = [0u32; EVENT_WORDS];
-    let answer = call_dispatch::change_one(code, &mut s, &q[0..size], EVENT_BUFFER, &mut row);
-    let kept = still(code, answer.number, answer.value);
-    give_back(kept, &s, state);
-    rows::give_rows(&row, EVENT_WORDS, answer.value, events);
     answer
 }
 
@@ -99,7 +225,7 @@ pub extern "C" fn interface4_up(state: &mut [u8], events: &mut [u8], clock: u64)
     ensures { Made (Call.up (length events.old) clock)
         state.old events.old (numbers_in result) state.new events.new }
 {
-    change(1, state, b"", 0, clock, events)
+    change::<EVENT_BUFFER, Up>(state, b"", clock, events)
 }
 
 #[unsafe(no_mangle)]
@@ -107,7 +233,7 @@ pub extern "C" fn interface4_down(state: &mut [u8], events: &mut [u8]) -> Reply
     ensures { Made (Call.down (length events.old))
         state.old events.old (numbers_in result) state.new events.new }
 {
-    change_one(2, state, b"", 0, events)
+    change::<EVENT_WORDS, Down>(state, b"", 0, events)
 }
 
 #[unsafe(no_mangle)]
@@ -120,7 +246,7 @@ pub extern "C" fn interface4_add_v4(
     ensures { Made (Call.add_v4 request.now (length events.old) clock)
         state.old events.old (numbers_in result) state.new events.new }
 {
-    change(3, state, request, ADD_V4_WORDS, clock, events)
+    change::<EVENT_BUFFER, AddV4>(state, request, clock, events)
 }
 
 #[unsafe(no_mangle)]
@@ -128,7 +254,7 @@ pub extern "C" fn interface4_del_v4(state: &mut [u8], request: &[u8], events: &m
     ensures { Made (Call.del_v4 request.now (length events.old))
         state.old events.old (numbers_in result) state.new events.new }
 {
-    change(4, state, request, DEL_V4_WORDS, 0, events)
+    change::<EVENT_BUFFER, DelV4>(state, request, 0, events)
 }
 
 #[unsafe(no_mangle)]
@@ -136,7 +262,7 @@ pub extern "C" fn interface4_expire(state: &mut [u8], events: &mut [u8], clock: 
     ensures { Made (Call.expire (length events.old) clock)
         state.old events.old (numbers_in result) state.new events.new }
 {
-    change(5, state, b"", 0, clock, events)
+    change::<EVENT_BUFFER, Expire>(state, b"", clock, events)
 }
 
 #[unsafe(no_mangle)]
@@ -148,7 +274,7 @@ pub extern "C" fn interface4_add_route4(
     ensures { Made (Call.add_route4 request.now (length events.old))
         state.old events.old (numbers_in result) state.new events.new }
 {
-    change_one(6, state, request, ADD_ROUTE4_WORDS, events)
+    change::<EVENT_WORDS, AddRoute4>(state, request, 0, events)
 }
 
 #[unsafe(no_mangle)]
@@ -160,5 +286,5 @@ pub extern "C" fn interface4_del_route4(
     ensures { Made (Call.del_route4 request.now (length events.old))
         state.old events.old (numbers_in result) state.new events.new }
 {
-    change_one(7, state, request, DEL_ROUTE4_WORDS, events)
+    change::<EVENT_WORDS, DelRoute4>(state, request, 0, events)
 }

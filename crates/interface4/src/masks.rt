@@ -1,19 +1,22 @@
 // Requests for an address with a netmask in place of the prefix, on words and on bytes, and the prefix of a netmask.
-ghost use Rattle.std.specs.Prelude.{◌≡◌, true, ◌*◌, length};
+ghost use Rattle.std.specs.Prelude.{◌≡◌, ◌≢◌, ◌<◌, true, ◌*◌, length, MatchResult};
+ghost use Rattle.refusal.specs.Refusal.{number_of};
+ghost use Rattle.netmask.specs.Netmask.{good};
 ghost use Rattle.layout.specs.Request.{add_v4_size, del_v4_size};
 ghost use Rattle.endian.specs.Endian.{words_of};
 ghost use Rattle.definition.specs.Call.{refusal};
 ghost use Rattle.definition.specs.Step.{checked, event_room};
 ghost use Rattle.definition_bytes.specs.Bytes.{on_bytes, with};
-ghost use Rattle.call_mask.specs.Masked.{add_v4_mask_call, del_v4_mask_call};
+ghost use Rattle.call_mask.specs.Masked.{mask_at, prefixed, add_v4_mask_call, del_v4_mask_call};
 ghost use Rattle.call_reply.specs.Answer.{reply_of, numbers_in};
 ghost use Rattle.call_dispatch.specs.Numbered.{Did};
 ghost use Rattle.interface4.specs.Changing.{change_fits};
 ghost use Rattle.interface4.specs.Answer.{prefix_reply};
-ghost use Rattle.interface4.specs.Mask.{MadeOn};
+ghost use Rattle.interface4.specs.Mask.{MadeOn, BadBytes};
 
 use crate::{EVENT_BYTES, STATE_BYTES, changing};
 use call_reply::Reply;
+use refusal::Refusal;
 use layout::{ADD_V4_WORDS, DEL_V4_WORDS, STATE_WORDS, address, del_v4};
 
 const ADD_V4_BYTES: usize = 4 * ADD_V4_WORDS;
@@ -24,7 +27,7 @@ const DEL_V4_BYTES: usize = 4 * DEL_V4_WORDS;
 pub extern "C" fn interface4_prefix(mask: u32) -> Reply
     ensures { result ≡ reply_of (prefix_reply mask) }
 {
-    call_reply::prefix(netmask::prefix_of(mask))
+    Reply::of(netmask::prefix_of(mask))
 }
 
 #[unsafe(no_mangle)]
@@ -37,7 +40,7 @@ pub extern "C" fn interface4w_add_v4_mask(
     ensures { Did (add_v4_mask_call request.now (length events.old) clock state.old)
         events.old result state.new events.new }
 {
-    call_reply::done(call_mask::add_v4(state, request, events, clock))
+    Reply::of(call_mask::add_v4(state, request, events, clock))
 }
 
 #[unsafe(no_mangle)]
@@ -49,28 +52,55 @@ pub extern "C" fn interface4w_del_v4_mask(
     ensures { Did (del_v4_mask_call request.now (length events.old) state.old)
         events.old result state.new events.new }
 {
-    call_reply::done(call_mask::del_v4(state, request, events))
+    Reply::of(call_mask::del_v4(state, request, events))
 }
 
 // The words of a request as bytes.
-fn as_bytes(q: &[u32], out: &mut [u8])
-    requires { length out.old ≡ 4 * length q.now }
-    ensures { words_of out.new ≡ q.now }
+fn as_bytes<const B: usize>(q: &[u32]) -> [u8; B]
+    requires { B ≡ 4 * length q.now }
+    ensures { words_of result ≡ q.now }
 {
-    endian::bytes_of(q, out);
+    let mut bytes = [0u8; B];
+    endian::bytes_of(q, &mut bytes);
+    bytes
 }
 
-// The refusal of a mask by its number, behind those of the state and of the room for events.
-fn refuse(state: &[u8], room: usize, number: u32) -> Reply
+// The refusal of a mask, behind those of the state and of the room for events.
+fn refuse(state: &[u8], room: usize, bad: Refusal) -> Reply
+    requires { number_of bad ≢ 0 }
     ensures { result ≡ reply_of (on_bytes (with state.now (4 * event_room) room)
-        (refusal (checked (record { buffers = true; row = true; request = number }) (words_of state.now)))) }
+        (refusal (checked (record { buffers = true; row = true; request = number_of bad }) (words_of state.now)))) }
 {
     if !((state.len() == STATE_BYTES) & (EVENT_BYTES <= room)) {
-        return call_reply::refused(200);
+        return Reply::from(Refusal::WrongLength);
     }
     let mut s = [0u32; STATE_WORDS];
     endian::words_of(state, &mut s);
-    call_reply::refused(call_read::checked(&s, true, true, number))
+    Reply::of(call_read::checked::<()>(&s, true, true, Err(bad)))
+}
+
+// The bytes of a request of N words with the prefix in the place of the mask, or the reply that refuses it.
+fn asked<const N: usize, const B: usize>(
+    state: &[u8],
+    request: &[u8],
+    at: usize,
+    room: usize,
+) -> Result<[u8; B], Reply>
+    requires at { at < N }
+    requires bytes { B ≡ 4 * N }
+    ensures { MatchResult result
+        (λ own. (length request.now ≡ 4 * N) × (good (mask_at at (words_of request.now)) ≡ true) × (words_of own ≡ prefixed at (words_of request.now)))
+        (λ r. BadBytes N at request.now state.now room r) }
+{
+    if request.len() != B {
+        return Err(Reply::from(Refusal::WrongLength));
+    }
+    let mut q = [0u32; N];
+    endian::words_of(request, &mut q);
+    match call_mask::prefixed(&q, at) {
+        Ok(own) => Ok(as_bytes(&own)),
+        Err(bad) => Err(refuse(state, room, bad)),
+    }
 }
 
 #[unsafe(no_mangle)]
@@ -84,18 +114,10 @@ pub extern "C" fn interface4_add_v4_mask(
         (add_v4_mask_call (words_of request.now) event_room clock (words_of state.old))
         state.old events.old (numbers_in result) state.new events.new }
 {
-    if request.len() != ADD_V4_BYTES {
-        return call_reply::refused(200);
+    match asked::<ADD_V4_WORDS, ADD_V4_BYTES>(state, request, address::PREFIX, events.len()) {
+        Ok(own) => changing::interface4_add_v4(state, &own, events, clock),
+        Err(refused) => refused,
     }
-    let mut q = [0u32; ADD_V4_WORDS];
-    endian::words_of(request, &mut q);
-    let n = call_mask::to_prefix(&mut q, address::PREFIX);
-    if n != 0 {
-        return refuse(state, events.len(), n);
-    }
-    let mut own = [0u8; ADD_V4_BYTES];
-    as_bytes(&q, &mut own);
-    changing::interface4_add_v4(state, &own, events, clock)
 }
 
 #[unsafe(no_mangle)]
@@ -108,16 +130,8 @@ pub extern "C" fn interface4_del_v4_mask(
         (del_v4_mask_call (words_of request.now) event_room (words_of state.old))
         state.old events.old (numbers_in result) state.new events.new }
 {
-    if request.len() != DEL_V4_BYTES {
-        return call_reply::refused(200);
+    match asked::<DEL_V4_WORDS, DEL_V4_BYTES>(state, request, del_v4::PREFIX, events.len()) {
+        Ok(own) => changing::interface4_del_v4(state, &own, events),
+        Err(refused) => refused,
     }
-    let mut q = [0u32; DEL_V4_WORDS];
-    endian::words_of(request, &mut q);
-    let n = call_mask::to_prefix(&mut q, del_v4::PREFIX);
-    if n != 0 {
-        return refuse(state, events.len(), n);
-    }
-    let mut own = [0u8; DEL_V4_BYTES];
-    as_bytes(&q, &mut own);
-    changing::interface4_del_v4(state, &own, events)
 }

@@ -8,6 +8,7 @@ ghost use Rattle.interface4.specs.Answer.{sizes_reply};
 
 use crate::rows;
 use call_reply::Reply;
+use refusal::Refusal;
 use layout::{DEL_ROUTE4_WORDS, EVENT_ROWS, STATE_WORDS};
 
 // The bytes of the longest request.
@@ -18,7 +19,7 @@ pub extern "C" fn interface4w_read(message: &[u8], request: &mut [u32], up: u32)
     ensures value { result ≡ reply_of (read_call (length request.old) up message.now) }
     ensures request_after { request.new ≡ put 0 (flat (read_call (length request.old) up message.now).rows) request.old }
 {
-    call_reply::asked(call_message::read(message, request, up))
+    Reply::of(call_message::read(message, request, up))
 }
 
 #[unsafe(no_mangle)]
@@ -27,7 +28,7 @@ pub extern "C" fn interface4_read(message: &[u8], request: &mut [u8], up: u32) -
     ensures request_after { request.new ≡ put 0 (bytes_of (flat (read_on_bytes (length request.old) up message.now).rows)) request.old }
 {
     if request.len() < REQUEST_BYTES {
-        return call_reply::refused(200);
+        return Reply::from(Refusal::WrongLength);
     }
     let mut q = [0u32; DEL_ROUTE4_WORDS];
     let answer = interface4w_read(message, &mut q, up);

@@ -86,7 +86,7 @@ pub extern "C" fn interface4w_dump4(state: &[u32], listing: &mut [u32]) -> Reply
     ensures { Made (Call.dump4 (length listing.old))
         state.now listing.old (numbers_in result) state.now listing.new }
 {
-    call_dispatch::list(state, listing)
+    call_dispatch::dump4(state, listing)
 }
 
 #[unsafe(no_mangle)]
@@ -94,7 +94,7 @@ pub extern "C" fn interface4w_lookup4(state: &[u32], row: &mut [u32], ip: u32) -
     ensures { Made (Call.lookup4 (length row.old) ip)
         state.now row.old (numbers_in result) state.now row.new }
 {
-    call_dispatch::find(9, state, ip, 0, 0, row)
+    call_dispatch::lookup4(state, row, ip)
 }
 
 #[unsafe(no_mangle)]
@@ -108,7 +108,7 @@ pub extern "C" fn interface4w_lookup4_flow(
     ensures { Made (Call.lookup4_flow (length row.old) ip tos oif)
         state.now row.old (numbers_in result) state.now row.new }
 {
-    call_dispatch::find(10, state, ip, tos, oif, row)
+    call_dispatch::lookup4_flow(state, row, ip, tos, oif)
 }
 
 #[unsafe(no_mangle)]
@@ -116,8 +116,7 @@ pub extern "C" fn interface4w_local4(state: &[u32], ip: u32) -> Reply
     ensures { Made (Call.local4 ip)
         state.now [] (numbers_in result) state.now [] }
 {
-    let none = [0u32; 0];
-    call_dispatch::ask(11, state, &none, ip, 0, 0)
+    call_dispatch::local4(state, ip)
 }
 
 #[unsafe(no_mangle)]
@@ -125,7 +124,7 @@ pub extern "C" fn interface4w_source4(state: &[u32], row: &[u32], ip: u32) -> Re
     ensures { Made (Call.source4 row.now ip)
         state.now [] (numbers_in result) state.now [] }
 {
-    call_dispatch::ask(12, state, row, ip, 0, 0)
+    call_dispatch::source4(state, row, ip)
 }
 
 #[unsafe(no_mangle)]
@@ -133,8 +132,7 @@ pub extern "C" fn interface4w_source(state: &[u32], ip: u32) -> Reply
     ensures { Made (Call.source ip)
         state.now [] (numbers_in result) state.now [] }
 {
-    let none = [0u32; 0];
-    call_dispatch::ask(13, state, &none, ip, 0, 0)
+    call_dispatch::source(state, ip)
 }
 
 #[unsafe(no_mangle)]
@@ -147,8 +145,7 @@ pub extern "C" fn interface4w_select4(
     ensures { Made (Call.select4 dst_present dst scope)
         state.now [] (numbers_in result) state.now [] }
 {
-    let none = [0u32; 0];
-    call_dispatch::ask(14, state, &none, dst_present, dst, scope)
+    call_dispatch::select4(state, dst_present, dst, scope)
 }
 
 #[unsafe(no_mangle)]
@@ -163,5 +160,5 @@ pub extern "C" fn interface4w_left(row: &[u32], clock: u64) -> Reply
 pub extern "C" fn interface4w_check(state: &[u32]) -> Reply
     ensures { result ≡ reply_of (check_reply state.now) }
 {
-    call_reply::refused(state_well_formed::check(state))
+    Reply::of(call_read::asked(state_well_formed::check(state)))
 }

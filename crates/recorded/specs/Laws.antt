@@ -69,6 +69,8 @@ fits r h =
     record {
       long = leb-true 16 (length r) (ands-first first l h);
       few = leb-true (length r) 4096 (at 0);
+      call_from = leb-true 1 (get_or r 2 0) (at 3);
+      call_to = leb-true (get_or r 2 0) 15 (at 4);
       state = leb-true (get_or r 4 0) held_size (at 6);
       buffer = leb-true (get_or r 5 0) event_room (at 7);
       sets = leb-true 16 (get_or r 10 0) (at 8);

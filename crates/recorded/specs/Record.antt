@@ -63,6 +63,8 @@ fit r =
 pub record Bounds (r : Row) : Type 0 where
   pub long : 16 ≤ length r
   pub few : length r ≤ 4096
+  pub call_from : 1 ≤ get_or r 2 0
+  pub call_to : get_or r 2 0 ≤ 15
   pub state : get_or r 4 0 ≤ held_size
   pub buffer : get_or r 5 0 ≤ event_room
   pub sets : 16 ≤ get_or r 10 0

@@ -9,6 +9,7 @@ ghost use Rattle.definition.specs.Step.{event_room};
 ghost use Rattle.call_reply.specs.Answer.{reply_of};
 ghost use Rattle.recorded.specs.Record.{held_size, check_of, fit, Bounds, set_all, sets_of, lent_of, changes_of, rows_of, restarted, before_of, after_of, result_of, held_by, buffer_by, same_reply, agrees as Record·agrees, verdict_of, held_after, buffer_after};
 
+use call_dispatch::numbered::Call;
 use call_reply::Reply;
 use layout::{EVENT_BUFFER, STATE_WORDS};
 
@@ -154,8 +155,8 @@ fn answer(r: &[u32], held: &mut [u32], buffer: &mut [u32]) -> Reply
 {
     let n = words::wide(r[record::STATE]);
     let m = words::wide(r[record::BUFFER]);
-    call_dispatch::call(
-        r[record::CALL],
+    let call = Call::try_from(r[record::CALL]).unwrap();
+    call.make(
         &mut held[..n],
         lent(r),
         r[record::FIRST],

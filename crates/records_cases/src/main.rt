@@ -5,8 +5,8 @@
 ghost use Rattle.definition.specs.Words.{state_size};
 ghost use Rattle.std.specs.Prelude.{◌+◌, ◌≤◌};
 
-use call_read::{Chosen, Sourced};
 use layout::{ADDRESS_COUNT, ADDRESS_LIMIT, ADDRESS_WORDS, ADDRESSES_AT, STATE_WORDS};
+use refusal::Refusal;
 use row_address::V4;
 use rows_source::Selected;
 
@@ -22,8 +22,8 @@ fn say_ip(rt: &impl Print, a: u32) {
     let _ = print!(rt; " {first}.{second}.{third}.{fourth}");
 }
 
-fn say_refused(rt: &impl Print, n: u32) {
-    let _ = print!(rt; " refused {n}");
+fn say_refused(rt: &impl Print, refusal: Refusal) {
+    let _ = print!(rt; " {refusal}");
 }
 
 fn say_selected(rt: &impl Print, r: Selected) {
@@ -33,18 +33,18 @@ fn say_selected(rt: &impl Print, r: Selected) {
     }
 }
 
-fn say_chosen(rt: &impl Print, r: Chosen) {
+fn say_chosen(rt: &impl Print, r: Result<Option<u32>, Refusal>) {
     match r {
-        Chosen::Refused(n) => say_refused(rt, n),
-        Chosen::Nothing => say(rt, " none"),
-        Chosen::Address(a) => say_ip(rt, a),
+        Ok(Some(a)) => say_ip(rt, a),
+        Ok(None) => say(rt, " none"),
+        Err(refusal) => say_refused(rt, refusal),
     }
 }
 
-fn say_sourced(rt: &impl Print, r: Sourced) {
+fn say_sourced(rt: &impl Print, r: Result<u32, Refusal>) {
     match r {
-        Sourced::Refused(n) => say_refused(rt, n),
-        Sourced::Address(a) => say_ip(rt, a),
+        Ok(a) => say_ip(rt, a),
+        Err(refusal) => say_refused(rt, refusal),
     }
 }
 
