@@ -216,7 +216,7 @@ fn change<const ROOM: usize, T: Changing<ROOM>>(
     let mut e = [0u32; ROOM];
     let answer = T::make(&mut s, &q[0..T::WORDS], clock, &mut e);
     give_back(T::still(answer), &s, state);
-    rows::give_rows(&e, EVENT_WORDS, answer.value, events);
+    given::give_rows(&e, EVENT_WORDS, answer.value, events);
     answer
 }
 

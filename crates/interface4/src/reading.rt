@@ -29,7 +29,7 @@ pub extern "C" fn interface4_dump4(state: &[u8], listing: &mut [u8]) -> Reply
     endian::words_of(state, &mut s);
     let mut l = [0u32; LISTING_BUFFER];
     let answer = call_dispatch::dump4(&s, &mut l);
-    rows::give_rows(&l, ROUTE_WORDS, answer.value, listing);
+    given::give_rows(&l, ROUTE_WORDS, answer.value, listing);
     answer
 }
 
@@ -59,7 +59,7 @@ pub extern "C" fn interface4_lookup4_flow(
     endian::words_of(state, &mut s);
     let mut l = [0u32; ROUTE_WORDS];
     let answer = call_dispatch::lookup4_flow(&s, &mut l, ip, tos, oif);
-    rows::give_rows(&l, ROUTE_WORDS, (answer.number == 0) as u32, row);
+    given::give_rows(&l, ROUTE_WORDS, (answer.number == 0) as u32, row);
     answer
 }
 
