@@ -1,6 +1,7 @@
 -- What a changing call emits: a refusal's number or one value alone, and its rows are few, of 34 words, as many as its value says.
 -- Assumes nothing.
-use Rattle.std.specs.Prelude.{ℕ, ◌≤◌, ◌<◌, ◌≡◌, true, List, eqb, length}
+use Rattle.std.specs.Prelude.{ℕ, ◌≤◌, ◌<◌, ◌≡◌, true, List, eqb, length, Ok, Err, IfOk}
+use Rattle.std.specs.Prelude.{Result as Answer}
 use Rattle.std.proofs.Common.{arith, ap, ◌∙◌, eqb-true}
 use Rattle.std.proofs.Math.Path.{refl}
 use Rattle.std.proofs.lemmas.Bool.{false≢true}
@@ -14,7 +15,8 @@ use Rattle.definition.specs.Call.{Reply, refusal, written}
 use Rattle.definition.specs.Step.{Result, Action, changes, replies, lists, alters, semantics, outcome, step, up_call, down_call, add_v4_call, del_v4_call, expire_call, add_route4_call, del_route4_call}
 use Rattle.definition.specs.Reference.Addresses.{Outcome}
 use Rattle.definition.proofs.Preservation.Step.{acted, perform-case, emitted-bound}
-use Rattle.call_read.specs.Answer.{Numbers, numbers, one_value, valuing}
+use Rattle.refusal.specs.declared.Refusal.{Refusal}
+use Rattle.call_read.specs.Answer.{Numbers, numbers, one_value, valuing, answer_by}
 
 -- what holds of a refusal and of rows emitted holds of a call's reply
 comes : (P : Reply → Type 0) (o : Outcome) (w : List ℕ) → ((n : ℕ) → P (refusal n)) → ((l : List Row) → P (written l)) → P (outcome o w).reply
@@ -78,5 +80,6 @@ module _ (w : List ℕ) (events : ℕ) where
   del_route4-emitted q = emitted (Call.del_route4 q events) w refl
 
 -- the count of an answer with its numbers fits a word
-pub small : {n : ℕ} {r : Reply} → valuing n ≡ numbers r → EmittedRows r → n < 4294967296
-small e t = omega (arith, ap (λ (x : Numbers). x.value) e, t.counts, t.few)
+pub count-fits : (d : Answer ℕ Refusal) {r : Reply} → answer_by valuing d ≡ numbers r → EmittedRows r → IfOk d (λ n. n < 4294967296)
+count-fits (Ok n) e t = omega (arith, ap (λ (x : Numbers). x.value) e, t.counts, t.few)
+count-fits (Err x) e t = tt
