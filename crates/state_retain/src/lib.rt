@@ -74,7 +74,7 @@ fn iteration(s: &mut [u32], i: usize, j: usize, host: bool) -> usize
     j
 }
 
-// The routes that remain.
+// The routes that remain. The rows move under the loop, so it goes by places.
 fn retain(s: &mut [u32], host: bool)
     requires { RepresentsSome s.old }
     ensures { (st : State) → Represents s.old st → Represents s.new (with_routes (keep (remains host) st.routes) st) }

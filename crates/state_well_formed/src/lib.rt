@@ -53,7 +53,7 @@ fn in_place(routes: &[RouteRow], i: usize) -> bool
 }
 
 // The first row from a place on that is the last one, or whose place is not before the next one's. Those passed over are in their
-// places. A loop of its own, so that all it needs is in registers.
+// places. A loop of its own, so that all it needs is in registers; where it ends is the answer, so it is no `for`.
 fn rising(routes: &[RouteRow], from: usize) -> usize
     requires { from ≤ length routes.now }
     ensures { (result ≤ length routes.now) × (from ≤ result) × (in_place (drop from routes.now) ≡ in_place (drop result routes.now)) }
@@ -68,7 +68,7 @@ fn rising(routes: &[RouteRow], from: usize) -> usize
     i
 }
 
-// The rows are in order, and no two are the same.
+// The rows are in order, and no two are the same. The place jumps over the rows that rise, so the loop is no `for`.
 fn all_in_place(routes: &[RouteRow]) -> bool
     ensures { result ≡ in_place routes.now }
 {
