@@ -34,7 +34,7 @@ pub fn covers(a: &AddressRow, ip: u32) -> bool
     prefix::same_network(ip, a[address::ADDRESS], a[address::PREFIX])
 }
 
-// Whether b, an address or a request for one, is in the subnet of a.
+// Whether b, an address or a request for one, is in the subnet of a. A slice, since the two differ in length.
 #[tactic(auto, unfolding(definition::specs::Reference::Addresses::same_subnet))]
 pub fn same_subnet(a: &AddressRow, b: &[u32]) -> bool
     requires { 14 ≤ length b.now }

@@ -53,6 +53,7 @@ fn copy_back(change: &mut Change<'_>, tried: &Change<'_>)
     change.told += tried.told;
 }
 
+// It and `try_up` stay two: what differs is the call and its buffer, and a closure over a lent change would say more than both.
 fn try_add_v4(change: &mut Change<'_>, q: &AddV4, clock: Nanoseconds) -> Result<(), Refusal>
     requires represents_fit { RepresentsFit change.old.state.now }
     requires q_fit { fit_add_v4 q.now ≡ true }

@@ -1,14 +1,12 @@
 -- One pass over the routes: those that go are told in their order, the others stay in theirs.
 -- Assumes nothing.
-use Rattle.std.specs.Prelude.{ℕ, ◌+◌, ◌-◌, ◌*◌, ◌≤◌, ◌<◌, ◌≡◌, refl, Bool, true, false, not, List, [], ◌∷◌, ◌++◌, map, eqb, length, take, drop, get_or, set}
-use Rattle.std.proofs.Common.{sym, ap, ◌∙◌, arith, length-drop, eqb-true, eq-eqb, drop-drop}
+use Rattle.std.specs.Prelude.{ℕ, ◌+◌, ◌-◌, ◌*◌, ◌≤◌, ◌<◌, ◌≡◌, refl, Bool, true, false, not, List, [], ◌∷◌, ◌++◌, map, eqb, length, drop, set}
+use Rattle.std.proofs.Common.{sym, ap, ◌∙◌, arith, length-drop, eqb-true, eq-eqb}
 use Rattle.std.proofs.lemmas.List.{length-map}
 use mathlib.Core.List.{map-append}
-use Rattle.std.specs.Simd.{first_chunks}
 use Rattle.lists.specs.Lists.{Row, keep, span, put, zeros}
 use Rattle.lists.specs.Bools.{and_both}
 use Rattle.lists.specs.All.{all_keep, all_map}
-use Rattle.lists.specs.Chop.{chop-at}
 use Rattle.lists.specs.Count.{length-keep, count-pair}
 use Rattle.lists.specs.Rows.{sized, length-chop, sized-chop, length-span}
 use Rattle.layout.specs.Event.{del_route4}
@@ -16,20 +14,13 @@ use Rattle.definition.specs.State.{State, becomes, with_routes}
 use Rattle.definition.specs.Words.{route_count, base_size, routes_at}
 use Rattle.definition.specs.Reference.Removal.{dependent_on}
 use Rattle.definition.specs.Preservation.Shrinking.{potential}
-use Rattle.rows.specs.Rows.{chunks-chop}
 use Rattle.state.specs.Represents.{sized_r}
-use Rattle.state_retain.specs.Retain.{rows_of, keep-next, routes_of, lent-span, Turned, turned-stays, turned-goes, Keeping, keeping_start, keeping_row, keeping_iteration, keeping_end}
+use Rattle.state_retain.specs.Retain.{rows_of, keep-next, routes_of, Turned, turned-stays, turned-goes, Keeping, keeping_start, keeping_row, keeping_iteration, keeping_end}
 use Rattle.step_events.specs.Tells.{Tells}
 use Rattle.step_events.specs.Emits.{tells-none, tells-also}
 use Rattle.step_events.specs.EmitsWithin.{RoomFor, EmitsWithin, step_same}
 use Rattle.step_events.specs.declared.change.Change.{Change}
 use Rattle.step_drop_prefsrc.specs.Dependents.{dependents_go, dependent-matches, all_go}
-
--- row i of the words, cut from them as rows
-pub cut-row : (w : List ℕ) (n i : ℕ) → i < n → get_or (first_chunks 32 n (drop routes_at w)) i [] ≡ span (routes_at + 32 * i) 32 w
-cut-row w n i h =
-    ap (λ (l : List Row). get_or l i []) (chunks-chop 32 n (drop routes_at w)) ∙ sym (chop-at 32 n (drop routes_at w) i h)
-    ∙ unfold span in ap (take 32) (drop-drop (32 * i) routes_at w)
 
 -- row i was looked at behind j that stay: it is told if it passes, and stays otherwise
 pub record Swept (q : Row → Bool) (i j : ℕ) (a b : Change) (r : ℕ) : Type 0 where
@@ -44,7 +35,7 @@ module _ (q : Row → Bool) (i j : ℕ) (a : Change) where
   pub swept_goes : q row ≡ true → {b : Change} → Tells (del_route4 row ∷ []) a b → b.state.now ≡ a.state.now → Swept q i j a b j
   swept_goes e {b} t s =
       record {
-        turned = rw s (turned-goes (λ x. not (q x)) i j a.state.now (ap (λ (x : Row). not (q x)) (lent-span a.state.now i) ∙ ap not e));
+        turned = rw s (turned-goes (λ x. not (q x)) i j a.state.now (ap not e));
         tells = rw e t;
         long = ap length s;
       }
@@ -52,7 +43,7 @@ module _ (q : Row → Bool) (i j : ℕ) (a : Change) where
   pub swept_stays : q row ≡ false → {b : Change} {r : ℕ} → r ≡ j + 1 → b.state.now ≡ put (routes_at + 32 * j) row a.state.now → Tells [] a b → length b.state.now ≡ length a.state.now → Swept q i j a b r
   swept_stays e c w t l =
       record {
-        turned = turned-stays (λ x. not (q x)) i j a.state.now (ap (λ (x : Row). not (q x)) (lent-span a.state.now i) ∙ ap not e) c w;
+        turned = turned-stays (λ x. not (q x)) i j a.state.now (ap not e) c w;
         tells = rw e t;
         long = l;
       }

@@ -2,26 +2,15 @@
 #![tactic(auto)]
 
 ghost use Rattle.std.specs.Prelude.{◌≡◌, ◌+◌, ◌*◌, ◌≤◌, ◌<◌, length};
-ghost use Rattle.lists.specs.Lists.{span};
 ghost use Rattle.definition.specs.State.{State};
 ghost use Rattle.definition.specs.Reference.Removal.{dependent_on};
 ghost use Rattle.definition.specs.Preservation.Shrinking.{potential};
 ghost use Rattle.step_events.specs.EmitsWithin.{RoomFor, SomeRoom, EmitsWithin};
 ghost use Rattle.step_drop_prefsrc.specs.Dependents.{dependents_go};
 ghost use Rattle.step_drop_prefsrc.specs.Sweep.{Swept};
-ghost use Rattle.definition.specs.Words.{base_size, routes_at};
+ghost use Rattle.definition.specs.Words.{base_size};
 
-use layout::{ROUTE_WORDS, ROUTES_AT, RouteRow};
 use step_events::Change;
-
-// Row i of the routes, whether or not the count reaches it.
-fn route(s: &[u32], i: usize) -> &RouteRow
-    requires { (length s.now ≡ base_size) × (i < 256) }
-    ensures { result.now ≡ span (routes_at + 32 * i) 32 s.now }
-{
-    let (rows, _) = s[ROUTES_AT..].as_chunks::<ROUTE_WORDS>();
-    &rows[i]
-}
 
 // Row i, behind j that remain, is told if it is a main row with the preferred source ip, and becomes row j otherwise:
 // how many remain with it.
@@ -30,7 +19,7 @@ fn dependent_iteration(change: &mut Change<'_>, i: usize, j: usize, ip: u32) -> 
     requires in_bounds { 34 * (change.old.told + 1) ≤ length change.old.events.now }
     ensures { Swept (dependent_on ip) i j change.old change.new result }
 {
-    let row = route(change.words(), i);
+    let row = state_retain::route_row(change.words(), i);
     if rows_wanted::dependents_from(row, ip) {
         let row = *row;
         change.del_route4(&row);

@@ -2,8 +2,8 @@ use Rattle.std.proofs.Common.{arith, ap, ◌∙◌, length-drop, take_all, List,
 use Rattle.std.specs.Simd.{first_chunks}
 use Rattle.lists.specs.Lists.{Row}
 use Rattle.definition.specs.Words.{routes_at}
-use Rattle.step_drop_prefsrc.specs.Sweep.{cut-row}
-use Rattle.step_drop_prefsrc.proofs.route.Goals as goal
+use Rattle.state_retain.specs.Retain.{cut-row}
+use Rattle.state_retain.proofs.route_row.Goals as goal
 
 pub returns : goal.returns
 returns c =
