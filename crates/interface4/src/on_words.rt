@@ -160,5 +160,5 @@ pub extern "C" fn interface4w_left(row: &[u32], clock: u64) -> Reply
 pub extern "C" fn interface4w_check(state: &[u32]) -> Reply
     ensures { result ≡ reply_of (check_reply state.now) }
 {
-    Reply::of(call_read::asked(state_well_formed::check(state)))
+    Reply::of(state_well_formed::check(state))
 }
