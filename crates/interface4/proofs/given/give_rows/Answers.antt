@@ -1,8 +1,8 @@
--- `interface4::rows::give_rows` meets its contract.
+-- `interface4::given::give_rows` meets its contract.
 -- Assumes nothing.
 use Prim.Native.Nat.{◌*◌}
 use Rattle.interface4.specs.Made.{part-back}
-use Rattle.interface4.proofs.rows.give_rows.Goals as goal
+use Rattle.interface4.proofs.given.give_rows.Goals as goal
 
 pub returns : goal.returns
 returns c =
