@@ -1,6 +1,7 @@
--- What a changing call emits: its case and its numbers say the same, and its rows are few, of 34 words, as many as its value says.
+-- What a changing call emits: a refusal's number or one value alone, and its rows are few, of 34 words, as many as its value says.
 -- Assumes nothing.
-use Rattle.std.specs.Prelude.{ℕ, ◌≤◌, ◌<◌, ◌≡◌, true, List, eqb, length}
+use Rattle.std.specs.Prelude.{ℕ, ◌≤◌, ◌<◌, ◌≡◌, true, List, eqb, length, Ok, Err, IfOk}
+use Rattle.std.specs.Prelude.{Result as Answer}
 use Rattle.std.proofs.Common.{arith, ap, ◌∙◌, eqb-true}
 use Rattle.std.proofs.Math.Path.{refl}
 use Rattle.std.proofs.lemmas.Bool.{false≢true}
@@ -14,10 +15,8 @@ use Rattle.definition.specs.Call.{Reply, refusal, written}
 use Rattle.definition.specs.Step.{Result, Action, changes, replies, lists, alters, semantics, outcome, step, up_call, down_call, add_v4_call, del_v4_call, expire_call, add_route4_call, del_route4_call}
 use Rattle.definition.specs.Reference.Addresses.{Outcome}
 use Rattle.definition.proofs.Preservation.Step.{acted, perform-case, emitted-bound}
-use Rattle.call_read.specs.Answer.{Numbers, numbers}
-use Rattle.call_change.specs.Answer.{done_by, done_of}
-use Rattle.call_change.specs.declared.Done.{Done}
-use Rattle.call_change.specs.declared.Done.TheVariants.{Rows}
+use Rattle.refusal.specs.declared.Refusal.{Refusal}
+use Rattle.call_read.specs.Answer.{Numbers, numbers, one_value, valuing, answer_by}
 
 -- what holds of a refusal and of rows emitted holds of a call's reply
 comes : (P : Reply → Type 0) (o : Outcome) (w : List ℕ) → ((n : ℕ) → P (refusal n)) → ((l : List Row) → P (written l)) → P (outcome o w).reply
@@ -25,7 +24,7 @@ comes P (Outcome.goes o) w refuses answers = cond-case (λ (r : Result). P r.rep
 comes P (Outcome.refused n st) w refuses answers = cond-case (λ (r : Result). P r.reply) (within (sizes st)) (λ e. refuses n) (λ e. refuses 203)
 
 record Emission (r : Reply) : Type 0 where
-  pub says : done_by (done_of r) ≡ numbers r
+  pub says : one_value r ≡ numbers r
   pub counts : r.value ≡ length r.rows
 
 emission-none : (n : ℕ) → Emission (refusal n)
@@ -40,7 +39,7 @@ emission c w t = perform-case (λ (r : Result). Emission r.reply) w (semantics c
     go (lists f) t = absurd (false≢true t)
 
 pub record EmittedRows (r : Reply) : Type 0 where
-  pub says : done_by (done_of r) ≡ numbers r
+  pub says : one_value r ≡ numbers r
   pub counts : r.value ≡ length r.rows
   pub few : length r.rows ≤ 384
   pub size : sized 34 r.rows ≡ true
@@ -80,11 +79,7 @@ module _ (w : List ℕ) (events : ℕ) where
   unfolding del_route4_call
   del_route4-emitted q = emitted (Call.del_route4 q events) w refl
 
--- the count fits a word
-pub small : (d : Done) (r : Reply) → d ≡ done_of r → EmittedRows r → (done_by d).value < 4294967296
-small d r e t =
-    let s : (done_by d).value ≡ r.value = ap (λ (x : Done). (done_by x).value) e ∙ ap (λ (x : Numbers). x.value) t.says in
-    omega (arith, t.counts, t.few)
-
-pub rows-small : (d : Done) (n : ℕ) → d ≡ Rows n → (done_by d).value < 4294967296 → n < 4294967296
-rows-small d n e h = rw e at h
+-- the count of an answer with its numbers fits a word
+pub count-fits : (d : Answer ℕ Refusal) {r : Reply} → answer_by valuing d ≡ numbers r → EmittedRows r → IfOk d (λ n. n < 4294967296)
+count-fits (Ok n) e t = omega (arith, ap (λ (x : Numbers). x.value) e, t.counts, t.few)
+count-fits (Err x) e t = tt

@@ -1,10 +1,14 @@
 -- Every call by the number that the list of answers gives it (host/README.md, "The list of answers"), and what making it does.
-use Rattle.std.specs.Prelude.{ℕ, ◌+◌, ◌*◌, ◌≡◌, Bool, cond, List, eqb, leb}
+use Rattle.std.specs.Prelude.{ℕ, ◌+◌, ◌*◌, ◌≡◌, Bool, cond, List, eqb, leb, Ok, Err}
+use Rattle.std.specs.Prelude.{Result as Answer}
 use Rattle.lists.specs.Lists.{Row, flat, put}
 use Rattle.layout.specs.Request.{add_v4_size, del_v4_size, add_route4_size, del_route4_size}
 use Rattle.definition.specs.Call.{Call}
 use Rattle.definition.specs.Step.{unfit, Result, step, left_call}
 use Rattle.call_reply.specs.declared.Reply.{Reply}
+use Rattle.call_dispatch.specs.declared.numbered.Call.{Call as Named}
+use Rattle.call_dispatch.specs.declared.numbered.Call.TheVariants.{Up, Down, AddV4, DelV4, Expire, AddRoute4, DelRoute4, Dump4, Lookup4, Lookup4Flow, Local4, Source4, Source, Select4, Left}
+use Rattle.call_dispatch.specs.declared.numbered.UnknownCall.{UnknownCall}
 use Rattle.call_reply.specs.Answer.{reply_of}
 
 -- a clock of its low and its high word
@@ -53,10 +57,6 @@ change_at code =
     (cond (eqb code 5) expire_at
     (cond (eqb code 6) add_route4_at del_route4_at)))))
 
--- those of them that write one row at most
-abbrev pub one_at : ℕ → Change
-one_at code = cond (eqb code 2) down_at (cond (eqb code 6) add_route4_at del_route4_at)
-
 -- ---- 9 and 10 find a row, 11 to 14 ask: with three numbers, and the length of the row's buffer or the row handed over
 abbrev pub find_at : ℕ → ℕ → ℕ → ℕ → ℕ → Call
 find_at code room a b c = cond (eqb code 9) (Call.lookup4 room a) (Call.lookup4_flow room a b c)
@@ -75,6 +75,43 @@ call_by code lent a b c room w =
     (cond (leb code 10) (step (find_at code room a b c) w)
     (cond (leb code 14) (step (ask_at code lent a b c) w)
     (record { reply = left_call lent (clock_of a b); words = w }))))
+
+-- ---- the calls that have a number
+abbrev pub code_of : Named → ℕ
+code_of Up = 1
+code_of Down = 2
+code_of AddV4 = 3
+code_of DelV4 = 4
+code_of Expire = 5
+code_of AddRoute4 = 6
+code_of DelRoute4 = 7
+code_of Dump4 = 8
+code_of Lookup4 = 9
+code_of Lookup4Flow = 10
+code_of Local4 = 11
+code_of Source4 = 12
+code_of Source = 13
+code_of Select4 = 14
+code_of Left = 15
+
+unfoldable pub call_of : ℕ → Answer Named UnknownCall
+call_of c =
+    cond (eqb c 1) (Ok Up)
+    (cond (eqb c 2) (Ok Down)
+    (cond (eqb c 3) (Ok AddV4)
+    (cond (eqb c 4) (Ok DelV4)
+    (cond (eqb c 5) (Ok Expire)
+    (cond (eqb c 6) (Ok AddRoute4)
+    (cond (eqb c 7) (Ok DelRoute4)
+    (cond (eqb c 8) (Ok Dump4)
+    (cond (eqb c 9) (Ok Lookup4)
+    (cond (eqb c 10) (Ok Lookup4Flow)
+    (cond (eqb c 11) (Ok Local4)
+    (cond (eqb c 12) (Ok Source4)
+    (cond (eqb c 13) (Ok Source)
+    (cond (eqb c 14) (Ok Select4)
+    (cond (eqb c 15) (Ok Left)
+    (Err (record { 0 = c }))))))))))))))))
 
 -- a call with this result was made on the buffer b: its reply, the state's words and the buffer afterwards
 pub record Did (x : Result) (b : List ℕ) (r : Reply) (w' b' : List ℕ) : Type 0 where

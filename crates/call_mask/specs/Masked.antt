@@ -2,12 +2,12 @@
 -- place of the prefix", and "207 for a mask that isn't good, placed where 202 checks the prefix, before its other causes". Such a call
 -- is the base's, by its own description, with the prefix in the mask's place and one check more.
 -- Assumes nothing.
-use Rattle.std.specs.Prelude.{ℕ, Bool, cond, List, get_or, set}
+use Rattle.std.specs.Prelude.{ℕ, Bool, true, cond, ◌&&◌, List, get_or, set}
 use Rattle.std.specs.Int.Count.{ones}
 use Rattle.lists.specs.Lists.{Row}
 use Rattle.netmask.specs.Netmask.{good, bad_mask}
 use Rattle.definition.specs.Call as Call
-use Rattle.definition.specs.Step.{Result, Semantics, semantics, perform}
+use Rattle.definition.specs.Step.{Result, Checks, Semantics, semantics, perform, request_is, events_fit}
 
 -- the places of the mask: those of the prefix, in the two requests
 abbrev pub add_v4_mask : ℕ
@@ -32,6 +32,15 @@ masked good s =
       lent = s.lent;
       names = s.names;
       action = s.action;
+    }
+
+-- its checks, by a request of so many words with its mask at a place, and the number of its other causes
+abbrev pub mask_checks : (size at : ℕ) → Row → (events request : ℕ) → Checks
+mask_checks size at q events request =
+    record {
+      buffers = request_is size (prefixed at q) && events_fit events;
+      row = true;
+      request = cond (good (mask_at at q)) request bad_mask;
     }
 
 abbrev pub add_v4_masked : Row → ℕ → ℕ → Semantics

@@ -1,16 +1,24 @@
 -- What a call comes to, by its checks and the reference, and what that makes of the answers of those that read.
 -- Assumes nothing.
-use Rattle.std.specs.Prelude.{Ok, Err, ℕ, ◌≡◌, refl, Bool, true, false, cond, ◌&&◌, eqb, length}
-use Rattle.std.proofs.Common.{arith, ap₂, ◌∙◌, ne_eqb, eqb-true}
+use Rattle.std.specs.Prelude.{Ok, Err, ◌≢◌, ℕ, ◌+◌, ◌-◌, ◌*◌, ◌≤◌, ◌<◌, ◌≡◌, refl, Bool, true, false, cond, ◌&&◌, eqb, length, get_or, take, drop}
+use Rattle.std.specs.Prelude.{IsErrAnd}
+use Rattle.std.specs.Prelude.{Result as Answer}
+use Rattle.std.specs.Prelude.{Option as Chosen}
+use Rattle.std.proofs.lemmas.Result.{err_from_is_err_and}
+use denote.Ref.{Bor}
+use Rattle.std.proofs.Common.{subst, arith, ◌∙◌, eqb-true}
 use Rattle.std.proofs.Math.Path.{sym, ap}
-use mathlib.Core.List.{List, append-nil}
+use mathlib.Core.List.{List, [], append-nil}
 use Rattle.std.proofs.Math.Option.{Option}
 use Rattle.std.proofs.lemmas.Bool.{eqb-false}
-use Rattle.lists.specs.Lists.{Row, flat, put}
+use Rattle.lists.specs.Lists.{Row, flat, put, span}
 use Rattle.lists.specs.Put.{put-no-rows}
-use Rattle.lists.specs.Bools.{cond-case}
+use Rattle.lists.specs.Bools.{cond-case, and_left}
+use Rattle.refusal.specs.declared.Refusal.{Refusal}
+use Rattle.refusal.specs.declared.Refusal.TheVariants.{Errno}
+use Rattle.refusal.specs.Refusal.{number_of, Refuses, unless}
 use Rattle.definition.specs.State.{State}
-use Rattle.definition.specs.Words.{base_size, state_size, base, state_of, formed}
+use Rattle.definition.specs.Words.{base_size, state_size, base, state_of, formed, route_count, routes_at}
 use Rattle.definition.specs.Call.{Reply, refusal, valued, written, optionally, found_row}
 use Rattle.definition.specs.Step.{Result, refuses, Checks, Semantics, checked, reading, perform, finding}
 use Rattle.definition.specs.Reference.Lookup as Lookup
@@ -18,37 +26,45 @@ use Rattle.definition.specs.Reference.Lookup.{lookup_in}
 use Rattle.definition.proofs.Preservation.Numbers.{OfFound, lookup-number}
 use Rattle.definition.specs.Preservation.Encode.{Admissible}
 use Rattle.definition.proofs.Preservation.Step.{base-long, good-held, checked-held, checked-passes, acted, perform-case}
+use Rattle.lists.specs.Library.{lent_ok}
+use Rattle.rows_lookup.specs.Answer.{answered}
 use Rattle.rows_source.specs.declared.Selected as Selected
 use Rattle.rows_source.specs.declared.Selected.{Selected}
 use Rattle.rows_source.specs.Selected.{local_in}
-use Rattle.state.specs.Represents.{Represents, RepresentsSome, holds-decode}
-use Rattle.refusal.specs.Refusal.{number_of}
-use Rattle.refusal.specs.declared.Refusal.{Refusal}
-use Rattle.refusal.specs.declared.Refusal.TheVariants.{Errno}
-use Rattle.rows_lookup.specs.Answer.{answered}
-use Rattle.call_read.specs.declared.Found as Found
-use Rattle.call_read.specs.declared.Local as Local
-use Rattle.call_read.specs.declared.Chosen as Chosen
-use Rattle.call_read.specs.declared.Sourced as Sourced
-use Rattle.call_read.specs.declared.Listed as Listed
-use Rattle.call_read.specs.Answer.{Says, Writes, Numbers, numbers, found_by, found_of, found_in, rows_in, local_by, local_of, chosen_by, chosen_of, chosen_for, sourced_by, sourced_of, listed_by, listed_of}
+use Rattle.state.specs.Represents.{Represents, RepresentsSome, holds-decode, count-routes, sizes-valid}
+use Rattle.state.specs.Change.{route-at}
+use Rattle.call_read.specs.Answer.{Says, Writes, Numbers, numbers, found_number, rows_in, chosen, valuing, nothing, flag, optional, refused_by}
 
--- ---- what the code's checks are
-module _ (k : Checks) (w : List ℕ) where
-  pub unfit-lengths : (eqb (length w) state_size && k.buffers) ≡ false → 200 ≡ checked k w
-  unfit-lengths h = rw h
+-- ---- the answers of checks
+-- a request's, by a number that the definition gives it
+pub request : {A : Type 0} (r : Answer A Refusal) {n m : ℕ} → Refuses r n → n ≡ m → Refuses r m
+request r h e = subst (Refuses r) e h
 
-  pub unfit-state : (eqb (length w) state_size && k.buffers) ≡ true → (formed w && k.row) ≡ false → 201 ≡ checked k w
-  unfit-state h i = rw (h, i)
+-- a row's, as the code found it
+pub row-checked : {A : Type 0} (r : Answer A Refusal) (row : Bool) (w : List ℕ) {b : Bool} → b ≡ row → Refuses r (checked (record { buffers = true; row = b; request = 0 }) w)
+    → Refuses r (checked (record { buffers = true; row = row; request = 0 }) w)
+row-checked r row w e h = subst (λ (b : Bool). Refuses r (checked (record { buffers = true; row = b; request = 0 }) w)) e h
 
-  pub fit_so_far : (eqb (length w) state_size && k.buffers) ≡ true → (formed w && k.row) ≡ true → k.request ≡ checked k w
-  fit_so_far h i = rw (h, i)
+module _ {A : Type 0} {r : Answer A Refusal} {n : ℕ} (h : Refuses r n) where
+  -- one that passed has no number, one that refuses has its own
+  pub passes_none : {a : A} → r ≡ Ok a → n ≡ 0
+  passes_none {a} e = subst (λ (x : Answer A Refusal). Refuses x n) e h
 
--- the same checks, by what the code found of the row and of the request
-pub checked_as : (k : Checks) (w : List ℕ) {n request : ℕ} {row : Bool} → n ≡ checked (record { buffers = k.buffers; row = row; request = request }) w
-    → row ≡ k.row → request ≡ k.request → n ≡ checked k w
-checked_as k w c e f =
-    c ∙ ap₂ (λ (r : Bool) (q : ℕ). checked (record { buffers = k.buffers; row = r; request = q }) w) e f
+  pub refuses_some : {e : Refusal} → r ≡ Err e → (number_of e ≡ n) × (n ≢ 0)
+  refuses_some {e} f = subst (λ (x : Answer A Refusal). Refuses x n) f h
+
+-- what the exit of a `?` returns
+pub exit : {A : Type 0} {t : Answer A Refusal} {e : Refusal} → IsErrAnd t (λ x. x ≡ e) → t ≡ Err e
+exit {t = t} h = let y = err_from_is_err_and t h in y.1 ∙ ap Err y.2
+
+-- what passes a test
+pub unless-went : (b : Bool) (e : Refusal) {r : Answer (Unit {0}) Refusal} {a : Unit {0}} → r ≡ Ok a → r ≡ unless b e → b ≡ true
+unless-went true e f g = refl
+unless-went false e {a = a} f g = let h : Ok a ≡ Err e = sym f ∙ g in cc
+
+-- the first check: the words are as many as a state's
+pub state-long : (n : ℕ) (b : Bool) (e : Refusal) {r : Answer (Unit {0}) Refusal} {a : Unit {0}} → r ≡ Ok a → r ≡ unless (eqb n state_size && b) e → n ≡ state_size
+state-long n b e f g = eqb-true n state_size (and_left (eqb n state_size) b (unless-went (eqb n state_size && b) e f g))
 
 -- what passing them tells: the first words hold the state
 pub record Passed (k : Checks) (w : List ℕ) : Type 0 where
@@ -61,12 +77,13 @@ pub record Passed (k : Checks) (w : List ℕ) : Type 0 where
   pub good : Admissible (state_of w)
   pub holds : Represents (base w) (state_of w)
 
-pub passed : (k : Checks) (w : List ℕ) {n : ℕ} → n ≡ checked k w → n ≡ 0 → Passed k w
-passed k w c z =
-    let h = checked-held k w (sym c ∙ z) in
-    let p = checked-passes k w (sym c ∙ z) in
+pub passed : {A : Type 0} (k : Checks) (w : List ℕ) {r : Answer A Refusal} {a : A} → Refuses r (checked k w) → r ≡ Ok a → Passed k w
+passed k w c e =
+    let z = passes_none c e in
+    let h = checked-held k w z in
+    let p = checked-passes k w z in
     record {
-      zero = sym c ∙ z;
+      zero = z;
       long = h.long;
       well = h.well;
       room = p.room;
@@ -103,106 +120,101 @@ reads P k f w refuses answers =
     cond-case P (eqb n 0) (λ e. answers (good-held w (checked-held k w (eqb-true n 0 e)))) (λ e. refuses n (eqb-false n 0 e))
 
 -- ---- the answer to a reply is the answer to an equal one
-module _ {A : Type 0} {by : A → Numbers} {of : Reply → A} {x y : Reply} {r : A} (e : x ≡ y) where
-  says_as : Says by of y r → Says by of x r
-  says_as s = record { answer = s.answer ∙ ap of (sym e); says = s.says ∙ ap numbers (sym e) }
+module _ {A : Type 0} {by : A → Numbers} {x y : Reply} {r : Answer A Refusal} (e : x ≡ y) where
+  says_as : Says by y r → Says by x r
+  says_as s = subst (λ (z : Reply). Says by z r) (sym e) s
 
-  writes_as : {b b' : List ℕ} → Writes by of y b b' r → Writes by of x b b' r
-  writes_as {b} s =
-      record {
-        answer = s.answer ∙ ap of (sym e);
-        says = s.says ∙ ap numbers (sym e);
-        rows = s.rows ∙ ap (λ (z : Reply). put 0 (flat z.rows) b) (sym e);
-      }
+  writes_as : {b b' : List ℕ} → Writes by y b b' r → Writes by x b b' r
+  writes_as {b} {b'} s = subst (λ (z : Reply). Writes by z b b' r) (sym e) s
 
-module _ {A : Type 0} {by : A → Numbers} {of : Reply → A} (s : Semantics) (w : List ℕ) {r : A} where
-  pub says-refused : {n : ℕ} → n ≡ checked s.checks w → (n ≡ 0 → ⊥) → Says by of (refusal n) r → Says by of (perform s w).reply r
-  says-refused c h t = says_as (ap (λ (z : Result). z.reply) (call-refused s w c h)) t
+-- a refusal by the number of a reply
+pub says-refusal : {A : Type 0} {by : A → Numbers} {e : Refusal} {n : ℕ} → (number_of e ≡ n) × (n ≢ 0) → Says {A = A} by (refusal n) (Err e)
+says-refusal h = record { refuses = h; says = ap refused_by h.0 }
 
-  pub says-passed : Passed s.checks w → Says by of (acted s.action w).reply r → Says by of (perform s w).reply r
-  says-passed p t = says_as (ap (λ (z : Result). z.reply) (call-passed s w p)) t
+module _ {A : Type 0} {by : A → Numbers} (s : Semantics) (w : List ℕ) where
+  -- a refusal by the checks
+  pub says-refused : {B : Type 0} {r : Answer B Refusal} {t : Answer A Refusal} {e : Refusal} → Refuses r (checked s.checks w) → r ≡ Err e → IsErrAnd t (λ x. x ≡ e)
+      → Says by (perform s w).reply t
+  says-refused {e = e} c f x =
+      let h = refuses_some c f in
+      let said = says_as (ap (λ (z : Result). z.reply) (call-refused s w refl h.1)) (says-refusal {A = A} {by = by} {e = e} h) in
+      subst (λ (y : Answer A Refusal). Says by (perform s w).reply y) (sym (exit x)) said
 
-  -- a refusal writes nothing
-  pub writes_refused : {n : ℕ} (b : List ℕ) → n ≡ checked s.checks w → (n ≡ 0 → ⊥) → Says by of (refusal n) r → Writes by of (perform s w).reply b b r
-  writes_refused b c h t =
-      writes_as (ap (λ (z : Result). z.reply) (call-refused s w c h)) (record { answer = t.answer; says = t.says; rows = put-no-rows b })
+  -- it writes nothing
+  pub writes_refused : {B : Type 0} {r : Answer B Refusal} {t : Answer A Refusal} {e : Refusal} (b : List ℕ) → Refuses r (checked s.checks w) → r ≡ Err e → IsErrAnd t (λ x. x ≡ e)
+      → Writes by (perform s w).reply b b t
+  writes_refused {e = e} b c f x =
+      let h = refuses_some c f in
+      let said : Says by (refusal (checked s.checks w)) (Err e) = says-refusal {A = A} {by = by} {e = e} h in
+      let all = writes_as (ap (λ (z : Result). z.reply) (call-refused s w refl h.1)) (record { refuses = said.refuses; says = said.says; rows = put-no-rows b }) in
+      subst (λ (y : Answer A Refusal). Writes by (perform s w).reply b b y) (sym (exit x)) all
 
-  pub writes_passed : {b b' : List ℕ} → Passed s.checks w → Writes by of (acted s.action w).reply b b' r → Writes by of (perform s w).reply b b' r
-  writes_passed p t = writes_as (ap (λ (z : Result). z.reply) (call-passed s w p)) t
+  module _ {r : Answer A Refusal} (p : Passed s.checks w) where
+    pub says-passed : Says by (acted s.action w).reply r → Says by (perform s w).reply r
+    says-passed t = says_as (ap (λ (z : Result). z.reply) (call-passed s w p)) t
 
--- ---- the answers of each kind: a refusal's number is not 0, so that its case is the refusal
-module _ (n : ℕ) (h : n ≡ 0 → ⊥) where
-  pub found-refused : Says found_by found_of (refusal n) (Found.TheVariants.Refused n)
-  found-refused = record { answer = rw (ne_eqb n 0 h); says = refl }
+    pub writes_passed : {b b' : List ℕ} → Writes by (acted s.action w).reply b b' r → Writes by (perform s w).reply b b' r
+    writes_passed t = writes_as (ap (λ (z : Result). z.reply) (call-passed s w p)) t
 
-  pub local-refused : Says local_by local_of (refusal n) (Local.TheVariants.Refused n)
-  local-refused = record { answer = rw (ne_eqb n 0 h); says = refl }
+-- ---- the answers of each kind
+pub flag-answer : (b c : Bool) → b ≡ c → Says flag (valued (cond c 1 0)) (Ok b)
+flag-answer b c e = record { refuses = refl; says = ap flag e }
 
-  pub chosen-refused : Says chosen_by chosen_of (refusal n) (Chosen.TheVariants.Refused n)
-  chosen-refused = record { answer = rw (ne_eqb n 0 h); says = refl }
+pub valuing-answer : (a v : ℕ) → a ≡ v → Says valuing (valued v) (Ok a)
+valuing-answer a v e = record { refuses = refl; says = ap valuing e }
 
-  pub sourced_refused : Says sourced_by sourced_of (refusal n) (Sourced.TheVariants.Refused n)
-  sourced_refused = record { answer = rw (ne_eqb n 0 h); says = refl }
+pub optional-answer : (s : Selected) (o : Option ℕ) {r : Chosen ℕ} → r ≡ chosen s → local_in s ≡ o → Says optional (optionally o) (Ok r)
+optional-answer (Selected.TheVariants.Local a) o f e = rw (← e, f) (record { refuses = refl; says = refl })
+optional-answer Selected.TheVariants.Nothing o f e = rw (← e, f) (record { refuses = refl; says = refl })
 
-  pub listed-refused : Says listed_by listed_of (refusal n) (Listed.TheVariants.Refused n)
-  listed-refused = record { answer = rw (ne_eqb n 0 h); says = refl }
-
-pub local-answer : (b c : Bool) → b ≡ c → Says local_by local_of (valued (cond c 1 0)) (Local.TheVariants.Is b)
-local-answer true c e = rw (← e) (record { answer = refl; says = refl })
-local-answer false c e = rw (← e) (record { answer = refl; says = refl })
-
-pub sourced_answer : (a v : ℕ) → a ≡ v → Says sourced_by sourced_of (valued v) (Sourced.TheVariants.Address a)
-sourced_answer a v e = rw (← e) (record { answer = refl; says = refl })
-
-pub chosen-answer : (s : Selected) (o : Option ℕ) {r : Chosen.Chosen} → r ≡ chosen_for s → local_in s ≡ o → Says chosen_by chosen_of (optionally o) r
-chosen-answer (Selected.TheVariants.Local a) o f e = rw (← e, f) (record { answer = refl; says = refl })
-chosen-answer Selected.TheVariants.Nothing o f e = rw (← e, f) (record { answer = refl; says = refl })
-
-pub listed_answer : (l : List Row) {n : ℕ} {b b' : List ℕ} → n ≡ length l → b' ≡ put 0 (flat l) b → Writes listed_by listed_of (written l) b b' (Listed.TheVariants.Rows n)
-listed_answer l e f = record { answer = ap Listed.TheVariants.Rows e; says = ap (λ (v : ℕ). listed_by (Listed.TheVariants.Rows v)) e; rows = f }
+pub listed_answer : (l : List Row) {n : ℕ} {b b' : List ℕ} → n ≡ length l → b' ≡ put 0 (flat l) b → Writes valuing (written l) b b' (Ok n)
+listed_answer l e f = record { refuses = refl; says = ap valuing e; rows = f }
 
 -- ---- lookups: of any flow
-found-same : (x : Lookup.Found) → OfFound x → Says found_by found_of (found_row x) (found_in x)
-found-same (Lookup.route r) e = record { answer = refl; says = refl }
-found-same (Lookup.no_route n) e = found-refused n (λ z. omega (arith, e.positive))
+abbrev pub looking : List ℕ → ℕ → Lookup.Flow → Semantics
+looking row request f = finding (length row) request (λ st. lookup_in st f)
+
+look_answer : (x : Lookup.Found) (r : Answer (Unit {0}) Refusal) → Refuses r (found_number x) → Says nothing (found_row x) r
+look_answer (Lookup.route row) (Ok u) h = record { refuses = h; says = refl }
+look_answer (Lookup.route row) (Err e) h = absurd (h.1 refl)
+look_answer (Lookup.no_route n) (Ok u) h = record { refuses = h; says = rw h }
+look_answer (Lookup.no_route n) (Err e) h = says-refusal h
 
 found_rows : (x : Lookup.Found) → rows_in x ≡ (found_row x).rows
 found_rows (Lookup.route r) = refl
 found_rows (Lookup.no_route n) = refl
 
-abbrev pub looking : List ℕ → ℕ → Lookup.Flow → Semantics
-looking row request f = finding (length row) request (λ st. lookup_in st f)
-
 module _ (w row : List ℕ) (request : ℕ) (f : Lookup.Flow) where
-  pub look-no : {n : ℕ} → n ≡ checked (looking row request f).checks w → (n ≡ 0 → ⊥)
-      → Writes found_by found_of (perform (looking row request f) w).reply row row (Found.TheVariants.Refused n)
-  look-no {n} c h = writes_refused (looking row request f) w row c h (found-refused n h)
-
-  pub look-yes : {r : Found.Found} {row' : List ℕ} → Passed (looking row request f).checks w → r ≡ found_in (lookup_in (state_of w) f)
-      → row' ≡ put 0 (flat (rows_in (lookup_in (state_of w) f))) row → Writes found_by found_of (perform (looking row request f) w).reply row row' r
-  look-yes p e g =
+  pub look-yes : {r : Answer (Unit {0}) Refusal} {row' : List ℕ} → Passed (looking row request f).checks w → Refuses r (found_number (lookup_in (state_of w) f))
+      → row' ≡ put 0 (flat (rows_in (lookup_in (state_of w) f))) row → Writes nothing (perform (looking row request f) w).reply row row' r
+  look-yes {r} p h g =
       let x = lookup_in (state_of w) f in
-      let t = found-same x (lookup-number (state_of w) f) in
+      let t = look_answer x r h in
       writes_passed (looking row request f) w p
-      (record { answer = e ∙ t.answer; says = ap found_by e ∙ t.says; rows = g ∙ ap (λ (l : List Row). put 0 (flat l) row) (found_rows x) })
+      (record { refuses = t.refuses; says = t.says; rows = g ∙ ap (λ (l : List Row). put 0 (flat l) row) (found_rows x) })
 
--- what a lookup over rows answers
-module _ (x : Lookup.Found) where
-  pub look-row : (p row row' : List ℕ) → Ok p ≡ answered x → row' ≡ put 0 p row → (Found.TheVariants.Row ≡ found_in x) × (row' ≡ put 0 (flat (rows_in x)) row)
+-- what a lookup found, by its answer
+pub found : {a : Answer (Bor Row) Refusal} {r : Bor Row} (x : Lookup.Found) → lent_ok a ≡ answered x → a ≡ Ok r → Lookup.route r.now ≡ x
+found {r = r} (Lookup.route p) e k = let same : ◌≡◌ {A = Answer Row Refusal} (Ok r.now) (Ok p) = rw k at e in ap Lookup.route (let is : r.now ≡ p = cc in is)
+found {r = r} (Lookup.no_route n) e k = let bad : ◌≡◌ {A = Answer Row Refusal} (Ok r.now) (Err (Errno n)) = rw k at e in cc
+
+pub missed : {a : Answer (Bor Row) Refusal} {m : Refusal} (x : Lookup.Found) → lent_ok a ≡ answered x → a ≡ Err m → Lookup.no_route (number_of m) ≡ x
+missed {m = m} (Lookup.route p) e k = let bad : ◌≡◌ {A = Answer Row Refusal} (Err m) (Ok p) = rw k at e in cc
+missed {m = m} (Lookup.no_route n) e k =
+    let same : ◌≡◌ {A = Answer Row Refusal} (Err m) (Err (Errno n)) = rw k at e in
+    let is : m ≡ Errno n = cc in
+    ap (λ (y : Refusal). Lookup.no_route (number_of y)) is
+
+-- a row that is found stands in the buffer; a refusal writes nothing
+module _ (st : State) (f : Lookup.Flow) (row : List ℕ) where
+  pub row-found : {r : Row} → Lookup.route r ≡ lookup_in st f → put 0 r row ≡ put 0 (flat (rows_in (lookup_in st f))) row
   unfolding flat
-  look-row p row row' e k = go x e
-    where
-      go : (y : Lookup.Found) → Ok p ≡ answered y → (Found.TheVariants.Row ≡ found_in y) × (row' ≡ put 0 (flat (rows_in y)) row)
-      go (Lookup.route r) f =
-          let same : p ≡ r = cc in
-          (refl, k ∙ ap (λ (z : List ℕ). put 0 z row) (same ∙ sym (append-nil r)))
-      go (Lookup.no_route n) f = cc
+  row-found {r} e = ap (λ (x : List ℕ). put 0 x row) (sym (append-nil r)) ∙ ap (λ (x : Lookup.Found). put 0 (flat (rows_in x)) row) e
 
-  pub look-refused : (e : Refusal) (row : List ℕ) → Err e ≡ answered x → (Found.TheVariants.Refused (number_of e) ≡ found_in x) × (row ≡ put 0 (flat (rows_in x)) row)
-  look-refused e row f = go x f
-    where
-      go : (y : Lookup.Found) → Err e ≡ answered y → (Found.TheVariants.Refused (number_of e) ≡ found_in y) × (row ≡ put 0 (flat (rows_in y)) row)
-      go (Lookup.route r) g = cc
-      go (Lookup.no_route n) g =
-          let same : e ≡ Errno n = cc in
-          rw same (refl, put-no-rows row)
+  pub no-row : {n : ℕ} → Lookup.no_route n ≡ lookup_in st f → row ≡ put 0 (flat (rows_in (lookup_in st f))) row
+  no-row e = put-no-rows row ∙ ap (λ (x : Lookup.Found). put 0 (flat (rows_in x)) row) e
+
+  pub no-row-number : {n : ℕ} → Lookup.no_route n ≡ lookup_in st f → (n ≡ found_number (lookup_in st f)) × (found_number (lookup_in st f) ≢ 0)
+  no-row-number {n} e =
+      let number : n ≡ found_number (lookup_in st f) = ap found_number e in
+      (number, λ z. omega (arith, number, z, (subst OfFound (sym e) (lookup-number st f)).positive))

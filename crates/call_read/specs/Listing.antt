@@ -1,4 +1,4 @@
--- What a listing gives: its case and its numbers say the same, and its rows are few, of 32 words, as many as its value says.
+-- What a listing gives: a refusal's number or one value alone, and its rows are few, of 32 words, as many as its value says.
 -- Assumes nothing.
 use Rattle.std.specs.Prelude.{ℕ, ◌≤◌, ◌<◌, ◌≡◌, refl, true, List, eqb, length}
 use Rattle.std.proofs.Common.{arith, ap, eqb-true}
@@ -9,13 +9,11 @@ use Rattle.definition.specs.Call.{Reply, refusal, written}
 use Rattle.definition.specs.Step.{listing, dump4_call}
 use Rattle.definition.specs.Reference.Source.{dump4}
 use Rattle.definition.proofs.Preservation.Reading.{dump4-listing}
-use Rattle.call_read.specs.Answer.{Numbers, numbers, listed_by, listed_of}
-use Rattle.call_read.specs.declared.Listed.{Listed}
-use Rattle.call_read.specs.declared.Listed.TheVariants.{Rows}
+use Rattle.call_read.specs.Answer.{Numbers, numbers, one_value, valuing}
 use Rattle.call_read.specs.Laws.{reads}
 
 pub record Lists (r : Reply) : Type 0 where
-  pub says : listed_by (listed_of r) ≡ numbers r
+  pub says : one_value r ≡ numbers r
   pub counts : r.value ≡ length r.rows
   pub few : length r.rows ≤ 256
   pub size : sized 32 r.rows ≡ true
@@ -31,11 +29,6 @@ dump4-lists w room =
     let l = dump4-listing (state_of w) g in
     record { says = refl; counts = refl; few = l.0; size = l.1 })
 
--- the count fits a word
-pub listed_small : (d : Listed) (r : Reply) → listed_by d ≡ numbers r → Lists r → (listed_by d).value < 4294967296
-listed_small d r e t =
-    let s : (listed_by d).value ≡ r.value = ap (λ (x : Numbers). x.value) e in
-    omega (arith, t.counts, t.few)
-
-pub listed-rows-small : (d : Listed) (n : ℕ) → d ≡ Rows n → (listed_by d).value < 4294967296 → n < 4294967296
-listed-rows-small d n e h = rw e at h
+-- the count of an answer with its numbers fits a word
+pub count-small : {n : ℕ} {r : Reply} → valuing n ≡ numbers r → Lists r → n < 4294967296
+count-small e t = omega (arith, ap (λ (x : Numbers). x.value) e, t.counts, t.few)

@@ -1,7 +1,8 @@
-// The calls of the host that read a state, on lent words. Each refuses unfit input with a number and then writes nothing.
+// The calls of the host that read a state, on lent words. Each refuses unfit input and then writes nothing.
 #![tactic(auto)]
 
-ghost use Rattle.std.specs.Prelude.{◌≡◌, [], ◌≤◌, ◌<◌, length, get_or};
+ghost use Rattle.std.specs.Prelude.{◌≡◌, ◌≢◌, MatchResult, IsOk, ℕ, [], ◌≤◌, ◌<◌, length, get_or};
+ghost use Rattle.refusal.specs.Refusal.{Refuses};
 ghost use Rattle.lists.specs.Lists.{flat, put};
 ghost use Rattle.rows_lookup.specs.Flow.{flow_of};
 ghost use Rattle.definition.specs.State.{State};
@@ -9,89 +10,74 @@ ghost use Rattle.definition.specs.Words.{route_count};
 ghost use Rattle.definition.specs.Reference.Lookup.{lookup_in};
 ghost use Rattle.definition.specs.Step.{checked, dump4_call, lookup4_call, lookup4_flow_call, local4_call, source4_call, source_call, select4_call};
 ghost use Rattle.state.specs.Represents.{Represents, RepresentsSome};
-ghost use Rattle.call_read.specs.Answer.{Says, Writes, found_by, local_by, chosen_by, sourced_by, found_of, local_of, chosen_of, sourced_of, listed_by, listed_of, found_in, rows_in, chosen_for};
+ghost use Rattle.call_read.specs.Answer.{Says, Writes, nothing, flag, optional, valuing, found_number, rows_in, chosen};
 
 use layout::{BASE_WORDS, LISTING_BUFFER, ROUTE_WORDS, STATE_WORDS};
+use refusal::Refusal;
 use rows_lookup::Flow;
 use rows_source::Selected;
 
-// What a lookup answers; the row stands in the buffer that it was lent.
-#[derive(Clone, Copy)]
-pub enum Found {
-    Refused(u32),
-    Row,
-}
-
-// Whether an address is the loopback's.
-#[derive(Clone, Copy)]
-pub enum Local {
-    Refused(u32),
-    Is(bool),
-}
-
-// The address chosen, if there is one.
-#[derive(Clone, Copy)]
-pub enum Chosen {
-    Refused(u32),
-    Nothing,
-    Address(u32),
-}
-
-// The address that a connection leaves from.
-#[derive(Clone, Copy)]
-pub enum Sourced {
-    Refused(u32),
-    Address(u32),
-}
-
-// What a listing answers: a refusal's number, or how many rows it wrote.
-#[derive(Clone, Copy)]
-pub enum Listed {
-    Refused(u32),
-    Rows(usize),
-}
-
-// The first check that fails gives its number, 0 if none does: lengths, the state with a row handed over, the request.
-pub fn checked(s: &[u32], buffers: bool, handed: bool, request: u32) -> u32
-    ensures { result ≡ checked (record { buffers = buffers; row = handed; request = request }) s.now }
+pub fn asked(n: u32) -> Result<(), Refusal>
+    ensures { Refuses result n }
 {
-    if !((s.len() == STATE_WORDS) & buffers) {
-        return 200;
+    refusal::unless(n == 0, Refusal::Errno(n))
+}
+
+pub fn chosen(s: Selected) -> Option<u32>
+    ensures { result ≡ chosen s }
+{
+    match s {
+        Selected::Local(a) => Some(a),
+        Selected::Nothing => None,
     }
-    if !(state_well_formed::well_formed(&s[..BASE_WORDS]) & handed) {
-        return 201;
-    }
+}
+
+// What every call asks, in order: the lengths of what it is lent, the state with a row handed over, the request.
+pub fn checked<T: Drop>(
+    s: &[u32],
+    buffers: bool,
+    handed: bool,
+    request: Result<T, Refusal>,
+) -> Result<T, Refusal>
+    ensures refuses { (n : ℕ) → Refuses request n → Refuses result (checked (record { buffers = buffers; row = handed; request = n }) s.now) }
+    ensures passes { IsOk result → result ≡ request }
+{
+    refusal::unless((s.len() == STATE_WORDS) & buffers, Refusal::WrongLength)?;
+    refusal::unless(
+        state_well_formed::well_formed(&s[..BASE_WORDS]) & handed,
+        Refusal::Malformed,
+    )?;
     request
 }
 
+// A request of so many words.
+pub fn sized<const N: usize>(q: &[u32]) -> Result<&[u32; N], Refusal>
+    ensures { MatchResult result (λ r. (r.now ≡ q.now) × (length q.now ≡ N)) (λ e. (e ≡ Refusal.WrongLength) × (length q.now ≢ N)) }
+{
+    q.as_array().ok_or(Refusal::WrongLength)
+}
+
 // The route of a flow, copied into the buffer.
-fn look(s: &[u32], row: &mut [u32], f: Flow) -> Found
+fn look(s: &[u32], row: &mut [u32], f: Flow) -> Result<(), Refusal>
     requires { RepresentsSome s.now × (32 ≤ length row.old) }
-    ensures value { (st : State) → Represents s.now st → result ≡ found_in (lookup_in st (flow_of f)) }
+    ensures value { (st : State) → Represents s.now st → Refuses result (found_number (lookup_in st (flow_of f))) }
     ensures row_after { (st : State) → Represents s.now st → row.new ≡ put 0 (flat (rows_in (lookup_in st (flow_of f)))) row.old }
 {
-    match state_read::lookup4_in(s, f) {
-        Ok(r) => {
-            words::store(row, 0, r);
-            Found::Row
-        }
-        Err(error) => Found::Refused(error.number()),
-    }
+    let r = state_read::lookup4_in(s, f)?;
+    words::store(row, 0, r);
+    Ok(())
 }
 
 // The route to a destination, in the row buffer.
-pub fn lookup4(state: &[u32], row: &mut [u32], ip: u32) -> Found
-    ensures { Writes found_by found_of (lookup4_call (length row.old) ip state.now).reply row.old row.new result }
+pub fn lookup4(state: &[u32], row: &mut [u32], ip: u32) -> Result<(), Refusal>
+    ensures { Writes nothing (lookup4_call (length row.old) ip state.now).reply row.old row.new result }
 {
-    let n = checked(state, ROUTE_WORDS <= row.len(), true, 0);
-    if n != 0 {
-        return Found::Refused(n);
-    }
+    checked(state, ROUTE_WORDS <= row.len(), true, Ok(()))?;
     look(
         &state[..BASE_WORDS],
         row,
         Flow {
-            ip: ip,
+            ip,
             tos: 0,
             scope: 0,
             oif: 0,
@@ -100,97 +86,79 @@ pub fn lookup4(state: &[u32], row: &mut [u32], ip: u32) -> Found
 }
 
 // The same for a type of service and a device, 0 for any.
-pub fn lookup4_flow(state: &[u32], row: &mut [u32], ip: u32, tos: u32, oif: u32) -> Found
-    ensures { Writes found_by found_of (lookup4_flow_call (length row.old) ip tos oif state.now).reply row.old row.new result }
+pub fn lookup4_flow(
+    state: &[u32],
+    row: &mut [u32],
+    ip: u32,
+    tos: u32,
+    oif: u32,
+) -> Result<(), Refusal>
+    ensures { Writes nothing (lookup4_flow_call (length row.old) ip tos oif state.now).reply row.old row.new result }
 {
-    let n = checked(
+    checked(
         state,
         ROUTE_WORDS <= row.len(),
         true,
-        request_fit::fit_flow(tos),
-    );
-    if n != 0 {
-        return Found::Refused(n);
-    }
+        asked(request_fit::fit_flow(tos)),
+    )?;
     look(
         &state[..BASE_WORDS],
         row,
         Flow {
-            ip: ip,
-            tos: tos,
+            ip,
+            tos,
             scope: 0,
-            oif: oif,
+            oif,
         },
     )
 }
 
 // Whether the address is the loopback's.
-pub fn local4(state: &[u32], ip: u32) -> Local
-    ensures { Says local_by local_of (local4_call ip state.now).reply result }
+pub fn local4(state: &[u32], ip: u32) -> Result<bool, Refusal>
+    ensures { Says flag (local4_call ip state.now).reply result }
 {
-    let n = checked(state, true, true, 0);
-    if n != 0 {
-        return Local::Refused(n);
-    }
-    Local::Is(state_read::local4(&state[..BASE_WORDS], ip))
+    checked(state, true, true, Ok(()))?;
+    Ok(state_read::local4(&state[..BASE_WORDS], ip))
 }
 
 // The source address for a destination; 127.0.0.1 where there is no other.
-pub fn source(state: &[u32], ip: u32) -> Sourced
-    ensures { Says sourced_by sourced_of (source_call ip state.now).reply result }
+pub fn source(state: &[u32], ip: u32) -> Result<u32, Refusal>
+    ensures { Says valuing (source_call ip state.now).reply result }
 {
-    let n = checked(state, true, true, 0);
-    if n != 0 {
-        return Sourced::Refused(n);
-    }
-    Sourced::Address(state_read::source(&state[..BASE_WORDS], ip))
-}
-
-// The choice as an answer.
-pub fn chosen_for(s: Selected) -> Chosen
-    ensures { result ≡ chosen_for s }
-{
-    match s {
-        Selected::Local(a) => Chosen::Address(a),
-        Selected::Nothing => Chosen::Nothing,
-    }
+    checked(state, true, true, Ok(()))?;
+    Ok(state_read::source(&state[..BASE_WORDS], ip))
 }
 
 // The source address for a route, handed over as any row of words.
-pub fn source4(state: &[u32], row: &[u32], ip: u32) -> Chosen
-    ensures { Says chosen_by chosen_of (source4_call row.now ip state.now).reply result }
+pub fn source4(state: &[u32], row: &[u32], ip: u32) -> Result<Option<u32>, Refusal>
+    ensures { Says optional (source4_call row.now ip state.now).reply result }
 {
-    let n = checked(state, true, row_route::fit_route(row), 0);
-    if n != 0 {
-        return Chosen::Refused(n);
-    }
-    chosen_for(state_read::source4(&state[..BASE_WORDS], row, ip))
+    checked(state, true, row_route::fit_route(row), Ok(()))?;
+    Ok(chosen(state_read::source4(&state[..BASE_WORDS], row, ip)))
 }
 
 // The address that is chosen for a scope, and for a destination if there is one.
-pub fn select4(state: &[u32], dst_present: u32, dst: u32, scope: u32) -> Chosen
-    ensures { Says chosen_by chosen_of (select4_call dst_present dst scope state.now).reply result }
+pub fn select4(
+    state: &[u32],
+    dst_present: u32,
+    dst: u32,
+    scope: u32,
+) -> Result<Option<u32>, Refusal>
+    ensures { Says optional (select4_call dst_present dst scope state.now).reply result }
 {
-    let n = checked(
+    checked(
         state,
         true,
         true,
-        request_fit::fit_select(dst_present, dst, scope),
-    );
-    if n != 0 {
-        return Chosen::Refused(n);
-    }
-    chosen_for(state_read::select4(&state[..BASE_WORDS], dst_present == 1, dst, scope))
+        asked(request_fit::fit_select(dst_present, dst, scope)),
+    )?;
+    Ok(chosen(state_read::select4(&state[..BASE_WORDS], dst_present == 1, dst, scope)))
 }
 
 // The route rows of the listed tables, in the order in which Linux lists tables.
-pub fn dump4(state: &[u32], listing: &mut [u32]) -> Listed
-    ensures { Writes listed_by listed_of (dump4_call (length listing.old) state.now).reply listing.old listing.new result }
+pub fn dump4(state: &[u32], listing: &mut [u32]) -> Result<usize, Refusal>
+    ensures { Writes valuing (dump4_call (length listing.old) state.now).reply listing.old listing.new result }
 {
-    let n = checked(state, LISTING_BUFFER <= listing.len(), true, 0);
-    if n != 0 {
-        return Listed::Refused(n);
-    }
-    let rows = state_read::list(&state[..BASE_WORDS], listing);
-    Listed::Rows(rows)
+    checked(state, LISTING_BUFFER <= listing.len(), true, Ok(()))?;
+    Ok(state_read::list(&state[..BASE_WORDS], listing))
 }

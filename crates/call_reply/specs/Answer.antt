@@ -12,11 +12,6 @@ reply_from n = record { number = n.number; present = n.present; value = n.value;
 abbrev pub reply_of : Call.Reply → Reply
 reply_of r = reply_from (numbers r)
 
--- the numbers of what a netmask says
-abbrev pub prefix_by : Result ℕ Refusal → Numbers
-prefix_by (Err e) = refused_by (number_of e)
-prefix_by (Ok n) = valuing n
-
 -- and back: the numbers that a reply holds
 abbrev pub numbers_in : Reply → Numbers
 numbers_in r = record { number = r.number; present = r.present; value = r.value; second = r.second }

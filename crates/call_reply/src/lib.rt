@@ -1,23 +1,22 @@
 // A call's answer as four numbers, the same for every call.
 #![tactic(auto)]
 
-ghost use Rattle.std.specs.Prelude.{◌≡◌, ◌<◌};
+ghost use Rattle.std.specs.Prelude.{◌≡◌, ◌<◌, ℕ, IfOk, ⊤};
+ghost use Rattle.refusal.specs.Refusal.{number_of};
+ghost use Rattle.definition.specs.Call.{Numbers};
 ghost use Rattle.definition.specs.Step.{unfit};
-ghost use Rattle.call_read.specs.Answer.{found_by, local_by, chosen_by, sourced_by, listed_by};
-ghost use Rattle.call_change.specs.Answer.{done_by};
+ghost use Rattle.call_read.specs.Answer.{answer_by, refused_by, nothing, flag, valuing, optional};
 ghost use Rattle.call_message.specs.Answer.{asked_by};
 ghost use Rattle.row_address.specs.Row.{reply_of as row-address·reply_of};
-ghost use Rattle.call_reply.specs.Answer.{reply_from, reply_of, prefix_by};
+ghost use Rattle.call_reply.specs.Answer.{reply_from, reply_of};
 
-use call_change::Done;
 use call_message::Asked;
-use call_read::{Chosen, Found, Listed, Local, Sourced};
 use refusal::Refusal;
 use row_address::LeftReply;
 
 // The number is 0, or the refusal's number and then the rest is 0.
 #[repr(C)]
-#[derive(Clone, Copy)]
+#[derive(Clone, Copy, Debug, PartialEq, Eq)]
 pub struct Reply {
     pub number: u32,
     pub present: u32,
@@ -25,14 +24,16 @@ pub struct Reply {
     pub second: u32,
 }
 
-pub fn refused(n: u32) -> Reply
-    ensures { result ≡ record { number = n; present = 0; value = 0; second = 0 } }
-{
-    Reply {
-        number: n,
-        present: 0,
-        value: 0,
-        second: 0,
+impl From<Refusal> for Reply {
+    ghost from_gives = { λ e r. r ≡ reply_from (refused_by (number_of e)) };
+
+    fn from(refusal: Refusal) -> Reply {
+        Reply {
+            number: refusal.number(),
+            present: 0,
+            value: 0,
+            second: 0,
+        }
     }
 }
 
@@ -54,45 +55,101 @@ fn valued(v: u32) -> Reply
     }
 }
 
-pub fn found(f: Found) -> Reply
-    ensures { result ≡ reply_from (found_by f) }
-{
-    match f {
-        Found::Refused(n) => refused(n),
-        Found::Row => valued(0),
+// A value that a call answers, as the numbers of a reply.
+pub trait Values {
+    ghost numbers: { Self → Numbers };
+
+    // What it takes for them to fit words.
+    ghost fits: { Self → Type 0 };
+
+    fn values(self) -> Reply
+        requires { fits self }
+        ensures { result ≡ reply_from (numbers self) };
+}
+
+impl Values for () {
+    ghost numbers = { nothing };
+
+    ghost fits = { λ _. ⊤ };
+
+    fn values(self) -> Reply {
+        valued(0)
     }
 }
 
-pub fn local(l: Local) -> Reply
-    ensures { result ≡ reply_from (local_by l) }
-{
-    match l {
-        Local::Refused(n) => refused(n),
-        Local::Is(b) => valued(b as u32),
+impl Values for bool {
+    ghost numbers = { flag };
+
+    ghost fits = { λ _. ⊤ };
+
+    fn values(self) -> Reply {
+        valued(u32::from(self))
     }
 }
 
-pub fn chosen(a: Chosen) -> Reply
-    ensures { result ≡ reply_from (chosen_by a) }
-{
-    match a {
-        Chosen::Refused(n) => refused(n),
-        Chosen::Nothing => valued(0),
-        Chosen::Address(v) => Reply {
+impl Values for u32 {
+    ghost numbers = { valuing };
+
+    ghost fits = { λ _. ⊤ };
+
+    fn values(self) -> Reply {
+        valued(self)
+    }
+}
+
+// How many rows a call wrote: never more than 384.
+impl Values for usize {
+    ghost numbers = { valuing };
+
+    ghost fits = { λ n. n < 4294967296 };
+
+    fn values(self) -> Reply {
+        valued(self as u32)
+    }
+}
+
+impl Values for Option<u32> {
+    ghost numbers = { optional };
+
+    ghost fits = { λ _. ⊤ };
+
+    fn values(self) -> Reply {
+        match self {
+            Some(value) => Reply {
+                number: 0,
+                present: 1,
+                value,
+                second: 0,
+            },
+            None => valued(0),
+        }
+    }
+}
+
+impl Values for Asked {
+    ghost numbers = { asked_by };
+
+    ghost fits = { λ _. ⊤ };
+
+    fn values(self) -> Reply {
+        Reply {
             number: 0,
-            present: 1,
-            value: v,
-            second: 0,
-        },
+            present: 0,
+            value: u32::from(self.kind),
+            second: self.words,
+        }
     }
 }
 
-pub fn sourced(a: Sourced) -> Reply
-    ensures { result ≡ reply_from (sourced_by a) }
-{
-    match a {
-        Sourced::Refused(n) => refused(n),
-        Sourced::Address(v) => valued(v),
+impl Reply {
+    pub fn of<T: Values>(answer: Result<T, Refusal>) -> Reply
+        requires { IfOk answer T.fits }
+        ensures { result ≡ reply_from (answer_by T.numbers answer) }
+    {
+        match answer {
+            Ok(value) => value.values(),
+            Err(refusal) => Reply::from(refusal),
+        }
     }
 }
 
@@ -100,57 +157,12 @@ pub fn remaining(l: LeftReply) -> Reply
     ensures { result ≡ reply_of (row-address·reply_of l) }
 {
     match l {
-        LeftReply::Refused(n) => refused(n),
+        LeftReply::Refused(n) => Reply::from(Refusal::Errno(n)),
         LeftReply::Left { preferred, valid } => Reply {
             number: 0,
             present: 0,
             value: preferred,
             second: valid,
-        },
-    }
-}
-
-// A changing call emits at most 384 events.
-pub fn done(d: Done) -> Reply
-    requires { (done_by d).value < 4294967296 }
-    ensures { result ≡ reply_from (done_by d) }
-{
-    match d {
-        Done::Refused(n) => refused(n),
-        Done::Rows(n) => valued(n as u32),
-    }
-}
-
-// A listing has at most 256 rows.
-pub fn listed(l: Listed) -> Reply
-    requires { (listed_by l).value < 4294967296 }
-    ensures { result ≡ reply_from (listed_by l) }
-{
-    match l {
-        Listed::Refused(n) => refused(n),
-        Listed::Rows(n) => valued(n as u32),
-    }
-}
-
-pub fn prefix(a: Result<u32, Refusal>) -> Reply
-    ensures { result ≡ reply_from (prefix_by a) }
-{
-    match a {
-        Err(refusal) => refused(refusal.number()),
-        Ok(n) => valued(n),
-    }
-}
-
-pub fn asked(a: Result<Asked, Refusal>) -> Reply
-    ensures { result ≡ reply_from (asked_by a) }
-{
-    match a {
-        Err(e) => refused(e.number()),
-        Ok(a) => Reply {
-            number: 0,
-            present: 0,
-            value: u32::from(a.kind),
-            second: a.words,
         },
     }
 }

@@ -16,99 +16,50 @@ const PATTERN: u32 = 2779096485;
 // The most bytes of a message.
 const MOST: usize = 1024;
 
-// The head's first word, "NKM1" in its bytes.
-const MAGIC: u32 = 827149134;
-
-fn say(rt: &impl Print, text: &str) {
-    let _ = print!(rt; "{text}");
+fn say_asked(rt: &impl Print, i: u32, asked: Result<Asked, Refusal>, check: u32) {
+    let _ = match asked {
+        Ok(Asked { kind, words }) => println!(rt; "{i}: type {}, {words} words, check {check}", u32::from(kind)),
+        Err(refusal) => println!(rt; "{i}: {}, check {check}", refusal.number()),
+    };
 }
 
-fn say_asked(rt: &impl Print, asked: Result<Asked, Refusal>) {
-    match asked {
-        Err(e) => {
-            let _ = print!(rt; "{}", e.number());
-        }
-        Ok(asked) => {
-            let _ = print!(rt; "type {}, {} words", u32::from(asked.kind), asked.words);
-        }
-    }
-}
-
-fn say_line(rt: &impl Print, i: u32, asked: Result<Asked, Refusal>, check: u32) {
-    let _ = print!(rt; "{i}: ");
-    say_asked(rt, asked);
-    let _ = print!(rt; ", check {check}\n");
-}
-
-// The reading with so many words of the request lent.
-fn read_lent(message: &[u8], request: &mut [u32], lent: usize, up: u32) -> Result<Asked, Refusal>
-    requires { lent ≤ length request.old }
-{
-    call_message::read(message, &mut request[..lent], up)
-}
-
+// A message, with so many words of the request lent.
 fn replay_message(rt: &impl Print, i: u32, message: &[u8], lent: usize, up: u32)
     requires { lent ≤ 51 }
 {
     let mut request = [PATTERN; ROOM];
-    let asked = read_lent(message, &mut request, lent, up);
-    say_line(rt, i, asked, recorded::check(&request));
+    let asked = call_message::read(message, &mut request[..lent], up);
+    say_asked(rt, i, asked, recorded::check(&request));
 }
 
-// Three words: what begins the list, and each record. False where the input ends sooner.
-fn read_head(input: &mut impl Read, head: &mut [u32; 3]) -> bool {
+// Three words: what begins the list, and each record. None where the input ends sooner.
+fn read_head(input: &mut impl Read) -> Option<[u32; 3]> {
     let mut bytes = [0u8; 12];
-    if input.read_exact(&mut bytes).is_err() {
-        return false;
-    }
-    endian::words_of(&bytes, head);
-    true
-}
-
-// A record behind its head: as many bytes as there is room for. False where the input ends sooner.
-fn replay_bytes(
-    rt: &impl Print,
-    input: &mut impl Read,
-    i: u32,
-    message: &mut [u8],
-    lent: usize,
-    up: u32,
-) -> bool
-    requires { lent ≤ 51 }
-{
-    if input.read_exact(message).is_err() {
-        return false;
-    }
-    replay_message(rt, i, message, lent, up);
-    true
-}
-
-// The next record: the message's bytes, the words that are lent, `up`, and the message. False where there is none.
-fn replay_record(rt: &impl Print, input: &mut impl Read, i: u32) -> bool {
+    input.read_exact(&mut bytes).ok()?;
     let mut head = [0u32; 3];
-    if !read_head(input, &mut head) {
-        return false;
+    endian::words_of(&bytes, &mut head);
+    Some(head)
+}
+
+// The next record: the message's bytes, the words that are lent, `up`, and the message. None where there is no whole one.
+fn replay_record(rt: &impl Print, input: &mut impl Read, i: u32) -> Option<()> {
+    let [bytes, lent, up] = read_head(input)?;
+    let (n, lent) = (bytes as usize, lent as usize);
+    if MOST < n || ROOM < lent {
+        return None;
     }
-    let n = words::wide(head[0]);
-    let lent = words::wide(head[1]);
-    if MOST < n {
-        return false;
-    }
-    if ROOM < lent {
-        return false;
-    }
-    let mut bytes = [0u8; MOST];
-    replay_bytes(rt, input, i, &mut bytes[..n], lent, head[2])
+    let mut message = [0u8; MOST];
+    input.read_exact(&mut message[..n]).ok()?;
+    replay_message(rt, i, &message[..n], lent, up);
+    Some(())
 }
 
 // How many of the records are there.
 fn replay_records(rt: &impl Print, input: &mut impl Read, records: u32) -> u32 {
-    let mut i = 0u32;
-    while i < records {
-        if !replay_record(rt, input, i) {
+    for i in 0..records {
+        if replay_record(rt, input, i).is_none() {
             return i;
         }
-        i += 1;
     }
     records
 }
@@ -118,24 +69,30 @@ fn at_end(input: &mut impl Read) -> bool {
     input.read_exact(&mut byte).is_err()
 }
 
-fn report(rt: &impl Print, input: &mut impl Read, records: u32, there: u32) {
+fn replay_list(rt: &impl Print, input: &mut impl Read, records: u32) {
+    let there = replay_records(rt, input, records);
     let _ = println!(rt; "{there} messages of {records}");
     if !at_end(input) {
-        say(rt, "there is more behind the last record\n");
+        let _ = println!(rt; "there is more behind the last record");
+    }
+}
+
+// How many records the list has, whose first word is "NKM1" in its bytes.
+fn records(input: &mut impl Read) -> Option<u32> {
+    let [magic, _, records] = read_head(input)?;
+    if magic.to_le_bytes() == *b"NKM1" {
+        Some(records)
+    } else {
+        None
     }
 }
 
 fn main(rt: HostRuntime) {
     let mut input = rt.stdin();
-    let mut head = [0u32; 3];
-    if !read_head(&mut input, &mut head) {
-        say(&rt, "no list of messages\n");
-        return;
+    match records(&mut input) {
+        Some(records) => replay_list(&rt, &mut input, records),
+        None => {
+            let _ = println!(&rt; "no list of messages");
+        }
     }
-    if head[0] != MAGIC {
-        say(&rt, "no list of messages\n");
-        return;
-    }
-    let there = replay_records(&rt, &mut input, head[2]);
-    report(&rt, &mut input, head[2], there);
 }

@@ -10,47 +10,43 @@ use recorded::{HELD_WORDS, Verdict, record};
 use std::env::FillError;
 use std::io::Read;
 use std::rt::{Env, Files};
-use std::{fs, str};
+use std::{fmt, fs, io, str};
 
-// Words of as many bytes; false where the input ends sooner.
-fn read_bytes(input: &mut impl Read, bytes: &mut [u8], out: &mut [u32]) -> bool
+// The most words of a record.
+const MOST: usize = 4096;
+
+// The calls' numbers are 1 to 15.
+const CALLS: usize = 16;
+
+// Words of as many bytes; an error where the input ends sooner.
+fn read_bytes(input: &mut impl Read, bytes: &mut [u8], out: &mut [u32]) -> io::Result<()>
     requires { length bytes.old ≤ 4 * length out.old }
 {
-    if input.read_exact(bytes).is_err() {
-        return false;
-    }
+    input.read_exact(bytes)?;
     endian::words_of(bytes, out);
-    true
+    Ok(())
 }
 
-// As many words as there is room for; false where the input ends sooner.
-fn read_words(input: &mut impl Read, out: &mut [u32]) -> bool
+// As many words as there is room for.
+fn read_words(input: &mut impl Read, out: &mut [u32]) -> io::Result<()>
     requires { length out.old ≤ 4096 }
 {
-    let mut bytes = [0u8; 16384];
+    let mut bytes = [0u8; 4 * MOST];
     let k = 4 * out.len();
     read_bytes(input, &mut bytes[..k], out)
 }
 
-// The next record, at the start of the words; how many they are, 0 where there is no record. Its second word says how many.
-fn next(input: &mut impl Read, r: &mut [u32]) -> usize
-    requires { length r.old ≡ 4096 }
-    ensures { (result ≤ length r.new) × (result ≡ length (take result r.new)) }
+// The next record, at the start of the words; how many they are. Its second word says how many.
+fn next(input: &mut impl Read, r: &mut [u32; MOST]) -> Option<usize>
+    ensures { IfSome result (λ n. (n ≤ length r.new) × (n ≡ length (take n r.new))) }
 {
-    if !read_words(input, &mut r[..2]) {
-        return 0;
+    read_words(input, &mut r[..2]).ok()?;
+    let n = r[record::LENGTH] as usize;
+    if n < 2 || MOST < n {
+        return None;
     }
-    let n = words::wide(r[record::LENGTH]);
-    if n < 2 {
-        return 0;
-    }
-    if 4096 < n {
-        return 0;
-    }
-    if !read_words(input, &mut r[2..n]) {
-        return 0;
-    }
-    n
+    read_words(input, &mut r[2..n]).ok()?;
+    Some(n)
 }
 
 // Each word another, so that none is written unseen.
@@ -58,140 +54,112 @@ fn fill(buffer: &mut [u32])
     requires { length buffer.old ≤ event_room }
     ensures { (k : ℕ) → k < length buffer.old → slice_index buffer.new k ≡ 2779054080 + k }
 {
-    let mut i = 0usize;
-    while i < buffer.len() {
+    for i in 0..buffer.len() {
         buffer[i] = 2779054080 + i as u32;
-        i += 1;
     }
 }
 
-fn say(rt: &impl Print, text: &str) {
-    let _ = print!(rt; "{text}");
-}
-
-fn say_call(rt: &impl Print, code: u32) {
+fn name(code: u32) -> &'static str {
     match code {
-        1 => say(rt, "up"),
-        2 => say(rt, "down"),
-        3 => say(rt, "add_v4"),
-        4 => say(rt, "del_v4"),
-        5 => say(rt, "expire"),
-        6 => say(rt, "add_route4"),
-        7 => say(rt, "del_route4"),
-        8 => say(rt, "dump4"),
-        9 => say(rt, "lookup4"),
-        10 => say(rt, "lookup4_flow"),
-        11 => say(rt, "local4"),
-        12 => say(rt, "source4"),
-        13 => say(rt, "source"),
-        14 => say(rt, "select4"),
-        _ => say(rt, "left"),
+        1 => "up",
+        2 => "down",
+        3 => "add_v4",
+        4 => "del_v4",
+        5 => "expire",
+        6 => "add_route4",
+        7 => "del_route4",
+        8 => "dump4",
+        9 => "lookup4",
+        10 => "lookup4_flow",
+        11 => "local4",
+        12 => "source4",
+        13 => "source",
+        14 => "select4",
+        _ => "left",
     }
-}
-
-fn say_record(rt: &impl Print, i: u32, what: &str) {
-    let _ = print!(rt; "record {i}{what}");
-}
-
-// A line for a kind of call that the list has.
-fn say_kind(rt: &impl Print, code: u32, same: u64, other: u64) {
-    if (same == 0) & (other == 0) {
-        return;
-    }
-    say_call(rt, code);
-    let _ = print!(rt; ": {same} as recorded, {other} not\n");
 }
 
 // One more of a kind of call.
-fn count(counts: &mut [u64; 16], code: u32)
+fn count(counts: &mut [u64; CALLS], code: u32)
     ensures { code < 16 → counts.new ≡ slice_set counts.old code ((slice_index counts.old code + 1) % 2 ^ 64) }
 {
-    let k = words::wide(code);
-    if 16 <= k {
-        return;
-    }
-    counts[k] = std::num::wrapping_add_u64(counts[k], 1);
-}
-
-// A record of some words: whether the list can be read on behind it.
-fn iteration(
-    rt: &impl Print,
-    i: u32,
-    record: &[u32],
-    held: &mut [u32; HELD_WORDS],
-    same: &mut [u64; 16],
-    other: &mut [u64; 16],
-) -> bool {
-    let mut buffer = [0u32; EVENT_BUFFER];
-    fill(&mut buffer);
-    let verdict = recorded::judge(record, held, &mut buffer);
-    let code = recorded::code(record);
-    match verdict {
-        Verdict::Damaged => {
-            say_record(rt, i, " is damaged\n");
-            false
-        }
-        Verdict::Other => {
-            say_record(rt, i, ", ");
-            say_call(rt, code);
-            say(rt, ", is not as recorded\n");
-            count(other, code);
-            true
-        }
-        Verdict::Same => {
-            count(same, code);
-            true
-        }
+    let k = code as usize;
+    if k < CALLS {
+        counts[k] = counts[k].wrapping_add(1);
     }
 }
 
-fn step(
-    rt: &impl Print,
-    input: &mut impl Read,
-    i: u32,
-    held: &mut [u32; HELD_WORDS],
-    same: &mut [u64; 16],
-    other: &mut [u64; 16],
-) -> bool {
-    let mut record = [0u32; 4096];
-    let n = next(input, &mut record);
-    if n == 0 {
-        say_record(rt, i, " is not there\n");
-        return false;
-    }
-    iteration(rt, i, &record[..n], held, same, other)
+// Why a list can't be read on.
+#[derive(Clone, Copy)]
+enum Unread {
+    NotThere,
+    Damaged,
 }
 
-// The records one after the other: whether all can be read.
-fn run(
-    rt: &impl Print,
-    input: &mut impl Read,
-    records: u32,
-    held: &mut [u32; HELD_WORDS],
-    same: &mut [u64; 16],
-    other: &mut [u64; 16],
-) -> bool {
-    let mut i = 0u32;
-    while i < records {
-        if !step(rt, input, i, held, same, other) {
-            return false;
+impl fmt::Display for Unread {
+    fn fmt<W: fmt::Write>(&self, f: &mut fmt::Formatter<W>) -> fmt::Result {
+        f.write_str(match self {
+            Unread::NotThere => "not there",
+            Unread::Damaged => "damaged",
+        })
+    }
+}
+
+// What the records so far have left: the words that the calls are made on, and how many of each call are as recorded, how many not.
+#[derive(Drop)]
+struct Replay {
+    held: [u32; HELD_WORDS],
+    same: [u64; CALLS],
+    other: [u64; CALLS],
+}
+
+impl Replay {
+    // A record of some words.
+    fn judge(&mut self, rt: &impl Print, i: u32, record: &[u32]) -> Result<(), Unread> {
+        let mut buffer = [0u32; EVENT_BUFFER];
+        fill(&mut buffer);
+        let code = recorded::code(record);
+        match recorded::judge(record, &mut self.held, &mut buffer) {
+            Verdict::Damaged => return Err(Unread::Damaged),
+            Verdict::Other => {
+                let _ = println!(rt; "record {i}, {}, is not as recorded", name(code));
+                count(&mut self.other, code);
+            }
+            Verdict::Same => count(&mut self.same, code),
         }
-        i += 1;
+        Ok(())
     }
-    true
-}
 
-// A record that was not read is not as recorded.
-fn report(rt: &impl Print, same: &[u64; 16], other: &[u64; 16], records: u32) {
-    let mut total = 0u64;
-    let mut k = 1u32;
-    while k < 16 {
-        say_kind(rt, k, same[k as usize], other[k as usize]);
-        total = std::num::wrapping_add_u64(total, same[k as usize]);
-        k += 1;
+    fn step(&mut self, rt: &impl Print, input: &mut impl Read, i: u32) -> Result<(), Unread> {
+        let mut record = [0u32; MOST];
+        let n = next(input, &mut record).ok_or(Unread::NotThere)?;
+        self.judge(rt, i, &record[..n])
     }
-    let not = std::num::wrapping_sub_u64(records as u64, total);
-    let _ = print!(rt; "{total} calls as recorded, {not} not\n");
+
+    // The records one after the other: whether all can be read.
+    fn run(&mut self, rt: &impl Print, input: &mut impl Read, records: u32) -> bool {
+        for i in 0..records {
+            if let Err(why) = self.step(rt, input, i) {
+                let _ = println!(rt; "record {i} is {why}");
+                return false;
+            }
+        }
+        true
+    }
+
+    // A line for each call that the list has, and one for all. A record that was not read is not as recorded.
+    fn report(&self, rt: &impl Print, records: u32) {
+        let mut total = 0u64;
+        for code in 1..CALLS {
+            let (same, other) = (self.same[code], self.other[code]);
+            if same != 0 || other != 0 {
+                let _ = println!(rt; "{}: {same} as recorded, {other} not", name(code as u32));
+            }
+            total = total.wrapping_add(same);
+        }
+        let not = u64::from(records).wrapping_sub(total);
+        let _ = println!(rt; "{total} calls as recorded, {not} not");
+    }
 }
 
 fn at_end(input: &mut impl Read) -> bool {
@@ -201,37 +169,41 @@ fn at_end(input: &mut impl Read) -> bool {
 
 // A list whose head is right.
 fn replay_records(rt: &impl Print, input: &mut impl Read, records: u32) {
-    let mut held = [0u32; HELD_WORDS];
-    let mut same = [0u64; 16];
-    let mut other = [0u64; 16];
-    let all = run(rt, input, records, &mut held, &mut same, &mut other);
-    report(rt, &same, &other, records);
-    if all {
-        if !at_end(input) {
-            say(rt, "there is more behind the last record\n");
+    let mut replay = Replay {
+        held: [0; HELD_WORDS],
+        same: [0; CALLS],
+        other: [0; CALLS],
+    };
+    let all = replay.run(rt, input, records);
+    replay.report(rt, records);
+    if all && !at_end(input) {
+        let _ = println!(rt; "there is more behind the last record");
+    }
+}
+
+// The list's head: how many records it has.
+fn head(input: &mut impl Read) -> Option<u32> {
+    let mut head = [0u32; 5];
+    read_words(input, &mut head).ok()?;
+    if head[0].to_le_bytes() == *b"NKV2" && head[4] == recorded::check(&head[..4]) {
+        Some(head[3])
+    } else {
+        None
+    }
+}
+
+fn replay_list(rt: &impl Print, input: &mut impl Read) {
+    match head(input) {
+        Some(records) => replay_records(rt, input, records),
+        None => {
+            let _ = println!(rt; "no list of answers");
         }
     }
 }
 
-// The head's first word, "NKV2" in its bytes.
-const MAGIC: u32 = 844516174;
-
-fn replay(rt: &impl Print, input: &mut impl Read) {
-    let mut head = [0u32; 5];
-    if !read_words(input, &mut head) {
-        say(rt, "no list of answers\n");
-        return;
-    }
-    if (head[0] != MAGIC) | (head[4] != recorded::check(&head[..4])) {
-        say(rt, "no list of answers\n");
-        return;
-    }
-    replay_records(rt, input, head[3]);
-}
-
 fn replay_file(rt: &(impl Files + Print + Eprint), path: &str) {
     match fs::open(rt, path) {
-        Ok(mut input) => replay(rt, &mut input),
+        Ok(mut input) => replay_list(rt, &mut input),
         Err(e) => streams::fail(rt, path, &e),
     }
 }
@@ -239,7 +211,7 @@ fn replay_file(rt: &(impl Files + Print + Eprint), path: &str) {
 // An argument that isn't UTF-8 names no file.
 fn replay_argument(rt: &(impl Files + Print + Eprint), argument: &[u8]) {
     let _ = rt.write_all(argument);
-    say(rt, ":\n");
+    let _ = println!(rt; ":");
     match str::from_utf8(argument) {
         Ok(path) => replay_file(rt, path),
         Err(_) => {
@@ -262,7 +234,7 @@ fn argument(rt: &impl Env, i: usize, bytes: &mut [u8; 4096]) -> Option<usize>
 fn main(rt: HostRuntime) {
     let mut bytes = [0u8; 4096];
     if argument(&rt, 1, &mut bytes).is_none() {
-        replay(&rt, &mut rt.stdin());
+        replay_list(&rt, &mut rt.stdin());
         return;
     }
     for i in 1..usize::MAX {

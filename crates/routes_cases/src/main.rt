@@ -14,13 +14,17 @@ fn print(rt: &(impl Files + Print + Eprint), path: &str) {
 }
 
 fn main(rt: HostRuntime) {
-    print(&rt, "empty");
-    print(&rt, "tables");
-    print(&rt, "full");
-    print(&rt, "short");
-    print(&rt, "long");
-    print(&rt, "nothing");
-    print(&rt, "unordered");
-    print(&rt, "kind4");
-    print(&rt, ".");
+    for path in [
+        "empty",
+        "tables",
+        "full",
+        "short",
+        "long",
+        "nothing",
+        "unordered",
+        "kind4",
+        ".",
+    ] {
+        print(&rt, path);
+    }
 }

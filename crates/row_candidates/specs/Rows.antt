@@ -1,7 +1,7 @@
--- The routes of an address, each kind by itself, and rows written behind others.
+-- The routes of an address, each kind by itself.
 -- Assumes nothing.
-use Rattle.std.specs.Prelude.{ℕ, ◌+◌, ◌*◌, ◌≡◌, cond, List, eqb, length}
-use Rattle.lists.specs.Lists.{Row, put, flat}
+use Rattle.std.specs.Prelude.{ℕ, cond, List, [], ◌∷◌, Option, Some, None, eqb}
+use Rattle.lists.specs.Lists.{Row}
 use Rattle.prefix.specs.Mask.{network, broadcast}
 use Rattle.layout.specs.Address as Address
 use Rattle.layout.specs.Address.{address, prefix}
@@ -26,7 +26,7 @@ prefix_routes priority source a = only (has_prefix_route a) (subnet_route priori
 abbrev pub subnet_routes : ℕ → Row → List Row
 subnet_routes source a = only (has_broadcast_routes a) (kernel_route (broadcast (address a) (prefix a)) 32 0 broadcast_kind source)
 
--- behind k rows of 32 words the rows were written, which makes r rows
-pub record Appended (rows : List Row) (k r : ℕ) (before after : List ℕ) : Type 0 where
-  pub count : r ≡ k + length rows
-  pub words : after ≡ put (32 * k) (flat rows) before
+-- the route that there is, as a list
+abbrev pub listed : Option Row → List Row
+listed None = []
+listed (Some r) = r ∷ []

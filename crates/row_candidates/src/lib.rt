@@ -1,195 +1,189 @@
-// The routes that an address brings, and those that go with it, as rows written into a lent block.
+// The routes that an address brings, and those that go with it.
 #![tactic(auto)]
 
-ghost use Rattle.std.specs.Prelude.{◌≡◌, List, ◌+◌, ◌*◌, ◌≤◌, length};
-ghost use Rattle.lists.specs.Lists.{Row, put, flat};
-ghost use Rattle.lists.specs.Laid.{Laid, Lays};
-ghost use Rattle.prefix.specs.Mask.{network};
-ghost use Rattle.layout.specs.Address.{prefix, fit_address};
-ghost use Rattle.definition.specs.Reference.Addresses.{kernel_route, up_routes, candidates};
+ghost use Rattle.std.specs.Prelude.{◌≡◌, List, [], ◌∷◌, ◌++◌, ◌≤◌, ◌<◌, length, take};
+ghost use Rattle.lists.specs.Lists.{Row};
+ghost use Rattle.kind.specs.Kind.{code_of};
+ghost use Rattle.definition.specs.Reference.Addresses.{kernel_route, local_route, up_routes, candidates};
 ghost use Rattle.definition.specs.Reference.Removal.{leaving};
-ghost use Rattle.row_candidates.specs.Rows.{named_routes, prefix_routes, subnet_routes, subnet_route, scope_of, Appended};
+ghost use Rattle.row_candidates.specs.Rows.{named_routes, prefix_routes, subnet_routes, subnet_route, scope_of, listed};
 
-use layout::{ROUTE_WORDS, address};
+use kind::Kind;
+use layout::{AddressRow, ROUTE_WORDS, RouteRow, address, route};
+use rows::Addresses;
+use std::marker::Model;
 
-fn scope_of(kind: u32) -> u32
-    ensures { result ≡ scope_of kind }
-{
-    if kind == layout::KIND_BROADCAST {
-        return layout::SCOPE_LINK;
-    }
-    layout::SCOPE_HOST
+// At most four routes, in order.
+#[derive(Drop)]
+pub struct Block {
+    rows: [RouteRow; 4],
+    count: usize,
 }
 
-// One of the kernel's routes, from the place at on.
-pub fn kernel_route(
-    out: &mut [u32],
-    at: usize,
-    dst: u32,
-    len: u32,
-    priority: u32,
-    kind: u32,
-    source: u32,
-)
-    requires { at + 32 ≤ length out.old }
-    ensures { out.new ≡ put at (kernel_route dst len priority kind source) out.old }
+impl Model for Block {
+    ghost Value = { List Row };
+
+    ghost view = { λ b. take b.count b.rows };
+
+    ghost invariant = { λ b. b.count ≤ 4 };
+}
+
+impl Block {
+    fn new() -> Block
+        ensures { result ≡ [] }
+    {
+        Block {
+            rows: [[0; ROUTE_WORDS]; 4],
+            count: 0,
+        }
+    }
+
+    fn push(&mut self, r: RouteRow)
+        requires { length self.old < 4 }
+        ensures { self.new ≡ self.old ++ r ∷ [] }
+    {
+        self.rows[self.count] = r;
+        self.count += 1;
+    }
+
+    // The route behind the others, if there is one.
+    fn extend(&mut self, r: Option<RouteRow>)
+        requires { length self.old < 4 }
+        ensures { self.new ≡ self.old ++ listed r }
+    {
+        if let Some(r) = r {
+            self.push(r);
+        }
+    }
+
+    // The routes that the address brings while the loopback is up.
+    #[tactic(auto, unfolding(definition::specs::Reference::Addresses::up_routes, definition::specs::Reference::Addresses::prefix_route))]
+    fn extend_up(&mut self, a: &AddressRow, source: u32)
+        requires { length self.old < 2 }
+        ensures { self.new ≡ self.old ++ up_routes source a.now }
+    {
+        self.extend(named_route(a, source));
+        self.extend(prefix_route(a, a[address::PRIORITY], source));
+        self.extend(subnet_route(a, source));
+    }
+
+    pub fn as_slice(&self) -> &[RouteRow]
+        ensures value { result.now ≡ self.now }
+        ensures few { length result.now ≤ 4 }
+    {
+        &self.rows[..self.count]
+    }
+}
+
+fn scope_of(kind: Kind) -> u32
+    ensures { result ≡ scope_of (code_of kind) }
 {
-    let scope = scope_of(kind);
-    let row = [
-        layout::TABLE_LOCAL,
-        dst,
-        len,
-        0,
-        priority,
-        kind,
-        layout::PROTO_KERNEL,
-        scope,
-        1,
-        source,
-        0,
-        0,
-        1,
-        0,
-        0,
-        0,
-        0,
-        0,
-        0,
-        0,
-        0,
-        0,
-        0,
-        0,
-        0,
-        0,
-        0,
-        0,
-        0,
-        0,
-        0,
-        0,
-    ];
-    words::store(out, at, &row);
+    match kind {
+        Kind::Broadcast => layout::SCOPE_LINK,
+        _ => layout::SCOPE_HOST,
+    }
+}
+
+// One of the kernel's routes.
+#[tactic(auto, unfolding(definition::specs::Reference::Addresses::kernel_route, lists::specs::Lists::zeros))]
+pub fn kernel_route(dst: u32, len: u32, priority: u32, kind: Kind, source: u32) -> RouteRow
+    ensures { result ≡ kernel_route dst len priority (code_of kind) source }
+{
+    let mut r = [0; ROUTE_WORDS];
+    r[route::TABLE] = layout::TABLE_LOCAL;
+    r[route::DST] = dst;
+    r[route::LEN] = len;
+    r[route::PRIORITY] = priority;
+    r[route::KIND] = u32::from(kind);
+    r[route::PROTO] = layout::PROTO_KERNEL;
+    r[route::SCOPE] = scope_of(kind);
+    r[route::PREFSRC_PRESENT] = 1;
+    r[route::PREFSRC] = source;
+    r[route::DEVICE] = 1;
+    r
+}
+
+// What an address brings at once.
+#[tactic(auto, unfolding(definition::specs::Reference::Addresses::local_route))]
+fn local_route(a: &AddressRow, source: u32) -> RouteRow
+    ensures { result ≡ local_route source a.now }
+{
+    kernel_route(a[address::LOCAL], 32, 0, Kind::Local, source)
 }
 
 // The prefix route of an address with a priority.
-pub fn prefix_route4(out: &mut [u32], at: usize, a: &[u32], priority: u32, source: u32)
-    requires at_in_bounds { at + 32 ≤ length out.old }
-    requires a_len { (length a.now ≡ 20) × (prefix a.now ≤ 32) }
-    ensures { out.new ≡ put at (subnet_route priority source a.now) out.old }
+pub fn prefix_route4(a: &AddressRow, priority: u32, source: u32) -> RouteRow
+    ensures { result ≡ subnet_route priority source a.now }
 {
     let len = a[address::PREFIX];
     let network = prefix::network4(a[address::ADDRESS], len);
-    kernel_route(out, at, network, len, priority, layout::KIND_LOCAL, source);
+    kernel_route(network, len, priority, Kind::Local, source)
 }
 
-// Behind the k rows that are there: the route of the broadcast address that it names.
-fn append_named(out: &mut [u32], k: usize, a: &[u32], source: u32) -> usize
-    requires k_in_bounds { 32 * k + 32 ≤ length out.old }
-    requires a_len { (length a.now ≡ 20) × (prefix a.now ≤ 32) }
-    ensures lower_bound { (k ≤ result) × (result ≤ k + 1) }
-    ensures appended { Appended (named_routes source a.now) k result out.old out.new }
+// The route of the broadcast address that it names.
+fn named_route(a: &AddressRow, source: u32) -> Option<RouteRow>
+    ensures { listed result ≡ named_routes source a.now }
 {
     if !row_subnet::names_broadcast(a) {
-        return k;
+        return None;
     }
-    kernel_route(
-        out,
-        ROUTE_WORDS * k,
-        a[address::BROADCAST],
-        32,
-        0,
-        layout::KIND_BROADCAST,
-        source,
-    );
-    k + 1
+    Some(kernel_route(a[address::BROADCAST], 32, 0, Kind::Broadcast, source))
 }
 
 // Its prefix route.
-fn append_prefix(out: &mut [u32], k: usize, a: &[u32], priority: u32, source: u32) -> usize
-    requires k_in_bounds { 32 * k + 32 ≤ length out.old }
-    requires a_len { (length a.now ≡ 20) × (prefix a.now ≤ 32) }
-    ensures lower_bound { (k ≤ result) × (result ≤ k + 1) }
-    ensures appended { Appended (prefix_routes priority source a.now) k result out.old out.new }
+fn prefix_route(a: &AddressRow, priority: u32, source: u32) -> Option<RouteRow>
+    ensures { listed result ≡ prefix_routes priority source a.now }
 {
     if !row_subnet::has_prefix_route(a) {
-        return k;
+        return None;
     }
-    prefix_route4(out, ROUTE_WORDS * k, a, priority, source);
-    k + 1
+    Some(prefix_route4(a, priority, source))
 }
 
 // Its subnet's broadcast route.
-fn append_subnet(out: &mut [u32], k: usize, a: &[u32], source: u32) -> usize
-    requires k_in_bounds { 32 * k + 32 ≤ length out.old }
-    requires a_len { (length a.now ≡ 20) × (prefix a.now ≤ 32) }
-    ensures lower_bound { (k ≤ result) × (result ≤ k + 1) }
-    ensures appended { Appended (subnet_routes source a.now) k result out.old out.new }
+fn subnet_route(a: &AddressRow, source: u32) -> Option<RouteRow>
+    ensures { listed result ≡ subnet_routes source a.now }
 {
     if !row_subnet::has_broadcast_routes(a) {
-        return k;
+        return None;
     }
     let last = prefix::broadcast4(a[address::ADDRESS], a[address::PREFIX]);
-    kernel_route(
-        out,
-        ROUTE_WORDS * k,
-        last,
-        32,
-        0,
-        layout::KIND_BROADCAST,
-        source,
-    );
-    k + 1
+    Some(kernel_route(last, 32, 0, Kind::Broadcast, source))
 }
 
 // The routes that it brings while the loopback is up.
-pub fn up_routes(out: &mut [u32], k: usize, a: &[u32], source: u32) -> usize
-    requires k_in_bounds { 32 * k + 96 ≤ length out.old }
-    requires a_len { (length a.now ≡ 20) × (prefix a.now ≤ 32) }
-    ensures lower_bound { (k ≤ result) × (result ≤ k + 3) }
-    ensures appended { Appended (up_routes source a.now) k result out.old out.new }
+pub fn up_routes(a: &AddressRow, source: u32) -> Block
+    ensures { result ≡ up_routes source a.now }
 {
-    let named = append_named(out, k, a, source);
-    let routed = append_prefix(out, named, a, a[address::PRIORITY], source);
-    append_subnet(out, routed, a, source)
+    let mut block = Block::new();
+    block.extend_up(a, source);
+    block
 }
 
-// All of them, in order; the number of rows.
-pub fn candidates(addresses: &[u32], n: usize, a: &[u32], up: bool, out: &mut [u32]) -> usize
-    requires addresses_len { (length addresses.now ≡ 20 * n) × Lays 20 fit_address addresses.now }
-    requires a_len { (length a.now ≡ 20) × (prefix a.now ≤ 32) }
-    requires in_bounds { 128 ≤ length out.old }
-    ensures lower_bound { (1 ≤ result) × (result ≤ 4) }
-    ensures value { (l : List Row) → Laid 20 fit_address addresses.now l → (result ≡ length (candidates l up a.now)) × (out.new ≡ put 0 (flat (candidates l up a.now)) out.old) }
+// All of them, in order.
+#[tactic(auto, unfolding(definition::specs::Reference::Addresses::candidates))]
+pub fn candidates(addresses: Addresses<'_>, a: &AddressRow, up: bool) -> Block
+    ensures { result ≡ candidates addresses.entry.rows.now up a.now }
 {
-    let source = row_subnet::primary_of(addresses, n, a);
-    kernel_route(out, 0, a[address::LOCAL], 32, 0, layout::KIND_LOCAL, source);
-    if !up {
-        return 1;
+    let source = row_subnet::primary_of(addresses, a);
+    let mut block = Block::new();
+    block.push(local_route(a, source));
+    if up {
+        block.extend_up(a, source);
     }
-    up_routes(out, 1, a, source)
+    block
 }
 
-// An address's routes in the order in which they go, each with no priority named; the number of rows.
-pub fn leaving(addresses: &[u32], n: usize, a: &[u32], out: &mut [u32]) -> usize
-    requires addresses_len { (length addresses.now ≡ 20 * n) × Lays 20 fit_address addresses.now }
-    requires a_len { (length a.now ≡ 20) × (prefix a.now ≤ 32) }
-    requires in_bounds { 128 ≤ length out.old }
-    ensures lower_bound { (1 ≤ result) × (result ≤ 4) }
-    ensures value { (l : List Row) → Laid 20 fit_address addresses.now l → (result ≡ length (leaving l a.now)) × (out.new ≡ put 0 (flat (leaving l a.now)) out.old) }
+// An address's routes in the order in which they go, each with no priority named.
+#[tactic(auto, using(crate::specs::Laws::leaving_rows))]
+pub fn leaving(addresses: Addresses<'_>, a: &AddressRow) -> Block
+    ensures { result ≡ leaving addresses.entry.rows.now a.now }
 {
-    let source = row_subnet::primary_of(addresses, n, a);
-    let routed = append_prefix(out, 0, a, 0, source);
-    let named = append_named(out, routed, a, source);
-    let last = append_subnet(out, named, a, source);
-    kernel_route(
-        out,
-        ROUTE_WORDS * last,
-        a[address::LOCAL],
-        32,
-        0,
-        layout::KIND_LOCAL,
-        source,
-    );
-    last + 1
+    let source = row_subnet::primary_of(addresses, a);
+    let mut block = Block::new();
+    block.extend(prefix_route(a, 0, source));
+    block.extend(named_route(a, source));
+    block.extend(subnet_route(a, source));
+    block.push(local_route(a, source));
+    block
 }

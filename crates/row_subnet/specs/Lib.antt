@@ -1,2 +1,1 @@
 pub mod OwnRoutes
-pub mod Laws

@@ -1,133 +1,84 @@
 // Where a requested address stands or goes among those that are there, and the row that it becomes.
 #![tactic(auto)]
 
-ghost use Rattle.std.specs.Prelude.{◌≡◌, true, cond, List, ◌+◌, ◌*◌, ◌≤◌, length};
-ghost use Rattle.lists.specs.Lists.{Row, any};
+ghost use Rattle.std.specs.Prelude.{◌≡◌, true, ◌≤◌, length};
+ghost use Rattle.std.specs.List.{position};
+ghost use Rattle.lists.specs.Lists.{any};
 ghost use Rattle.lists.specs.At.{insert_at};
-ghost use Rattle.lists.specs.Laid.{Laid, Lays};
-ghost use Rattle.lists.specs.Place.{place_of};
-ghost use Rattle.layout.specs.Address.{prefix, fit_address};
+ghost use Rattle.layout.specs.Address.{fit_address};
 ghost use Rattle.layout.specs.Request.{fit_add_v4};
 ghost use Rattle.definition.specs.Reference.Addresses.{same_address, same_subnet, yields, place4, reroutes};
 ghost use Rattle.rows_place.specs.Rows.{fresh_row};
 
-use layout::{ADDRESS_WORDS, add_v4, address};
+use layout::{AddV4, AddressRow, add_v4, address};
 use life::Nanoseconds;
-
-fn choose(b: bool, x: usize, y: usize) -> usize
-    ensures { result ≡ cond b x y }
-{
-    if b {
-        return x;
-    }
-    y
-}
+use rows::Addresses;
 
 // Whether a new primary goes behind an address: a primary of its own scope or a narrower one (a larger number is narrower).
-fn yields(new: &[u32], old: &[u32]) -> bool
-    requires { (length new.now ≡ 20) × (length old.now ≡ 20) }
+fn yields(new: &AddressRow, old: &AddressRow) -> bool
     ensures { result ≡ yields new.now old.now }
 {
-    let second = row_subnet::secondary(old);
-    !second & (new[address::SCOPE] <= old[address::SCOPE])
+    !row_subnet::secondary(old) && new[address::SCOPE] <= old[address::SCOPE]
 }
 
 // The place where a new address goes: a primary behind the last that it yields to, a secondary at the end.
-pub fn place4(addresses: &[u32], n: usize, new: &[u32]) -> usize
-    requires addresses_len { (length addresses.now ≡ 20 * n) × Lays 20 fit_address addresses.now }
-    requires len { length new.now ≡ 20 }
-    ensures upper_bound { result ≤ n }
-    ensures l_value { (l : List Row) → Laid 20 fit_address addresses.now l → place4 new.now l ≡ insert_at result new.now l }
+pub fn place4(addresses: Addresses<'_>, new: &AddressRow) -> usize
+    ensures upper_bound { result ≤ length addresses.entry.rows.now }
+    ensures value { place4 new.now addresses.entry.rows.now ≡ insert_at result new.now addresses.entry.rows.now }
 {
     if row_subnet::secondary(new) {
-        return n;
+        return addresses.rows.len();
     }
-    let mut place = 0usize;
-    let mut i = 0usize;
-    while i < n {
-        let at = ADDRESS_WORDS * i;
-        let goes = yields(new, &addresses[at..at + ADDRESS_WORDS]);
-        i += 1;
-        place = choose(goes, i, place);
+    let mut place = 0;
+    for (i, old) in addresses.rows.iter().enumerate() {
+        if yields(new, old) {
+            place = i + 1;
+        }
     }
     place
 }
 
-// Whether an address is the requested one: the same local address and subnet.
-fn same_address(q: &[u32], old: &[u32]) -> bool
-    requires in_bounds { 14 ≤ length q.now }
-    requires len { (length old.now ≡ 20) × (prefix old.now ≤ 32) }
-    ensures { result ≡ same_address q.now old.now }
+// The place of the requested address, of a request or another row: the one of the same local address and subnet.
+#[tactic(auto, unfolding(definition::specs::Reference::Addresses::same_address))]
+pub fn same_at(addresses: Addresses<'_>, q: &[u32]) -> Option<usize>
+    requires { 14 ≤ length q.now }
+    ensures { result ≡ position (same_address q.now) addresses.entry.rows.now }
 {
-    let same = row_subnet::same_subnet(old, q);
-    (old[address::LOCAL] == q[address::LOCAL]) & same
-}
-
-// The place of the requested address, the number of rows where it isn't there.
-pub fn same_at(addresses: &[u32], n: usize, q: &[u32]) -> usize
-    requires addresses_len { (length addresses.now ≡ 20 * n) × Lays 20 fit_address addresses.now }
-    requires in_bounds { 14 ≤ length q.now }
-    ensures upper_bound { result ≤ n }
-    ensures value { (l : List Row) → Laid 20 fit_address addresses.now l → result ≡ place_of (same_address q.now) l }
-{
-    let mut i = 0usize;
-    while i < n {
-        let at = ADDRESS_WORDS * i;
-        if same_address(q, &addresses[at..at + ADDRESS_WORDS]) {
-            return i;
-        }
-        i += 1;
-    }
-    n
+    addresses.rows.iter().position(|old| {
+        old[address::LOCAL] == q[address::LOCAL] && row_subnet::same_subnet(old, q)
+    })
 }
 
 // Whether some address has the requested subnet.
-fn in_subnet(addresses: &[u32], n: usize, q: &[u32]) -> bool
-    requires addresses_len { (length addresses.now ≡ 20 * n) × Lays 20 fit_address addresses.now }
-    requires in_bounds { 14 ≤ length q.now }
-    ensures { (l : List Row) → Laid 20 fit_address addresses.now l → result ≡ any (λ old. same_subnet old q.now) l }
+fn in_subnet(addresses: Addresses<'_>, q: &AddV4) -> bool
+    ensures { result ≡ any (λ old. same_subnet old q.now) addresses.entry.rows.now }
 {
-    let mut i = 0usize;
-    while i < n {
-        let at = ADDRESS_WORDS * i;
-        if row_subnet::same_subnet(&addresses[at..at + ADDRESS_WORDS], q) {
-            return true;
-        }
-        i += 1;
-    }
-    false
+    addresses
+        .rows
+        .iter()
+        .any(|old| row_subnet::same_subnet(old, q))
 }
 
 // The row that a request becomes: a secondary where an address of its subnet is there.
-pub fn fresh(addresses: &[u32], n: usize, q: &[u32], clock: Nanoseconds, out: &mut [u32])
-    requires addresses_len { (length addresses.now ≡ 20 * n) × Lays 20 fit_address addresses.now }
-    requires q_len { (length q.now ≡ 18) × (fit_add_v4 q.now ≡ true) }
-    requires out_len { length out.old ≡ 20 }
-    ensures out_after { fit_address out.new ≡ true }
-    ensures out_after_2 { (l : List Row) → Laid 20 fit_address addresses.now l → out.new ≡ fresh_row l q.now clock.0 }
+pub fn fresh(addresses: Addresses<'_>, q: &AddV4, clock: Nanoseconds) -> AddressRow
+    requires { fit_add_v4 q.now ≡ true }
+    ensures fits { fit_address result ≡ true }
+    ensures value { result ≡ fresh_row addresses.entry.rows.now q.now clock.0 }
 {
-    let second = in_subnet(addresses, n, q);
-    if !second {
-        row_update::asked(q, clock, out);
-        return;
+    let row = row_update::asked(q, clock);
+    if in_subnet(addresses, q) {
+        return row_update::as_secondary(&row);
     }
-    let mut primary = [0u32; ADDRESS_WORDS];
-    row_update::asked(q, clock, &mut primary);
-    row_update::as_secondary(&primary, out);
+    row
 }
 
 // Whether a request moves an address's prefix route: to another priority, while the loopback is up.
-pub fn reroutes(q: &[u32], old: &[u32]) -> bool
-    requires q_len { length q.now ≡ 18 }
-    requires len { (length old.now ≡ 20) × (prefix old.now ≤ 32) }
+pub fn reroutes(q: &AddV4, old: &AddressRow) -> bool
     ensures { result ≡ reroutes q.now old.now }
 {
-    let second = row_subnet::secondary(old);
-    let without = row_subnet::no_prefix_route(old);
-    let own = row_subnet::own_network(old);
-    (q[add_v4::UP] == 1)
-        & (old[address::PRIORITY] != q[address::PRIORITY])
-        & !second
-        & !without
-        & own
+    q[add_v4::UP] == 1
+        && old[address::PRIORITY] != q[address::PRIORITY]
+        && !row_subnet::secondary(old)
+        && !row_subnet::no_prefix_route(old)
+        && row_subnet::own_network(old)
 }

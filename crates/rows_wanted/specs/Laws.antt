@@ -1,6 +1,6 @@
 -- An address wants a route exactly where the route is one of its candidates, whatever its source and priority.
 -- Assumes nothing.
-use Rattle.std.specs.Prelude.{ℕ, ◌≡◌, refl, Bool, true, false, cond, ◌&&◌, ◌||◌, List, ◌∷◌, ◌++◌, eqb}
+use Rattle.std.specs.Prelude.{◌≡◌, refl, Bool, true, false, cond, ◌&&◌, ◌||◌, List, ◌∷◌, ◌++◌, eqb}
 use Rattle.std.proofs.Common.{arith, sym, ap, ◌∙◌, eqb-true}
 use Rattle.std.proofs.Math.Path.{fun_ext}
 use Rattle.std.proofs.Math.Bool.{and-true, and-false, or-false}
@@ -13,7 +13,7 @@ use Rattle.definition.specs.Reference.Lookup.{local_kind, broadcast_kind}
 use Rattle.definition.specs.Reference.Addresses.{kernel_route, local_route, prefix_route, up_routes, candidates, primary_of, only, names_broadcast}
 use Rattle.definition.specs.Reference.Removal.{same_route, wanted}
 use Rattle.row_subnet.specs.OwnRoutes.{has_prefix_route, has_broadcast_routes}
-use Rattle.rows_wanted.specs.Wants.{wants_local, wants_row}
+use Rattle.rows_wanted.specs.Wants.{wants_row}
 
 -- one of four rows, of which three may be missing
 some_of : (f : Row → Bool) (a b c d : Row) (p q s : Bool)
@@ -49,14 +49,6 @@ wants_candidate l r a =
     sym (some_of (same_route r) (local_route (primary_of l a) a) (kernel_route (Address.broadcast a) 32 0 broadcast_kind (primary_of l a)) (prefix_route (primary_of l a) a) (kernel_route (broadcast (address a) (prefix a)) 32 0 broadcast_kind (primary_of l a)) (names_broadcast a) (has_prefix_route a) (has_broadcast_routes a)
     ∙ by_kind (eqb (kind r) local_kind) (eqb (kind r) broadcast_kind) (eqb (dst r) (local a)) (eqb (dst r) (Address.broadcast a)) (eqb (dst r) (network (address a) (prefix a))) (eqb (dst r) (broadcast (address a) (prefix a))) (eqb (len r) 32) (eqb (len r) (prefix a)) (names_broadcast a) (has_prefix_route a) (has_broadcast_routes a)
     (λ e f. omega (arith, eqb-true (kind r) local_kind e, eqb-true (kind r) broadcast_kind f)))
-
--- what the code asks: another length leaves the own address alone
-pub other_length : (a : Row) (dst len : ℕ) → eqb dst (local a) && eqb len 32 ≡ false → eqb len (prefix a) ≡ false → false ≡ wants_local a dst len
-other_length a dst len e f = rw (e, f, and-false (eqb dst (network (address a) (prefix a))), and-false (has_prefix_route a))
-
-pub same_length : (a : Row) (dst len : ℕ) → eqb dst (local a) && eqb len 32 ≡ false → eqb len (prefix a) ≡ true
-    → has_prefix_route a && eqb dst (network (address a) (prefix a)) ≡ wants_local a dst len
-same_length a dst len e f = rw (e, f, and-true (eqb dst (network (address a) (prefix a))))
 
 -- ---- all of them
 pub wanted-rows : (l : List Row) (r : Row) → any (wants_row r) l ≡ wanted l r

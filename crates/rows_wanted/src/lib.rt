@@ -1,104 +1,70 @@
 // Whether some address wants a route, without a list of the wanted ones: an address is asked directly.
 #![tactic(auto)]
 
-ghost use Rattle.std.specs.Prelude.{◌≡◌, true, List, ◌*◌, ◌≤◌, length};
-ghost use Rattle.lists.specs.Lists.{Row, any};
-ghost use Rattle.lists.specs.Laid.{Laid, Lays};
-ghost use Rattle.layout.specs.Address.{prefix, fit_address};
-ghost use Rattle.layout.specs.Route.{dst, len, kind, fit_route};
+ghost use Rattle.std.specs.Prelude.{◌≡◌};
+ghost use Rattle.lists.specs.Lists.{any};
+ghost use Rattle.layout.specs.Route.{dst, len};
 ghost use Rattle.definition.specs.Reference.Removal.{wanted, dependent_on};
-ghost use Rattle.rows_wanted.specs.Wants.{wants_local, wants_broadcast, wants};
+ghost use Rattle.rows_wanted.specs.Wants.{wants_local, wants_broadcast, wants_row};
 
-use layout::{ADDRESS_WORDS, ROUTE_WORDS, address, route};
+use layout::{AddressRow, RouteRow, address, route};
+use rows::{Addresses, Routes};
 
 // Whether a wants a local route: to its own address or to its network. Most addresses have another length, so that is asked first.
-fn wants_local(a: &[u32], dst: u32, len: u32) -> bool
-    requires { (length a.now ≡ 20) × (prefix a.now ≤ 32) }
-    ensures { result ≡ wants_local a.now dst len }
+fn wants_local(a: &AddressRow, r: &RouteRow) -> bool
+    ensures { result ≡ wants_local a.now (dst r.now) (len r.now) }
 {
-    if (dst == a[address::LOCAL]) & (len == 32) {
+    let to = r[route::DST];
+    let len = r[route::LEN];
+    if to == a[address::LOCAL] && len == 32 {
         return true;
     }
-    if len != a[address::PREFIX] {
-        return false;
-    }
-    let network = prefix::network4(a[address::ADDRESS], a[address::PREFIX]);
-    let brings = row_subnet::has_prefix_route(a);
-    brings & (dst == network)
+    len == a[address::PREFIX]
+        && row_subnet::has_prefix_route(a)
+        && to == prefix::network4(a[address::ADDRESS], len)
 }
 
 // Whether a wants a broadcast route: to the address that it names or to its subnet's last.
-fn wants_broadcast(a: &[u32], dst: u32, len: u32) -> bool
-    requires { (length a.now ≡ 20) × (prefix a.now ≤ 32) }
-    ensures { result ≡ wants_broadcast a.now dst len }
+fn wants_broadcast(a: &AddressRow, r: &RouteRow) -> bool
+    ensures { result ≡ wants_broadcast a.now (dst r.now) (len r.now) }
 {
-    if len != 32 {
-        return false;
-    }
-    let names = row_subnet::names_broadcast(a);
-    let brings = row_subnet::has_broadcast_routes(a);
-    let last = prefix::broadcast4(a[address::ADDRESS], a[address::PREFIX]);
-    (names & (dst == a[address::BROADCAST])) | (brings & (dst == last))
+    let to = r[route::DST];
+    r[route::LEN] == 32
+        && (row_subnet::names_broadcast(a) && to == a[address::BROADCAST]
+            || row_subnet::has_broadcast_routes(a)
+                && to == prefix::broadcast4(a[address::ADDRESS], a[address::PREFIX]))
 }
 
-// Whether a wants a route of this destination, length and kind while the loopback is up. A route of another kind is nobody's.
-pub fn wants(a: &[u32], dst: u32, len: u32, kind: u32) -> bool
-    requires { (length a.now ≡ 20) × (prefix a.now ≤ 32) }
-    ensures { result ≡ wants a.now dst len kind }
+// Whether a wants the route while the loopback is up. A route of another kind is nobody's.
+pub fn wants(a: &AddressRow, r: &RouteRow) -> bool
+    ensures { result ≡ wants_row r.now a.now }
 {
-    if kind == layout::KIND_LOCAL {
-        return wants_local(a, dst, len);
+    match r[route::KIND] {
+        layout::KIND_LOCAL => wants_local(a, r),
+        layout::KIND_BROADCAST => wants_broadcast(a, r),
+        _ => false,
     }
-    if kind == layout::KIND_BROADCAST {
-        return wants_broadcast(a, dst, len);
-    }
-    false
 }
 
 // Whether some address wants the route r.
-pub fn wanted(addresses: &[u32], n: usize, r: &[u32]) -> bool
-    requires addresses_len { (length addresses.now ≡ 20 * n) × Lays 20 fit_address addresses.now }
-    requires r_len { length r.now ≡ 32 }
-    ensures { (l : List Row) → Laid 20 fit_address addresses.now l → result ≡ wanted l r.now }
+pub fn wanted(addresses: Addresses<'_>, r: &RouteRow) -> bool
+    ensures { result ≡ wanted addresses.entry.rows.now r.now }
 {
-    let dst = r[route::DST];
-    let len = r[route::LEN];
-    let kind = r[route::KIND];
-    let mut i = 0usize;
-    while i < n {
-        let at = ADDRESS_WORDS * i;
-        let a = &addresses[at..at + ADDRESS_WORDS];
-        if wants(a, dst, len, kind) {
-            return true;
-        }
-        i += 1;
-    }
-    false
+    addresses.rows.iter().any(|a| wants(a, r))
 }
 
 // Whether a row of table 254 has ip as its preferred source.
-pub fn dependents_from(r: &[u32], ip: u32) -> bool
-    requires { length r.now ≡ 32 }
+pub fn dependents_from(r: &RouteRow, ip: u32) -> bool
     ensures { result ≡ dependent_on ip r.now }
 {
-    (r[route::TABLE] == layout::TABLE_MAIN)
-        & (r[route::PREFSRC_PRESENT] == 1)
-        & (r[route::PREFSRC] == ip)
+    r[route::TABLE] == layout::TABLE_MAIN
+        && r[route::PREFSRC_PRESENT] == 1
+        && r[route::PREFSRC] == ip
 }
 
 // Whether such a row is there.
-pub fn dependents(rows: &[u32], n: usize, ip: u32) -> bool
-    requires { (length rows.now ≡ 32 * n) × Lays 32 fit_route rows.now }
-    ensures { (l : List Row) → Laid 32 fit_route rows.now l → result ≡ any (dependent_on ip) l }
+pub fn dependents(routes: Routes<'_>, ip: u32) -> bool
+    ensures { result ≡ any (dependent_on ip) routes.entry.rows.now }
 {
-    let mut i = 0usize;
-    while i < n {
-        let at = ROUTE_WORDS * i;
-        let r = &rows[at..at + ROUTE_WORDS];
-        if dependents_from(r, ip) {
-            return true;
-        }
-        i += 1;
-    }
-    false
+    routes.rows.iter().any(|r| dependents_from(r, ip))
 }

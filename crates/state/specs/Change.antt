@@ -1,21 +1,21 @@
 -- Words that hold a state, changed at a row: they hold the state changed so.
 -- Assumes nothing.
-use Rattle.std.specs.Prelude.{ℕ, ◌+◌, ◌-◌, ◌*◌, ◌≤◌, ◌<◌, ◌≡◌, Bool, true, get_or}
+use Rattle.std.specs.Prelude.{ℕ, ◌+◌, ◌*◌, ◌≤◌, ◌<◌, ◌≡◌, Bool, true, get_or}
 use Rattle.std.proofs.Math.Path.{refl, ap}
 use Rattle.std.proofs.Common.{sym, ◌∙◌, arith}
 use mathlib.Core.List.{List, [], ◌∷◌, ◌++◌, append-nil, append_assoc}
-use Rattle.std.proofs.Math.ListN.{length, set, length-set, length-append}
+use Rattle.std.proofs.Math.ListN.{length, set, length-append}
 use Rattle.lists.specs.Lists.{Row, all, keep, flat, pad, span, put, zeros}
 use Rattle.lists.specs.All.{all_keep}
-use Rattle.lists.specs.At.{insert_at, remove_at, length-insert_at, length-remove_at, all-insert_at, all-remove_at, all_set, all-at}
+use Rattle.lists.specs.At.{all-at}
 use Rattle.lists.specs.Put.{put_one}
-use Rattle.lists.specs.Region.{row_at, row_insert, row_remove, row_replace, row_retain, region_put, region_span}
+use Rattle.lists.specs.Region.{row_at, row_retain, region_put, region_span}
 use Rattle.layout.specs.Address.{fit_address}
 use Rattle.layout.specs.Route.{fit_route}
 use Rattle.definition.specs.State.{State, with_addresses, with_routes, with_tables}
-use Rattle.definition.specs.Words.{encode, address_count, route_count, table_count, addresses_size, routes_at, routes_size, tables_at}
-use Rattle.definition.specs.Preservation.Fit.{length-address, length-route, sized-routes}
-use Rattle.state.specs.Represents.{Represents, counts, before_routes, before_tables, behind_addresses, encode-addresses, encode-routes, encode-tables, sized_a, sized_r, at_routes, at_tables, count-addresses, count-routes, count-tables, holds-long}
+use Rattle.definition.specs.Words.{encode, table_count, addresses_size, routes_at, routes_size, tables_at}
+use Rattle.definition.specs.Preservation.Fit.{sized-routes}
+use Rattle.state.specs.Represents.{Represents, counts, before_routes, before_tables, behind_addresses, encode-addresses, encode-routes, encode-tables, sized_a, sized_r, at_routes, at_tables, count-tables, holds-long}
 
 module _ {w : List ℕ} {st : State} (h : Represents w st) where
   -- ---- a list becomes another, with its count
@@ -67,91 +67,6 @@ module _ {w : List ℕ} {st : State} (h : Represents w st) where
 
   pub fit-route-at : (i : ℕ) → i < length st.routes → fit_route (span (routes_at + 32 * i) 32 w) ≡ true
   fit-route-at i k = rw (route-at i k) (all-at fit_route i st.routes [] k h.routes_fit)
-
-  -- ---- addresses
-  module _ (i : ℕ) where
-    pub insert_address : (r : Row) → i ≤ length st.addresses → length st.addresses < 64 → fit_address r ≡ true
-        → Represents (set (put (3 + 20 * i) (r ++ span (3 + 20 * i) (20 * (address_count w - i)) w) w) 0 (address_count w + 1)) (with_addresses (insert_at i r st.addresses) st)
-    insert_address r k room f =
-        let rows = insert_at i r st.addresses in
-        let long : length rows ≡ length st.addresses + 1 = length-insert_at i r st.addresses k in
-        let n : address_count w + 1 ≡ length rows = omega (arith, count-addresses h) in
-        let m : i + (address_count w - i) ≡ length st.addresses = omega (arith, count-addresses h) in
-        rw n
-        (addresses_become rows (put (3 + 20 * i) (r ++ span (3 + 20 * i) (20 * (address_count w - i)) w) w) (omega arith) (all-insert_at fit_address i r st.addresses f h.addresses_fit)
-        (ap (λ (x : List ℕ). put (3 + 20 * i) (r ++ span (3 + 20 * i) (20 * (address_count w - i)) x) x) (h.words ∙ encode-addresses st)
-        ∙ row_insert (counts st) (behind_addresses st) addresses_size 3 20 st.addresses refl (sized_a h) room_a i (address_count w - i) r m (length-address r f) (omega arith)))
-
-    pub remove_address : i < length st.addresses
-        → Represents (set (put (3 + 20 * i) (span (3 + 20 * i + 20) (20 * (address_count w - 1 - i)) w ++ zeros 20) w) 0 (address_count w - 1)) (with_addresses (remove_at i st.addresses) st)
-    remove_address k =
-        let rows = remove_at i st.addresses in
-        let long : length rows ≡ length st.addresses - 1 = length-remove_at i st.addresses k in
-        let n : address_count w - 1 ≡ length rows = omega (arith, count-addresses h) in
-        let m : i + 1 + (length rows - i) ≡ length st.addresses = omega (arith, count-addresses h) in
-        rw n
-        (addresses_become rows (put (3 + 20 * i) (span (3 + 20 * i + 20) (20 * (length rows - i)) w ++ zeros 20) w) (omega (arith, h.addresses_within)) (all-remove_at fit_address i st.addresses h.addresses_fit)
-        (ap (λ (x : List ℕ). put (3 + 20 * i) (span (3 + 20 * i + 20) (20 * (length rows - i)) x ++ zeros 20) x) (h.words ∙ encode-addresses st)
-        ∙ row_remove (counts st) (behind_addresses st) addresses_size 3 20 st.addresses refl (sized_a h) room_a i (length rows - i) m))
-
-    pub replace_address : (r : Row) → i < length st.addresses → fit_address r ≡ true → Represents (put (3 + 20 * i) r w) (with_addresses (set st.addresses i r) st)
-    unfolding encode
-    replace_address r k f =
-        let rows = set st.addresses i r in
-        let long : length rows ≡ length st.addresses = length-set st.addresses i r in
-        record {
-          words =
-              ap (put (3 + 20 * i) r) (h.words ∙ encode-addresses st)
-              ∙ row_replace (counts st) (behind_addresses st) addresses_size 3 20 st.addresses refl (sized_a h) room_a i r k (length-address r f)
-              ∙ ap (λ (n : ℕ). n ∷ length st.routes ∷ length st.tables ∷ (pad addresses_size (flat rows) ++ behind_addresses st)) (sym long);
-          addresses_within = omega (arith, h.addresses_within);
-          routes_within = h.routes_within;
-          tables_within = h.tables_within;
-          addresses_fit = all_set fit_address i r st.addresses k f h.addresses_fit;
-          routes_fit = h.routes_fit;
-        }
-
-    -- ---- routes
-    pub insert_route : (r : Row) → i ≤ length st.routes → length st.routes < 256 → fit_route r ≡ true
-        → Represents (set (put (routes_at + 32 * i) (r ++ span (routes_at + 32 * i) (32 * (route_count w - i)) w) w) 1 (route_count w + 1)) (with_routes (insert_at i r st.routes) st)
-    insert_route r k room f =
-        let rows = insert_at i r st.routes in
-        let long : length rows ≡ length st.routes + 1 = length-insert_at i r st.routes k in
-        let n : route_count w + 1 ≡ length rows = omega (arith, count-routes h) in
-        let m : i + (route_count w - i) ≡ length st.routes = omega (arith, count-routes h) in
-        rw n
-        (routes_become rows (put (routes_at + 32 * i) (r ++ span (routes_at + 32 * i) (32 * (route_count w - i)) w) w) (omega arith) (all-insert_at fit_route i r st.routes f h.routes_fit)
-        (ap (λ (x : List ℕ). put (routes_at + 32 * i) (r ++ span (routes_at + 32 * i) (32 * (route_count w - i)) x) x) (h.words ∙ encode-routes st)
-        ∙ row_insert (before_routes st) (pad 32 st.tables) routes_size routes_at 32 st.routes (at_routes h) (sized_r h) room_r i (route_count w - i) r m (length-route r f) (omega arith)))
-
-    pub remove_route : i < length st.routes
-        → Represents (set (put (routes_at + 32 * i) (span (routes_at + 32 * i + 32) (32 * (route_count w - 1 - i)) w ++ zeros 32) w) 1 (route_count w - 1)) (with_routes (remove_at i st.routes) st)
-    remove_route k =
-        let rows = remove_at i st.routes in
-        let long : length rows ≡ length st.routes - 1 = length-remove_at i st.routes k in
-        let n : route_count w - 1 ≡ length rows = omega (arith, count-routes h) in
-        let m : i + 1 + (length rows - i) ≡ length st.routes = omega (arith, count-routes h) in
-        rw n
-        (routes_become rows (put (routes_at + 32 * i) (span (routes_at + 32 * i + 32) (32 * (length rows - i)) w ++ zeros 32) w) (omega (arith, h.routes_within)) (all-remove_at fit_route i st.routes h.routes_fit)
-        (ap (λ (x : List ℕ). put (routes_at + 32 * i) (span (routes_at + 32 * i + 32) (32 * (length rows - i)) x ++ zeros 32) x) (h.words ∙ encode-routes st)
-        ∙ row_remove (before_routes st) (pad 32 st.tables) routes_size routes_at 32 st.routes (at_routes h) (sized_r h) room_r i (length rows - i) m))
-
-    pub replace_route : (r : Row) → i < length st.routes → fit_route r ≡ true → Represents (put (routes_at + 32 * i) r w) (with_routes (set st.routes i r) st)
-    unfolding encode
-    replace_route r k f =
-        let rows = set st.routes i r in
-        let long : length rows ≡ length st.routes = length-set st.routes i r in
-        record {
-          words =
-              ap (put (routes_at + 32 * i) r) (h.words ∙ encode-routes st)
-              ∙ row_replace (before_routes st) (pad 32 st.tables) routes_size routes_at 32 st.routes (at_routes h) (sized_r h) room_r i r k (length-route r f)
-              ∙ ap (λ (n : ℕ). length st.addresses ∷ n ∷ length st.tables ∷ (pad addresses_size (flat st.addresses) ++ (pad routes_size (flat rows) ++ pad 32 st.tables))) (sym long);
-          addresses_within = h.addresses_within;
-          routes_within = omega (arith, h.routes_within);
-          tables_within = h.tables_within;
-          addresses_fit = h.addresses_fit;
-          routes_fit = all_set fit_route i r st.routes k f h.routes_fit;
-        }
 
   -- ---- only some routes, and zeros for the n others
   pub retain_routes : (q : Row → Bool) (n : ℕ) → length (keep q st.routes) + n ≡ length st.routes

@@ -1,3 +1,4 @@
 pub mod Represents
 pub mod Change
 pub mod InUse
+pub mod Held

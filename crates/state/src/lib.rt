@@ -10,10 +10,11 @@ ghost use Rattle.definition.specs.State.{State, with_addresses, with_routes};
 ghost use Rattle.definition.specs.Words.{address_count, route_count, base_size};
 ghost use Rattle.state.specs.Represents.{Represents, RepresentsSome};
 
+mod held;
 mod in_use;
 
 pub use in_use::{addresses, routes};
-use layout::{ADDRESS_COUNT, ADDRESS_WORDS, ADDRESSES_AT, ROUTE_COUNT, ROUTE_WORDS, ROUTES_AT};
+use layout::{ADDRESS_COUNT, AddressRow, ROUTE_COUNT, RouteRow};
 
 pub fn address_count(s: &[u32]) -> usize
     requires { length s.now ≡ base_size }
@@ -30,20 +31,13 @@ pub fn route_count(s: &[u32]) -> usize
 }
 
 // A row before row i.
-pub fn insert_address(s: &mut [u32], i: usize, row: &[u32])
+pub fn insert_address(s: &mut [u32], i: usize, row: &AddressRow)
     requires represents_some { RepresentsSome s.old }
     requires i_bound { (i ≤ address_count s.old) × (address_count s.old < 64) }
     requires row_value { fit_address row.now ≡ true }
     ensures { (st : State) → Represents s.old st → Represents s.new (with_addresses (insert_at i row.now st.addresses) st) }
 {
-    let n = s[ADDRESS_COUNT];
-    words::insert(
-        s,
-        ADDRESSES_AT + ADDRESS_WORDS * i,
-        ADDRESS_WORDS * (words::wide(n) - i),
-        row,
-    );
-    s[ADDRESS_COUNT] = n + 1;
+    held::insert(s, i, row);
 }
 
 // Row i goes.
@@ -52,40 +46,26 @@ pub fn remove_address(s: &mut [u32], i: usize)
     requires i_bound { i < address_count s.old }
     ensures { (st : State) → Represents s.old st → Represents s.new (with_addresses (remove_at i st.addresses) st) }
 {
-    let n = s[ADDRESS_COUNT] - 1;
-    words::remove(
-        s,
-        ADDRESSES_AT + ADDRESS_WORDS * i,
-        ADDRESS_WORDS,
-        ADDRESS_WORDS * (words::wide(n) - i),
-    );
-    s[ADDRESS_COUNT] = n;
+    held::remove::<AddressRow>(s, i);
 }
 
 // Another row in place of row i.
-pub fn replace_address(s: &mut [u32], i: usize, row: &[u32])
+pub fn replace_address(s: &mut [u32], i: usize, row: &AddressRow)
     requires represents_some { RepresentsSome s.old }
     requires i_bound { i < address_count s.old }
     requires row_value { fit_address row.now ≡ true }
     ensures { (st : State) → Represents s.old st → Represents s.new (with_addresses (set st.addresses i row.now) st) }
 {
-    words::store(s, ADDRESSES_AT + ADDRESS_WORDS * i, row);
+    held::replace(s, i, row);
 }
 
-pub fn insert_route(s: &mut [u32], i: usize, row: &[u32])
+pub fn insert_route(s: &mut [u32], i: usize, row: &RouteRow)
     requires represents_some { RepresentsSome s.old }
     requires i_bound { (i ≤ route_count s.old) × (route_count s.old < 256) }
     requires row_value { fit_route row.now ≡ true }
     ensures { (st : State) → Represents s.old st → Represents s.new (with_routes (insert_at i row.now st.routes) st) }
 {
-    let n = s[ROUTE_COUNT];
-    words::insert(
-        s,
-        ROUTES_AT + ROUTE_WORDS * i,
-        ROUTE_WORDS * (words::wide(n) - i),
-        row,
-    );
-    s[ROUTE_COUNT] = n + 1;
+    held::insert(s, i, row);
 }
 
 pub fn remove_route(s: &mut [u32], i: usize)
@@ -93,21 +73,14 @@ pub fn remove_route(s: &mut [u32], i: usize)
     requires i_bound { i < route_count s.old }
     ensures { (st : State) → Represents s.old st → Represents s.new (with_routes (remove_at i st.routes) st) }
 {
-    let n = s[ROUTE_COUNT] - 1;
-    words::remove(
-        s,
-        ROUTES_AT + ROUTE_WORDS * i,
-        ROUTE_WORDS,
-        ROUTE_WORDS * (words::wide(n) - i),
-    );
-    s[ROUTE_COUNT] = n;
+    held::remove::<RouteRow>(s, i);
 }
 
-pub fn replace_route(s: &mut [u32], i: usize, row: &[u32])
+pub fn replace_route(s: &mut [u32], i: usize, row: &RouteRow)
     requires represents_some { RepresentsSome s.old }
     requires i_bound { i < route_count s.old }
     requires row_value { fit_route row.now ≡ true }
     ensures { (st : State) → Represents s.old st → Represents s.new (with_routes (set st.routes i row.now) st) }
 {
-    words::store(s, ROUTES_AT + ROUTE_WORDS * i, row);
+    held::replace(s, i, row);
 }

@@ -1,6 +1,6 @@
 -- Rows retained in place, one after the other.
 -- Assumes nothing.
-use Rattle.std.specs.Prelude.{ℕ, ◌+◌, ◌-◌, ◌*◌, ◌≤◌, ◌<◌, ◌≡◌, refl, Bool, true, cond, ◌&&◌, eqb, length, take, drop, set}
+use Rattle.std.specs.Prelude.{ℕ, ◌+◌, ◌-◌, ◌*◌, ◌≤◌, ◌<◌, ◌≡◌, refl, Bool, true, cond, ◌&&◌, eqb, length, get_or, take, drop, set}
 use Rattle.std.proofs.Common.{sym, ◌∙◌, mul-le-mul_left, add-one, arith, length-append, length-drop, drop_at, drop-drop, eq-eqb, ne_eqb}
 use Rattle.std.proofs.Math.Path.{ap}
 use Rattle.std.proofs.Math.Bool.{false, not, and-true, not-not}
@@ -12,7 +12,9 @@ use Rattle.lists.specs.Count.{length-keep-most}
 use Rattle.lists.specs.Rows.{length-flat, length-chop, sized-chop, chop-pad, length-zeros, length-span}
 use Rattle.lists.specs.Put.{cut, put-behind, put-none, span-put-behind}
 use Rattle.lists.specs.At.{flat_append, flat_cons}
-use Rattle.lists.specs.Chop.{chop-more}
+use Rattle.std.specs.Simd.{first_chunks}
+use Rattle.rows.specs.Rows.{chunks-chop}
+use Rattle.lists.specs.Chop.{chop-more, chop-at}
 use Rattle.layout.specs.Route.{device, scope}
 use Rattle.definition.specs.State.{State, with_routes}
 use Rattle.definition.specs.Words.{route_count, base_size, routes_at, routes_size}
@@ -132,13 +134,12 @@ unfolding disable
 no-disable st e = rw (ne_eqb (length st.addresses) 0 e)
 
 -- ---- a pass over the routes
--- row i, as it is lent
-abbrev pub lent_row : List ℕ → ℕ → List ℕ
-lent_row s i = take (routes_at + 32 * i + 32 - (routes_at + 32 * i)) (drop (routes_at + 32 * i) s)
-
-pub lent-span : (s : List ℕ) (i : ℕ) → lent_row s i ≡ span (routes_at + 32 * i) 32 s
+-- row i, cut from the words as rows
+pub cut-row : (w : List ℕ) (n i : ℕ) → i < n → get_or (first_chunks 32 n (drop routes_at w)) i [] ≡ span (routes_at + 32 * i) 32 w
 unfolding span
-lent-span s i = let whole : routes_at + 32 * i + 32 - (routes_at + 32 * i) ≡ 32 = omega arith in ap (λ (n : ℕ). take n (drop (routes_at + 32 * i) s)) whole
+cut-row w n i h =
+    ap (λ (l : List Row). get_or l i []) (chunks-chop 32 n (drop routes_at w)) ∙ sym (chop-at 32 n (drop routes_at w) i h)
+    ∙ ap (take 32) (drop-drop (32 * i) routes_at w)
 
 -- a row that becomes itself
 pub itself : (s : List ℕ) {i j : ℕ} → i ≡ j → routes_at + 32 * i + 32 ≤ length s → s ≡ put (routes_at + 32 * j) (span (routes_at + 32 * i) 32 s) s
@@ -155,15 +156,11 @@ pub record Turned (p : Row → Bool) (i j : ℕ) (s s' : List ℕ) (r : ℕ) : T
   pub words : s' ≡ cond (p (span (routes_at + 32 * i) 32 s)) (put (routes_at + 32 * j) (span (routes_at + 32 * i) 32 s) s) s
 
 module _ (p : Row → Bool) (i j : ℕ) (s : List ℕ) where
-  pub turned-stays : p (lent_row s i) ≡ true → {s' : List ℕ} {r : ℕ} → r ≡ j + 1 → s' ≡ put (routes_at + 32 * j) (span (routes_at + 32 * i) 32 s) s → Turned p i j s s' r
-  turned-stays e c w =
-      let b : p (span (routes_at + 32 * i) 32 s) ≡ true = ap p (sym (lent-span s i)) ∙ e in
-      record { count = c ∙ sym (rw b); words = w ∙ sym (rw b) }
+  pub turned-stays : p (span (routes_at + 32 * i) 32 s) ≡ true → {s' : List ℕ} {r : ℕ} → r ≡ j + 1 → s' ≡ put (routes_at + 32 * j) (span (routes_at + 32 * i) 32 s) s → Turned p i j s s' r
+  turned-stays e c w = record { count = c ∙ sym (rw e); words = w ∙ sym (rw e) }
 
-  pub turned-goes : p (lent_row s i) ≡ false → Turned p i j s s j
-  turned-goes e =
-      let b : p (span (routes_at + 32 * i) 32 s) ≡ false = ap p (sym (lent-span s i)) ∙ e in
-      record { count = rw b (omega arith); words = sym (rw b) }
+  pub turned-goes : p (span (routes_at + 32 * i) 32 s) ≡ false → Turned p i j s s j
+  turned-goes e = record { count = rw e (omega arith); words = sym (rw e) }
 
 -- of the first i routes of w those that pass, j of them, stand in front
 pub record Keeping (p : Row → Bool) (w : List ℕ) (i j : ℕ) (s : List ℕ) : Type 0 where

@@ -10,20 +10,23 @@ ghost use Rattle.state.specs.Represents.{Represents, RepresentsSome};
 ghost use Rattle.state_retain.specs.Retain.{Turned, remains};
 ghost use Rattle.definition.specs.Words.{base_size, routes_at};
 
-use layout::{ADDRESS_COUNT, ROUTE_COUNT, ROUTE_WORDS, ROUTES_AT, route};
+use layout::{ROUTE_COUNT, ROUTE_WORDS, ROUTES_AT, RouteRow, route};
 
 // Whether a route remains: all do that are not through the device, and with host those of host scope too.
-fn remains(r: &[u32], host: bool) -> bool
-    requires { length r.now ≡ 32 }
+#[tactic(auto, unfolding(crate::specs::Retain::remains))]
+fn remains(r: &RouteRow, host: bool) -> bool
     ensures { result ≡ remains host r.now }
 {
-    if r[route::DEVICE] != 1 {
-        return true;
-    }
-    if host {
-        return r[route::SCOPE] == 254;
-    }
-    false
+    r[route::DEVICE] != 1 || host && r[route::SCOPE] == layout::SCOPE_HOST
+}
+
+// Row i of the routes, whether or not the count reaches it.
+pub fn route_row(s: &[u32], i: usize) -> &RouteRow
+    requires { (length s.now ≡ base_size) × (i < 256) }
+    ensures { result.now ≡ span (routes_at + 32 * i) 32 s.now }
+{
+    let (rows, _) = s[ROUTES_AT..].as_chunks::<ROUTE_WORDS>();
+    &rows[i]
 }
 
 // Row i becomes row j of those that remain: how many they are with it.
@@ -65,9 +68,7 @@ fn iteration(s: &mut [u32], i: usize, j: usize, host: bool) -> usize
     requires { (length s.old ≡ base_size) × (j ≤ i) × (i < 256) }
     ensures { Turned (remains host) i j s.old s.new result }
 {
-    let at = ROUTES_AT + ROUTE_WORDS * i;
-    let end = at + ROUTE_WORDS;
-    if remains(&s[at..end], host) {
+    if remains(route_row(s, i), host) {
         return settle(s, i, j);
     }
     j
@@ -78,12 +79,10 @@ fn retain(s: &mut [u32], host: bool)
     requires { RepresentsSome s.old }
     ensures { (st : State) → Represents s.old st → Represents s.new (with_routes (keep (remains host) st.routes) st) }
 {
-    let n = words::wide(s[ROUTE_COUNT]);
+    let n = state::route_count(s);
     let mut j = 0usize;
-    let mut i = 0usize;
-    while i < n {
+    for i in 0..n {
         j = iteration(s, i, j, host);
-        i += 1;
     }
     close(s, n, j);
 }
@@ -101,7 +100,7 @@ pub fn disable(s: &mut [u32])
     requires { RepresentsSome s.old }
     ensures { (st : State) → Represents s.old st → Represents s.new (disable st).state }
 {
-    if s[ADDRESS_COUNT] == 0 {
+    if state::address_count(s) == 0 {
         retain(s, false);
     }
 }

@@ -10,13 +10,20 @@ ghost use Rattle.state_tables.specs.Listed.{tables_of};
 
 use layout::{TABLE_COUNT, TABLES_AT};
 
+// The words of the tables in use.
+pub fn tables(s: &[u32]) -> &[u32]
+    requires { RepresentsSome s.now }
+    ensures { result.now ≡ tables_of s.now }
+{
+    let end = TABLES_AT + words::wide(s[TABLE_COUNT]);
+    &s[TABLES_AT..end]
+}
+
 pub fn listed(s: &[u32], t: u32) -> bool
     requires { RepresentsSome s.now }
     ensures { result ≡ among t (tables_of s.now) }
 {
-    let n = words::wide(s[TABLE_COUNT]);
-    let e = TABLES_AT + n;
-    words::among(&s[TABLES_AT..e], t)
+    tables(s).contains(&t)
 }
 
 // A table that is not listed goes to the end.
@@ -29,8 +36,7 @@ pub fn add_table(s: &mut [u32], t: u32)
         return;
     }
     let n = s[TABLE_COUNT];
-    let e = TABLES_AT + words::wide(n);
-    s[e] = t;
+    s[TABLES_AT + words::wide(n)] = t;
     s[TABLE_COUNT] = n + 1;
 }
 
@@ -39,10 +45,8 @@ fn with_table(s: &[u32], t: u32) -> usize
     requires { RepresentsSome s.now }
     ensures { result ≡ length (add_table t (tables_of s.now)) }
 {
-    if listed(s, t) {
-        return words::wide(s[TABLE_COUNT]);
-    }
-    words::wide(s[TABLE_COUNT]) + 1
+    let n = tables(s).len();
+    if listed(s, t) { n } else { n + 1 }
 }
 
 // How many tables there are once t is listed, and with 255 also 254: past 32 they have no room.
@@ -50,13 +54,12 @@ pub fn tables_after(s: &[u32], t: u32) -> usize
     requires { RepresentsSome s.now }
     ensures { result ≡ length (list_table t (tables_of s.now)) }
 {
-    if t != layout::TABLE_LOCAL {
-        return with_table(s, t);
+    let n = with_table(s, t);
+    if t == layout::TABLE_LOCAL && !listed(s, layout::TABLE_MAIN) {
+        n + 1
+    } else {
+        n
     }
-    if listed(s, layout::TABLE_MAIN) {
-        return with_table(s, t);
-    }
-    with_table(s, t) + 1
 }
 
 // A table is listed; 255 brings 254 along if that is unlisted.
@@ -65,10 +68,8 @@ pub fn list_table(s: &mut [u32], t: u32)
     requires s_len_bound { length (list_table t (tables_of s.old)) ≤ 32 }
     ensures { (st : State) → Represents s.old st → Represents s.new (create4 t st) }
 {
-    if t != layout::TABLE_LOCAL {
-        add_table(s, t);
-        return;
+    if t == layout::TABLE_LOCAL {
+        add_table(s, layout::TABLE_MAIN);
     }
-    add_table(s, layout::TABLE_MAIN);
     add_table(s, t);
 }

@@ -1,15 +1,15 @@
 -- The tests of words in the order of the code, part by part.
 -- Assumes nothing.
-use Rattle.std.specs.Prelude.{ℕ, ◌+◌, ◌-◌, ◌*◌, ◌≤◌, ◌<◌, ◌≡◌, Bool, ◌&&◌, List, [], leb, length, get_or, take, drop}
+use Rattle.std.specs.Prelude.{ℕ, ◌+◌, ◌-◌, ◌*◌, ◌/◌, ◌≤◌, ◌<◌, ◌≡◌, Bool, ◌&&◌, List, leb, length, get_or, take, drop}
 use Rattle.std.proofs.Math.Path.{refl, sym}
-use Rattle.std.proofs.Common.{ap, ◌∙◌, mul-suc, add-one, arith, le-leb}
+use Rattle.std.proofs.Common.{ap, ◌∙◌, arith, le-leb, length-drop, length-take-le}
+use Rattle.std.proofs.Math.Nat.{mul-div_cancel_left}
+use Rattle.std.specs.Simd.{first_chunks}
+use Rattle.rows.specs.Rows.{chunks-chop}
 use Rattle.std.proofs.Math.Bool.{true, false}
 use Rattle.std.proofs.lemmas.Bool.{lt-leb}
 use Rattle.lists.specs.Lists.{Row, all, span, chop, all_zero}
-use Rattle.lists.specs.Rows.{length-chop, chop-part}
-use Rattle.lists.specs.Next.{all-next}
-use Rattle.lists.specs.Pass.{part-chop}
-use Rattle.lists.specs.Chop.{chop-at}
+use Rattle.lists.specs.Rows.{chop-part}
 use Rattle.layout.specs.Address.{fit_address}
 use Rattle.layout.specs.Route.{fit_route}
 use Rattle.definition.specs.Words.{table_limit, decode, fit_state, unused_zero, well_formed, ordered, distinct, none_twice, addresses_size, base_size, routes_at, routes_size, tables_at}
@@ -55,21 +55,6 @@ module _ (w : List ℕ) where
 part-size : (a k : ℕ) → a + k - a ≡ k
 part-size a k = omega arith
 
-module _ (k n : ℕ) (p : List ℕ) (i : ℕ) where
-  pub row_next : i + 1 < n → take (k * i + k + k - (k * i + k)) (drop (k * i + k) p) ≡ get_or (chop k n p) (i + 1) []
-  row_next h =
-      let at : k * i + k ≡ k * (i + 1) = sym (rw add-one (mul-suc k i)) in
-      ap (λ (m : ℕ). take m (drop (k * i + k) p)) (part-size (k * i + k) k)
-      ∙ ap (λ (m : ℕ). take k (drop m p)) at
-      ∙ chop-at k n p (i + 1) h
-
-  -- row i and the rows behind it
-  pub fit-iteration : (f : Row → Bool) {b : Bool} (t : Bool) → i < n → b ≡ f (take (k * i + k - k * i) (drop (k * i) p)) → b ≡ t
-      → all f (drop i (chop k n p)) ≡ t && all f (drop (i + 1) (chop k n p))
-  fit-iteration f t h eb et =
-      all-next (chop k n p) i [] (omega (arith, length-chop k n p)) f
-      ∙ ap (λ (x : Bool). x && all f (drop (i + 1) (chop k n p))) (ap f (sym (part-chop k n p i h)) ∙ sym eb ∙ et)
-
 pub unused-tests : (w : List ℕ) {a r t : ℕ} {x y z : Bool} → length w ≡ base_size → a ≡ get_or w 0 0 → r ≡ get_or w 1 0 → t ≡ get_or w 2 0
     → x ≡ all_zero (take (routes_at - (3 + 20 * a)) (drop (3 + 20 * a) w)) → y ≡ all_zero (take (tables_at - (routes_at + 32 * r)) (drop (routes_at + 32 * r) w))
     → z ≡ all_zero (take (length w - (tables_at + t)) (drop (tables_at + t) w)) → (x && y && z) ≡ unused_zero w
@@ -80,18 +65,28 @@ unused-tests w {a} {r} {t} l ea er et ex ey ez =
     let st : length w - (tables_at + t) ≡ table_limit - t = omega arith in
     rw (ex, ey, ez, sa, sr, st, ea, er, et)
 
-pub form_parts : (w : List ℕ) {na nr nt : ℕ} {a r n u : Bool} → length w ≡ base_size → na ≡ get_or w 0 0 → nr ≡ get_or w 1 0 → nt ≡ get_or w 2 0 → na ≤ 64 → nr ≤ 256 → nt ≤ 32
-    → a ≡ all fit_address (chop 20 na (take (3 + 20 * na - 3) (drop 3 w)))
-    → r ≡ all fit_route (chop 32 nr (take (routes_at + 32 * nr - routes_at) (drop routes_at w))) && ordered (chop 32 nr (take (routes_at + 32 * nr - routes_at) (drop routes_at w))) && distinct (chop 32 nr (take (routes_at + 32 * nr - routes_at) (drop routes_at w)))
+-- rows cut from the words, as the code lends them
+cut : (at k n : ℕ) (w : List ℕ) (l : List Row) → 0 < k → at + k * n ≤ length w → l ≡ first_chunks k (length (take (at + k * n - at) (drop at w)) / k) (take (at + k * n - at) (drop at w)) → l ≡ chop k n (drop at w)
+unfolding span
+cut at k n w l p b e =
+    let part : take (at + k * n - at) (drop at w) ≡ take (k * n) (drop at w) = ap (λ (m : ℕ). take m (drop at w)) (part-size at (k * n)) in
+    let long : length (take (k * n) (drop at w)) ≡ k * n = length-take-le (k * n) (drop at w) (rw length-drop (omega arith)) in
+    let many : length (take (k * n) (drop at w)) / k ≡ n = ap (λ (m : ℕ). m / k) long ∙ mul-div_cancel_left n p in
+    e
+    ∙ ap (λ (x : List ℕ). first_chunks k (length x / k) x) part
+    ∙ ap (λ (m : ℕ). first_chunks k m (take (k * n) (drop at w))) many
+    ∙ chunks-chop k n (take (k * n) (drop at w))
+    ∙ chop-part at k n w b
+
+pub form_parts : (w : List ℕ) {na nr nt : ℕ} {la lr : List Row} {a r n u : Bool} → length w ≡ base_size → na ≡ get_or w 0 0 → nr ≡ get_or w 1 0 → nt ≡ get_or w 2 0 → na ≤ 64 → nr ≤ 256 → nt ≤ 32
+    → la ≡ first_chunks 20 (length (take (3 + 20 * na - 3) (drop 3 w)) / 20) (take (3 + 20 * na - 3) (drop 3 w))
+    → lr ≡ first_chunks 32 (length (take (routes_at + 32 * nr - routes_at) (drop routes_at w)) / 32) (take (routes_at + 32 * nr - routes_at) (drop routes_at w))
+    → a ≡ all fit_address la → r ≡ all fit_route lr && ordered lr && distinct lr
     → n ≡ none_twice (take (tables_at + nt - tables_at) (drop tables_at w)) → u ≡ unused_zero w → (a && r && n && u) ≡ well_formed w
 unfolding span
-form_parts w {na} {nr} {nt} l ea er et xa xr xt fa fr fn fu =
-    let pa : chop 20 na (take (3 + 20 * na - 3) (drop 3 w)) ≡ chop 20 na (drop 3 w) =
-    ap (λ (m : ℕ). chop 20 na (take m (drop 3 w))) (part-size 3 (20 * na)) ∙ chop-part 3 20 na w (omega arith)
-    in
-    let pr : chop 32 nr (take (routes_at + 32 * nr - routes_at) (drop routes_at w)) ≡ chop 32 nr (drop routes_at w) =
-    ap (λ (m : ℕ). chop 32 nr (take m (drop routes_at w))) (part-size routes_at (32 * nr)) ∙ chop-part routes_at 32 nr w (omega arith)
-    in
+form_parts w {na} {nr} {nt} {la} {lr} l ea er et xa xr xt ca cr fa fr fn fu =
+    let pa : la ≡ chop 20 na (drop 3 w) = cut 3 20 na w la (omega arith) (omega arith) ca in
+    let pr : lr ≡ chop 32 nr (drop routes_at w) = cut routes_at 32 nr w lr (omega arith) (omega arith) cr in
     form_tests w (omega arith) (omega arith) (omega arith)
     (rw (pa, ea) at fa)
     (rw (pr, er) at fr)

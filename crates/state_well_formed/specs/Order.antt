@@ -1,19 +1,16 @@
 -- Routes are in order where each is in order with the next one, and in that order equal rows stand in one run.
 -- Assumes nothing.
-use Rattle.std.specs.Prelude.{ℕ, suc, ◌+◌, ◌-◌, ◌*◌, ◌≤◌, ◌<◌, ◌≡◌, refl, Bool, true, false, not, ◌&&◌, List, [], ◌∷◌, length, get_or, take, drop}
+use Rattle.std.specs.Prelude.{ℕ, suc, ◌+◌, ◌-◌, ◌≤◌, ◌<◌, ◌≡◌, refl, Bool, true, false, not, ◌&&◌, List, [], ◌∷◌, length, get_or, drop}
 use Rattle.std.proofs.Common.{sym, ap, ◌∙◌, add-one, arith, drop-cons, drop-drop}
 use Rattle.std.proofs.Math.Bool.{and-false}
 use Rattle.std.proofs.lemmas.Bool.{not-true}
-use Rattle.lists.specs.Lists.{Row, all, pairwise, eq_row, chop}
-use Rattle.lists.specs.Rows.{length-chop}
+use Rattle.lists.specs.Lists.{Row, all, pairwise, eq_row}
 use Rattle.lists.specs.Bools.{and_both, fails, false-not, not_so}
 use Rattle.lists.specs.All.{all_mono, all_cons, pairwise-head, eq_row-true}
-use Rattle.lists.specs.Next.{all-next, pairwise-next, pairwise-end}
+use Rattle.lists.specs.Next.{pairwise-next, pairwise-end}
 use Rattle.lists.specs.Split.{pairwise_drop}
-use Rattle.lists.specs.Pass.{part-chop}
 use Rattle.layout.specs.Route.{before}
 use Rattle.definition.specs.Words.{ordered, distinct}
-use Rattle.state_well_formed.specs.Look.{row_next}
 use Rattle.definition.specs.Preservation.Order.{before-never, before-after, before-alike, level-alike}
 
 -- not before: the relation of the order
@@ -87,33 +84,6 @@ past-run rows a j o h e =
     rw (drop-cons rows j [] h)
     (all_mono (λ x. not (before x b)) (λ x. not (eq_row a x)) (b ∷ tail) (apart_of a b e)
     (all_cons (λ x. not (before x b)) b tail (not_so (before b b) (λ g. before-never b b g g)) (pairwise-head (λ x y. not (before y x)) b tail f)))
-
--- ---- the rows as parts of words
-module _ (n : ℕ) (p : List ℕ) (i : ℕ) where
-  pub order-iteration : {b : Bool} (t : Bool) → i + 1 < n → b ≡ before (take (32 * i + 32 + 32 - (32 * i + 32)) (drop (32 * i + 32) p)) (take (32 * i + 32 - 32 * i) (drop (32 * i) p)) → b ≡ t
-      → before (get_or (chop 32 n p) (i + 1) []) (get_or (chop 32 n p) i []) ≡ t
-  order-iteration t h eb et = sym (rw (row_next 32 n p i h, part-chop 32 n p i (omega arith)) at eb) ∙ et
-
-  module _ (j : ℕ) (h : i < n) (k : j < n) where
-    pub two-before : {b : Bool} (t : Bool) → b ≡ before (take (32 * i + 32 - 32 * i) (drop (32 * i) p)) (take (32 * j + 32 - 32 * j) (drop (32 * j) p)) → b ≡ t
-        → before (get_or (chop 32 n p) i []) (get_or (chop 32 n p) j []) ≡ t
-    two-before t eb et =
-        ap (λ (r : Row). before r (get_or (chop 32 n p) j [])) (sym (part-chop 32 n p i h))
-        ∙ ap (before (take (32 * i + 32 - 32 * i) (drop (32 * i) p))) (sym (part-chop 32 n p j k))
-        ∙ sym eb
-        ∙ et
-
-    pub two-same : {b : Bool} (t : Bool) → b ≡ eq_row (take (32 * i + 32 - 32 * i) (drop (32 * i) p)) (take (32 * j + 32 - 32 * j) (drop (32 * j) p)) → b ≡ t
-        → all (λ (x : Row). not (eq_row (get_or (chop 32 n p) i []) x)) (drop j (chop 32 n p)) ≡ not t && all (λ (x : Row). not (eq_row (get_or (chop 32 n p) i []) x)) (drop (j + 1) (chop 32 n p))
-    two-same t eb et =
-        let same : eq_row (get_or (chop 32 n p) i []) (get_or (chop 32 n p) j []) ≡ t =
-        ap (λ (r : Row). eq_row r (get_or (chop 32 n p) j [])) (sym (part-chop 32 n p i h))
-        ∙ ap (eq_row (take (32 * i + 32 - 32 * i) (drop (32 * i) p))) (sym (part-chop 32 n p j k))
-        ∙ sym eb
-        ∙ et
-        in
-        all-next (chop 32 n p) j [] (omega (arith, length-chop 32 n p)) (λ (x : Row). not (eq_row (get_or (chop 32 n p) i []) x))
-        ∙ ap (λ (b : Bool). not b && all (λ (x : Row). not (eq_row (get_or (chop 32 n p) i []) x)) (drop (j + 1) (chop 32 n p))) same
 
 pub distinct-iteration : (rows : List Row) (i : ℕ) {b : Bool} (t : Bool) → i < length rows → b ≡ all (λ (x : Row). not (eq_row (get_or rows i []) x)) (drop (i + 1) rows) → b ≡ t
     → distinct (drop i rows) ≡ t && distinct (drop (i + 1) rows)

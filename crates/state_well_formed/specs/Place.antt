@@ -1,16 +1,13 @@
 -- Each row in its place: in order with the next one, and none of those behind it, as a row before the next one is.
 -- Assumes nothing.
-use Rattle.std.specs.Prelude.{ℕ, ◌+◌, ◌-◌, ◌*◌, ◌≤◌, ◌<◌, ◌≡◌, refl, Bool, true, false, not, ◌&&◌, List, [], length, get_or, take, drop}
+use Rattle.std.specs.Prelude.{ℕ, ◌+◌, ◌≤◌, ◌<◌, ◌≡◌, refl, Bool, true, false, not, ◌&&◌, List, [], length, get_or, drop}
 use Rattle.std.proofs.Common.{sym, ◌∙◌, arith}
 use Rattle.std.proofs.Math.Bool.{and_assoc, and-false}
-use Rattle.lists.specs.Lists.{Row, all, eq_row, chop}
-use Rattle.lists.specs.Rows.{length-chop}
+use Rattle.lists.specs.Lists.{Row, all, eq_row}
 use Rattle.lists.specs.Bools.{fails, test-case}
-use Rattle.lists.specs.Pass.{part-chop}
 use Rattle.layout.specs.Route.{fit_route, before}
 use Rattle.definition.specs.Words.{ordered, distinct}
 use Rattle.definition.specs.Preservation.Order.{before-never}
-use Rattle.state_well_formed.specs.Look.{row_next}
 use Rattle.state_well_formed.specs.Order.{order-next, order-broken, order-end, past-run, ordered-later, distinct-iteration, distinct-end}
 
 -- the rows are in order, and no two are the same
@@ -46,10 +43,3 @@ place_end rows i h = rw (order-end rows i h) (distinct-end rows i h)
 pub routes-tests : {f o : Bool} (rows : List Row) → f ≡ all fit_route rows → o ≡ in_place rows → (f && o) ≡ all fit_route rows && ordered rows && distinct rows
 unfolding in_place
 routes-tests rows ef eo = rw (ef, eo) (sym (and_assoc (all fit_route rows) (ordered rows) (distinct rows)))
-
--- the rows as parts of words
-pub rise_iteration : (n : ℕ) (p : List ℕ) (i : ℕ) → i + 1 < n → {b : Bool}
-    → b ≡ before (take (32 * i + 32 - 32 * i) (drop (32 * i) p)) (take (32 * i + 32 + 32 - (32 * i + 32)) (drop (32 * i + 32) p)) → b ≡ true
-    → in_place (drop i (chop 32 n p)) ≡ in_place (drop (i + 1) (chop 32 n p))
-rise_iteration n p i h eb et =
-    place_rise (chop 32 n p) i (omega (arith, length-chop 32 n p)) (sym (rw (row_next 32 n p i h, part-chop 32 n p i (omega arith)) at eb) ∙ et)

@@ -26,6 +26,10 @@ has_bit s k = eqb (s / 2 ^ k % 2) 1
 unfoldable pub marked : ℕ → List ℕ → Bool
 marked s l = all (λ n. has_bit s (bit_of n)) l
 
+-- those from a place on, as the code lends them
+pub rest_of : {A : Type 0} (i : ℕ) (l : List A) → take (length l - i) (drop i l) ≡ drop i l
+rest_of i l = take_all (length l - i) (drop i l) (rw length-drop (omega arith))
+
 -- ---- bits
 bit_of_or : (s c k : ℕ) → bit_or s c / 2 ^ k % 2 ≡ bit_or (s / 2 ^ k % 2) (c / 2 ^ k % 2)
 bit_of_or s c k = ap (λ (x : ℕ). x % 2) (or_shr s c k) ∙ or_mod (s / 2 ^ k) (c / 2 ^ k) 1
@@ -69,12 +73,6 @@ module _ (l : List ℕ) (i : ℕ) (h : 0 < i) (k : i ≤ length l) where
       let on : i - 1 + 1 ≡ i = omega arith in
       let found : among (get_or l (i - 1) 0) (drop i l) ≡ t = sym (rw on at eb) ∙ et in
       rw one_more (ap (λ (b : Bool). b && pairwise (λ a b. not (eqb a b)) (drop i l)) (all-other (get_or l (i - 1) 0) (drop i l) ∙ ap not found))
-
--- those behind it, as the code lends them
-pub behind-part : (l : List ℕ) (i : ℕ) {b : Bool} → b ≡ among (get_or l i 0) (take (length l - (i + 1)) (drop (i + 1) l)) → b ≡ among (get_or l i 0) (drop (i + 1) l)
-behind-part l i e =
-    let all-of-it : take (length l - (i + 1)) (drop (i + 1) l) ≡ drop (i + 1) l = take_all (length l - (i + 1)) (drop (i + 1) l) (rw length-drop (omega arith)) in
-    rw all-of-it at e
 
 -- a number whose bit none of them has set is none of them
 pub unmarked : (s x : ℕ) (l : List ℕ) → marked s l ≡ true → has_bit s (bit_of x) ≡ false → among x l ≡ false

@@ -1,13 +1,14 @@
 -- add_v4 by its cases: an address that is there, changed or refused, and a new one.
 -- Assumes nothing.
-use Rattle.std.specs.Prelude.{ℕ, ◌≤◌, ◌<◌, ◌≡◌, refl, Bool, true, false, List, [], Ok, Err, eqb, length, get_or}
-use Rattle.std.proofs.Common.{sym, ap, ◌∙◌}
+use Rattle.std.specs.Prelude.{ℕ, ◌≡◌, ◌≢◌, refl, true, false, [], Some, None, Ok, Err, eqb, get_or}
+use Rattle.std.proofs.Common.{sym, ap, ◌∙◌, arith, eq-eqb, ne_eqb}
+use Rattle.std.specs.List.{position}
 use Rattle.std.proofs.Math.Option.{none, some}
 use Rattle.std.proofs.Math.ListN.{get_elem?}
-use borrow.Author.Tests.{eq-eqb, ne_eqb}
 use Rattle.lists.specs.Bools.{test-case, cond-true, cond-false}
 use Rattle.lists.specs.Lists.{Row, first}
 use Rattle.lists.specs.Place.{place_of, first-at, nothing-from, something_at}
+use Rattle.lists.specs.Library.{found-place, missing-place}
 use Rattle.layout.specs.Request.{replace_asked, up_at_add_v4}
 use Rattle.definition.specs.State.{State}
 use Rattle.definition.specs.Words.{within}
@@ -17,53 +18,58 @@ use Rattle.definition.specs.Preservation.Keeps.{Keeps}
 use Rattle.definition.specs.Preservation.Addresses.{add_v4_keeps, step_kept, loopback-fit}
 use Rattle.rows_place.specs.Rows.{fresh_row}
 use Rattle.state.specs.Represents.{Represents}
-use Rattle.step_events.specs.Comes.{Came, Comes, made, comes-full, goes-made, refused-made}
+use Rattle.step_events.specs.Comes.{Answer, Comes, made, comes-full, goes-made, refused-made}
+use Rattle.step_events.specs.declared.change.Change.{Change}
 use Rattle.refusal.specs.declared.Refusal.TheVariants.{Full, Errno}
 
-module _ (q : Row) (clock : ℕ) (st : State) (place : ℕ) (found : place ≡ place_of (same_address q) st.addresses) where
-  at_place : first (same_address q) st.addresses ≡ get_elem? st.addresses place
-  at_place = first-at (same_address q) st.addresses ∙ ap (get_elem? st.addresses) (sym found)
-
+module _ (q : Row) (clock : ℕ) (st : State) where
   -- it is there
-  module _ (b : place < length st.addresses) where
-    there : first (same_address q) st.addresses ≡ some (get_or st.addresses place [])
-    there = at_place ∙ something_at st.addresses place [] b
+  module _ (i : ℕ) (found : position (same_address q) st.addresses ≡ Some i) where
+    pub at_place : i ≡ place_of (same_address q) st.addresses
+    at_place = (found-place (same_address q) st.addresses i found).0
 
-    pub added-change : replace_asked q ≡ 1 → {w ev₀ ev : List ℕ} {r : Came}
-        → Comes (goes (change_v4 q (get_or st.addresses place []) clock st)) w ev₀ ev r → Comes (add_v4 q clock st) w ev₀ ev r
-    unfolding add_v4
-    added-change e a = rw (there, eq-eqb (replace_asked q) 1 e) a
+    there : first (same_address q) st.addresses ≡ some (get_or st.addresses i [])
+    there =
+        first-at (same_address q) st.addresses ∙ ap (get_elem? st.addresses) (sym at_place)
+        ∙ something_at st.addresses i [] (found-place (same_address q) st.addresses i found).1
 
-    pub added-refused : (replace_asked q ≡ 1 → ⊥) → {w : List ℕ} (ev : List ℕ) → Represents w st → Comes (add_v4 q clock st) w ev ev (Err (Errno 17))
+    pub added-change : replace_asked q ≡ 1 → {a b : Change} {r : Answer}
+        → Comes (goes (change_v4 q (get_or st.addresses i []) clock st)) a b r → Comes (add_v4 q clock st) a b r
     unfolding add_v4
-    added-refused e ev h = rw (there, ne_eqb (replace_asked q) 1 e) (refused-made 17 ev h)
+    added-change e c = rw (there, eq-eqb (replace_asked q) 1 e) c
+
+    pub added-refused : replace_asked q ≢ 1 → {a : Change} → Represents a.state.now st → Comes (add_v4 q clock st) a a (Err (Errno 17))
+    unfolding add_v4
+    added-refused e h = rw (there, ne_eqb (replace_asked q) 1 e) (refused-made 17 h)
 
   -- it is new
-  pub added_new : length st.addresses ≤ place → (new : Row) → new ≡ fresh_row st.addresses q clock → (up : Bool) → up ≡ eqb (up_at_add_v4 q) 1
-      → {w ev₀ ev : List ℕ} {r : Came} → Comes (goes (new_address new up st)) w ev₀ ev r → Comes (add_v4 q clock st) w ev₀ ev r
+  pub added_new : position (same_address q) st.addresses ≡ None → (new : Row) → new ≡ fresh_row st.addresses q clock
+      → {a b : Change} {r : Answer} → Comes (goes (new_address new (eqb (up_at_add_v4 q) 1) st)) a b r → Comes (add_v4 q clock st) a b r
   unfolding add_v4
-  added_new b new e up f a =
-      let absent : first (same_address q) st.addresses ≡ none = at_place ∙ nothing-from st.addresses place b in
-      rw absent (rw (e, f) at a)
+  added_new missing new e c =
+      let absent : first (same_address q) st.addresses ≡ none =
+      first-at (same_address q) st.addresses ∙ nothing-from st.addresses (place_of (same_address q) st.addresses) (omega (arith, missing-place (same_address q) st.addresses missing))
+      in
+      rw absent (rw e at c)
 
 -- ---- the loopback's
--- a refusal is a step that does nothing
-abbrev pub step_of : Came → Came
-step_of (Err (Errno n)) = Ok 0
+-- a refusal of the reference's is a step that does nothing
+abbrev pub step_of : Answer → Answer
+step_of (Err (Errno n)) = Ok tt
 step_of came = came
 
 out_roomy : (u : Outcome) → within (out_of u).peak ≡ roomy u
 out_roomy (goes o) = refl
 out_roomy (refused n st) = refl
 
-pub added-step : (u : Outcome) {w ev₀ ev : List ℕ} (r t : Came) → t ≡ step_of r → Comes u w ev₀ ev r → Comes (goes (out_of u)) w ev₀ ev t
-added-step u {w} {ev₀} {ev} r t e c = test-case (roomy u) (λ h. fits u c h (c.answer ∙ cond-true (roomy u) (made u) (Err Full) h)) lacks
+pub added-step : (u : Outcome) {a b : Change} (r t : Answer) → t ≡ step_of r → Comes u a b r → Comes (goes (out_of u)) a b t
+added-step u {a} {b} r t e c = test-case (roomy u) (λ h. fits u c h (c.answer ∙ cond-true (roomy u) (made u) (Err Full) h)) lacks
   where
-    fits : (u : Outcome) → Comes u w ev₀ ev r → roomy u ≡ true → r ≡ made u → Comes (goes (out_of u)) w ev₀ ev t
-    fits (goes o) c h a = rw (e, a) (goes-made h (rw a at (c.does h)))
-    fits (refused n st) c h a = rw (e, a) (goes-made h (rw a at (c.does h)))
+    fits : (u : Outcome) → Comes u a b r → roomy u ≡ true → r ≡ made u → Comes (goes (out_of u)) a b t
+    fits (goes o) c h m = rw (e, m) (goes-made h (c.does h))
+    fits (refused n st) c h m = rw (e, m) (goes-made h (c.does h))
 
-    lacks : roomy u ≡ false → Comes (goes (out_of u)) w ev₀ ev t
+    lacks : roomy u ≡ false → Comes (goes (out_of u)) a b t
     lacks h = rw (e ∙ ap step_of (c.answer ∙ cond-false (roomy u) (made u) (Err Full) h)) (comes-full (out_roomy u ∙ h))
 
 pub loopback_keeps : (clock : ℕ) → Keeps (λ st. out_of (add_v4 loopback clock st))

@@ -1,119 +1,122 @@
 // add_v4 and up whole: where a list lacks room, the state and the event rows are left as they were.
 #![tactic(auto)]
 
-ghost use Rattle.std.specs.Prelude.{◌≡◌, true, List, ℕ, ◌+◌, ◌*◌, ◌≤◌, ◌<◌, length};
+ghost use Rattle.std.specs.Prelude.{◌≡◌, true, ◌+◌, ◌*◌, ◌≤◌, length, OnOk};
 ghost use Rattle.layout.specs.Request.{fit_add_v4};
 ghost use Rattle.definition.specs.State.{State};
-ghost use Rattle.definition.specs.Words.{fit_state, route_count, base_size};
-ghost use Rattle.definition.specs.Preservation.Refused.{Leaves};
-ghost use Rattle.definition.specs.Reference.Addresses.{Outcome, goes, add_v4, up};
-ghost use Rattle.state.specs.Represents.{Represents, RepresentsFit};
-ghost use Rattle.step_events.specs.Comes.{Comes, ComesWhole, rows_of};
+ghost use Rattle.definition.specs.Step.{event_limit};
+ghost use Rattle.definition.specs.Words.{fit_state};
+ghost use Rattle.definition.specs.Reference.Addresses.{goes, add_v4, up};
+ghost use Rattle.state.specs.Represents.{Represents, RepresentsSome, RepresentsFit};
+ghost use Rattle.step_events.specs.Comes.{ComesWhole};
+ghost use Rattle.step_add_v4_atomic.specs.Copy.{CopiedBack};
 ghost use Rattle.step_add_v4_atomic.specs.Room.{has_room};
-ghost use Rattle.definition.specs.Step.{event_room};
 
 use layout::{
-    ADDRESS_LIMIT, BASE_WORDS, EVENT_BUFFER, EVENT_WORDS, ROUTE_LIMIT, TABLE_COUNT, TABLE_LIMIT,
+    ADDRESS_LIMIT, AddV4, BASE_WORDS, EVENT_BUFFER, EVENT_WORDS, ROUTE_LIMIT, TABLE_COUNT,
+    TABLE_LIMIT,
 };
 use life::Nanoseconds;
 use refusal::Refusal;
+use step_events::Change;
 
 // A call lists two tables at most, 254 and 255.
 const TABLES_BEFORE: usize = TABLE_LIMIT - 2;
 
+// The event rows that add_v4 tells at most.
+const ADDED_BUFFER: usize = 5 * EVENT_WORDS;
+
 // Whether every list has room: for an address, as many routes, and the two tables.
 fn has_room(s: &[u32], rows: usize) -> bool
-    requires s_len { length s.now ≡ base_size }
-    requires s_bound { (route_count s.now ≤ 256) × (rows ≤ 1000) }
+    requires { RepresentsSome s.now }
     ensures { result ≡ has_room s.now rows }
 {
-    let addresses = state::address_count(s);
-    let routes = state::route_count(s);
-    let tables = words::wide(s[TABLE_COUNT]);
-    (addresses < ADDRESS_LIMIT) & (routes + rows <= ROUTE_LIMIT) & (tables <= TABLES_BEFORE)
+    state::addresses(s).rows.len() < ADDRESS_LIMIT
+        && rows <= ROUTE_LIMIT
+        && state::routes(s).rows.len() <= ROUTE_LIMIT - rows
+        && words::wide(s[TABLE_COUNT]) <= TABLES_BEFORE
 }
 
-// What came of a call on a copy: its words and event rows are copied back where it had room.
-fn copy_back(
-    s: &mut [u32],
-    ev: &mut [u32],
-    copy: &[u32],
-    rows: &[u32],
-    came: Result<usize, Refusal>,
-) -> Result<usize, Refusal>
-    requires copy_len { (length copy.now ≡ length s.old) × (rows_of came ≤ 384) }
-    requires came_in_bounds { (34 * rows_of came ≤ length rows.now) × (34 * rows_of came ≤ length ev.old) }
-    ensures result_bound { rows_of result ≤ rows_of came }
-    ensures comes_whole { (st : State) (u : Outcome) (z : List ℕ) → Represents s.old st → Leaves st u → Comes u copy.now z rows.now came → ComesWhole st u s.new ev.old ev.new result }
+// What was tried on a copy: its words are taken over, and what it told is told behind what was told before.
+fn copy_back(change: &mut Change<'_>, tried: &Change<'_>)
+    requires same_length { length tried.now.state.now ≡ length change.old.state.now }
+    requires in_bounds { 34 * (change.old.told + tried.now.told) ≤ length change.old.events.now }
+    ensures { CopiedBack tried.now change.old change.new }
 {
-    let k = came?;
-    words::store(s, 0, copy);
-    let end = EVENT_WORDS * k;
-    words::store(ev, 0, &rows[0..end]);
-    Ok(k)
+    words::copy(change.state, tried.state);
+    let end = EVENT_WORDS * tried.told;
+    words::store(
+        change.events,
+        EVENT_WORDS * change.told,
+        &tried.events[..end],
+    );
+    change.told += tried.told;
 }
 
-fn try_add_v4(
-    s: &mut [u32],
-    ev: &mut [u32],
-    q: &[u32],
-    clock: Nanoseconds,
-) -> Result<usize, Refusal>
-    requires represents_fit { RepresentsFit s.old }
-    requires q_len { (length q.now ≡ 18) × (fit_add_v4 q.now ≡ true) }
-    requires in_bounds { 170 ≤ length ev.old }
-    ensures result_bound { rows_of result ≤ 5 }
-    ensures comes_whole { (st : State) → Represents s.old st → fit_state st ≡ true → ComesWhole st (add_v4 q.now clock.0 st) s.new ev.old ev.new result }
+// It and `try_up` stay two: what differs is the call and its buffer, and a closure over a lent change would say more than both.
+fn try_add_v4(change: &mut Change<'_>, q: &AddV4, clock: Nanoseconds) -> Result<(), Refusal>
+    requires represents_fit { RepresentsFit change.old.state.now }
+    requires q_fit { fit_add_v4 q.now ≡ true }
+    requires in_bounds { 34 * (change.old.told + 5) ≤ length change.old.events.now }
+    ensures told { change.new.told ≤ change.old.told + 5 }
+    ensures comes_whole { (st : State) → Represents change.old.state.now st → fit_state st ≡ true → ComesWhole st (add_v4 q.now clock.0 st) change.old change.new result }
 {
-    let mut copy = [0u32; BASE_WORDS];
-    words::store(&mut copy, 0, s);
-    let mut rows = [0u32; 170];
-    let came = step_add_v4::add_v4(&mut copy, &mut rows, q, clock);
-    copy_back(s, ev, &copy, &rows, came)
+    let mut copy = [0; BASE_WORDS];
+    words::copy(&mut copy, change.words());
+    let mut rows = [0; ADDED_BUFFER];
+    let mut tried = Change {
+        state: &mut copy,
+        events: &mut rows,
+        told: 0,
+    };
+    step_add_v4::add_v4(&mut tried, q, clock)?;
+    copy_back(change, &tried);
+    Ok(())
 }
 
 // A requested address put in, or the one that is there changed, where the request says so.
-pub fn add_v4(
-    s: &mut [u32],
-    ev: &mut [u32],
-    q: &[u32],
-    clock: Nanoseconds,
-) -> Result<usize, Refusal>
-    requires represents_fit { RepresentsFit s.old }
-    requires q_len { (length q.now ≡ 18) × (fit_add_v4 q.now ≡ true) }
-    requires in_bounds { 170 ≤ length ev.old }
-    ensures result_bound { rows_of result ≤ 5 }
-    ensures comes_whole { (st : State) → Represents s.old st → fit_state st ≡ true → ComesWhole st (add_v4 q.now clock.0 st) s.new ev.old ev.new result }
+pub fn add_v4(change: &mut Change<'_>, q: &AddV4, clock: Nanoseconds) -> Result<(), Refusal>
+    requires represents_fit { RepresentsFit change.old.state.now }
+    requires q_fit { fit_add_v4 q.now ≡ true }
+    requires in_bounds { 34 * (change.old.told + 5) ≤ length change.old.events.now }
+    ensures told { change.new.told ≤ change.old.told + 5 }
+    ensures comes_whole { (st : State) → Represents change.old.state.now st → fit_state st ≡ true → ComesWhole st (add_v4 q.now clock.0 st) change.old change.new result }
 {
-    if has_room(s, 4) {
-        return step_add_v4::add_v4(s, ev, q, clock);
+    if has_room(change.words(), 4) {
+        return step_add_v4::add_v4(change, q, clock);
     }
-    try_add_v4(s, ev, q, clock)
+    try_add_v4(change, q, clock)
 }
 
-fn try_up(s: &mut [u32], ev: &mut [u32], clock: Nanoseconds) -> Result<usize, Refusal>
-    requires represents_fit { RepresentsFit s.old }
-    requires event_room_in_bounds { event_room ≤ length ev.old }
-    ensures result_bound { rows_of result ≤ 325 }
-    ensures comes_whole { (st : State) → Represents s.old st → fit_state st ≡ true → ComesWhole st (goes (up clock.0 st)) s.new ev.old ev.new result }
+fn try_up(change: &mut Change<'_>, clock: Nanoseconds) -> Result<(), Refusal>
+    requires represents_fit { RepresentsFit change.old.state.now }
+    requires in_bounds { 34 * (change.old.told + event_limit) ≤ length change.old.events.now }
+    ensures told { OnOk result (change.new.told ≤ change.old.told + 325) }
+    ensures comes_whole { (st : State) → Represents change.old.state.now st → fit_state st ≡ true → ComesWhole st (goes (up clock.0 st)) change.old change.new result }
 {
-    let mut copy = [0u32; BASE_WORDS];
-    words::store(&mut copy, 0, s);
-    let mut rows = [0u32; EVENT_BUFFER];
-    let came = step_add_v4::up(&mut copy, &mut rows, clock);
-    copy_back(s, ev, &copy, &rows, came)
+    let mut copy = [0; BASE_WORDS];
+    words::copy(&mut copy, change.words());
+    let mut rows = [0; EVENT_BUFFER];
+    let mut tried = Change {
+        state: &mut copy,
+        events: &mut rows,
+        told: 0,
+    };
+    step_add_v4::up(&mut tried, clock)?;
+    copy_back(change, &tried);
+    Ok(())
 }
 
 // 127.0.0.1 if it isn't there, with its routes; then the routes that every address has.
-pub fn up(s: &mut [u32], ev: &mut [u32], clock: Nanoseconds) -> Result<usize, Refusal>
-    requires represents_fit { RepresentsFit s.old }
-    requires event_room_in_bounds { event_room ≤ length ev.old }
-    ensures result_bound { rows_of result ≤ 325 }
-    ensures comes_whole { (st : State) → Represents s.old st → fit_state st ≡ true → ComesWhole st (goes (up clock.0 st)) s.new ev.old ev.new result }
+pub fn up(change: &mut Change<'_>, clock: Nanoseconds) -> Result<(), Refusal>
+    requires represents_fit { RepresentsFit change.old.state.now }
+    requires in_bounds { 34 * (change.old.told + event_limit) ≤ length change.old.events.now }
+    ensures told { OnOk result (change.new.told ≤ change.old.told + 325) }
+    ensures comes_whole { (st : State) → Represents change.old.state.now st → fit_state st ≡ true → ComesWhole st (goes (up clock.0 st)) change.old change.new result }
 {
-    let most = 4 * (state::address_count(s) + 2);
-    if has_room(s, most) {
-        return step_add_v4::up(s, ev, clock);
+    let most = 4 * (state::addresses(change.words()).rows.len() + 2);
+    if has_room(change.words(), most) {
+        return step_add_v4::up(change, clock);
     }
-    try_up(s, ev, clock)
+    try_up(change, clock)
 }

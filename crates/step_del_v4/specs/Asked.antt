@@ -1,27 +1,23 @@
 -- The first address that meets a request's conditions goes.
 -- Assumes nothing.
-use Rattle.std.specs.Prelude.{ℕ, ◌+◌, ◌*◌, ◌^◌, ◌≤◌, ◌<◌, ◌≡◌, refl, Bool, true, false, ◌&&◌, ◌||◌, Ok, Err, eqb, length, get_or}
-use Rattle.std.proofs.Common.{sym, ap, ◌∙◌, arith, eqb-true, eq-eqb, ne_eqb}
-use mathlib.Core.List.{List, []}
-use Rattle.std.proofs.Math.ListN.{get_elem?}
-use Rattle.lists.specs.Lists.{Row, any, first, eq_row}
-use Rattle.lists.specs.Bools.{and_iff, and_both, true-false}
+use Rattle.std.specs.Prelude.{ℕ, suc, ◌+◌, ◌*◌, ◌^◌, ◌≤◌, ◌<◌, ◌≡◌, refl, Bool, true, false, cond, ◌&&◌, ◌||◌, Ok, Err, Some, None, List, [], ◌∷◌, eqb, length, get_or, take, drop}
+use Rattle.std.proofs.Common.{sym, arith, eqb-true, eq-eqb, ne_eqb, drop-cons, ◌∙◌}
+use Rattle.std.specs.List.{find}
+use Rattle.std.specs.Cmp.Lexicographic.{pointwise}
+use Rattle.layout.specs.Address.{label}
+use Rattle.layout.specs.Request.{label_given}
+use Rattle.lists.specs.Lists.{Row, any, eq_row}
+use Rattle.lists.specs.Bools.{and_iff, and_both, or_right, true-false}
 use Rattle.lists.specs.All.{eq_row-refl}
-use Rattle.lists.specs.Place.{place_of, first-at, nothing-from, something_at}
-use Rattle.layout.specs.Address.{local, prefix, label, label_length}
-use Rattle.layout.specs.Request.{local_present, local_given, address_present, address_given, prefix_given, label_present, label_length_given, label_given}
+use Rattle.lists.specs.Library.{first_find}
 use Rattle.definition.specs.State.{State, sizes}
-use Rattle.definition.specs.Words.{address_count}
-use Rattle.definition.specs.Reference.Addresses.{covers}
 use Rattle.definition.specs.Reference.Removal.{deletes, del_v4, remove_v4}
 use Rattle.definition.specs.Preservation.Shrinking.{potential}
 use Rattle.definition.proofs.Preservation.Peaks.{remove_v4-under}
 use Rattle.definition.proofs.Preservation.Step.{covered}
-use Rattle.state.specs.Represents.{count-addresses}
-use Rattle.step_events.specs.EmitsWithin.{RoomFor, EmitsWithin, step-does}
+use Rattle.step_events.specs.EmitsWithin.{RoomFor, EmitsWithin}
 use Rattle.step_events.specs.Comes.{ComesWhole, holds-within, goes-made, refused-made, whole-made}
-use Rattle.lists.specs.Front.{any_here}
-use Rattle.step_remove_v4.specs.One.{address_row, lent-address}
+use Rattle.step_events.specs.declared.change.Change.{Change}
 use Rattle.refusal.specs.declared.Refusal.TheVariants.{Errno}
 
 -- ---- four words are the same where their number is
@@ -49,33 +45,48 @@ same-four a b c d p q r s ha hb hc hd hp hq hr hs = go (eqb a p && eqb b q && eq
         true-false (eqb a p && eqb b q && eqb c r && eqb d s)
         (and_both (eqb a p && eqb b q && eqb c r) (eqb d s) (and_both (eqb a p && eqb b q) (eqb c r) (and_both (eqb a p) (eqb b q) (eq-eqb a p one.0) (eq-eqb b q two.0)) (eq-eqb c r three.0)) (eq-eqb d s three.1)) e))
 
-pub deletes-is : (q a : Row) (same within : Bool) → same ≡ eqb (label a) (label_given q) → within ≡ covers a (address_given q)
-    → ((eqb (local_present q) 0 || eqb (local a) (local_given q)) && (eqb (label_present q) 0 || (eqb (label_length a) (label_length_given q) && same)) && (eqb (address_present q) 0 || (eqb (prefix a) (prefix_given q) && within))) ≡ deletes q a
-unfolding deletes
-deletes-is q a same within e f = rw (e, f)
+-- four words behind one another
+four-words : (k : ℕ) (l : List ℕ) → k + 4 ≤ length l → take 4 (drop k l) ≡ get_or l k 0 ∷ get_or l (suc k) 0 ∷ get_or l (suc (suc k)) 0 ∷ get_or l (suc (suc (suc k))) 0 ∷ []
+four-words k l h =
+    rw (drop-cons l k 0 (omega arith), drop-cons l (suc k) 0 (omega arith), drop-cons l (suc (suc k)) 0 (omega arith), drop-cons l (suc (suc (suc k))) 0 (omega arith))
+
+pub same-label : (a q : Row) → length a ≡ 20 → length q ≡ 11 → ((i : ℕ) → get_or a i 0 < 2 ^ 32) → ((i : ℕ) → get_or q i 0 < 2 ^ 32)
+    → pointwise eqb (take 4 (drop 9 a)) (take 4 (drop 7 q)) ≡ eqb (label a) (label_given q)
+same-label a q e f g h =
+    let w = four-words 9 a (omega arith) in
+    let v = four-words 7 q (omega arith) in
+    rw (w, v)
+    (nest (eqb (get_or a 9 0) (get_or q 7 0)) (eqb (get_or a 10 0) (get_or q 8 0)) (eqb (get_or a 11 0) (get_or q 9 0)) (eqb (get_or a 12 0) (get_or q 10 0))
+    ∙ same-four (get_or a 9 0) (get_or a 10 0) (get_or a 11 0) (get_or a 12 0) (get_or q 7 0) (get_or q 8 0) (get_or q 9 0) (get_or q 10 0) (g 9) (g 10) (g 11) (g 12) (h 7) (h 8) (h 9) (h 10))
+  where
+    nest : (b c d e : Bool) → (b && (c && (d && (e && true)))) ≡ (b && c && d && e)
+    nest true true true true = refl
+    nest true true true false = refl
+    nest true true false e = refl
+    nest true false d e = refl
+    nest false c d e = refl
 
 -- ---- what came of it
-module _ (q : Row) {st : State} {s ev : List ℕ} (f : RoomFor potential st s ev) (n i : ℕ) (en : n ≡ address_count s) (e : i ≡ place_of (deletes q) st.addresses) where
-  place : first (deletes q) st.addresses ≡ get_elem? st.addresses i
-  place = first-at (deletes q) st.addresses ∙ ap (get_elem? st.addresses) (sym e)
+-- the first that passes is one of them
+found-there : (p : Row → Bool) (l : List Row) (r : Row) → find p l ≡ Some r → any (eq_row r) l ≡ true
+found-there p [] r h = cc
+found-there p (x ∷ l) r h = go (p x) (found-there p l r) h
+  where
+    go : (b : Bool) → (find p l ≡ Some r → any (eq_row r) l ≡ true) → cond b (Some x) (find p l) ≡ Some r → (eq_row r x || any (eq_row r) l) ≡ true
+    go true t e = let same : x ≡ r = cc in rw (same, eq_row-refl r)
+    go false t e = or_right (eq_row r x) (any (eq_row r) l) (t e)
 
-  pub deleted_none : n ≤ i → ComesWhole st (del_v4 q st) s ev ev (Err (Errno 99))
+module _ (q : Row) {st : State} {a : Change} (f : RoomFor potential st a) where
+  pub deleted_none : find (deletes q) st.addresses ≡ None → ComesWhole st (del_v4 q st) a a (Err (Errno 99))
   unfolding del_v4
-  deleted_none b =
-      rw (place, nothing-from st.addresses i (omega (arith, count-addresses f.holds)))
-      (whole-made st (holds-within f.holds) (refused-made 99 ev f.holds))
+  deleted_none e =
+      rw (first_find (deletes q) st.addresses, e) (whole-made st (holds-within f.holds) (refused-made 99 f.holds))
 
-  in_use : i < n → i < length st.addresses
-  in_use b = omega (arith, count-addresses f.holds)
+  pub deleted_there : (r : Row) → find (deletes q) st.addresses ≡ Some r → any (eq_row r) st.addresses ≡ true
+  deleted_there r e = found-there (deletes q) st.addresses r e
 
-  same : (b : i < n) (row : Row) → row ≡ address_row s i → row ≡ get_or st.addresses i []
-  same b row w = w ∙ lent-address f.holds i (in_use b)
-
-  pub deleted_there : (b : i < n) (row : Row) → row ≡ address_row s i → any (eq_row row) st.addresses ≡ true
-  deleted_there b row w = any_here (eq_row row) st.addresses i [] (in_use b) (rw (← (same b row w)) (eq_row-refl row))
-
-  pub deleted_rows : (b : i < n) (row : Row) → row ≡ address_row s i → {s' ev' : List ℕ} {r : ℕ} → EmitsWithin potential st (remove_v4 row st) s' ev ev' r → ComesWhole st (del_v4 q st) s' ev ev' (Ok r)
+  pub deleted_rows : (r : Row) → find (deletes q) st.addresses ≡ Some r → {b : Change} → EmitsWithin potential st (remove_v4 r st) a b → ComesWhole st (del_v4 q st) a b (Ok tt)
   unfolding del_v4
-  deleted_rows b row w t =
-      let room = covered (remove_v4 row st).peak (sizes st) (remove_v4-under row st).ever (holds-within f.holds) in
-      rw (place, something_at st.addresses i [] (in_use b), ← (same b row w)) (whole-made st room (goes-made room (step-does potential t)))
+  deleted_rows r e t =
+      let room = covered (remove_v4 r st).peak (sizes st) (remove_v4-under r st).ever (holds-within f.holds) in
+      rw (first_find (deletes q) st.addresses, e) (whole-made st room (goes-made room t.emits))

@@ -1,4 +1,4 @@
-// Main routes that fall with their preferred source, emitted from the start of what is lent of the events.
+// Main routes that fall with their preferred source, and are told.
 #![tactic(auto)]
 
 ghost use Rattle.std.specs.Prelude.{◌≡◌, ◌+◌, ◌*◌, ◌≤◌, ◌<◌, length};
@@ -10,36 +10,34 @@ ghost use Rattle.step_drop_prefsrc.specs.Dependents.{dependents_go};
 ghost use Rattle.step_drop_prefsrc.specs.Sweep.{Swept};
 ghost use Rattle.definition.specs.Words.{base_size};
 
-use layout::{EVENT_WORDS, ROUTE_WORDS, ROUTES_AT};
+use step_events::Change;
 
-// Row i, behind j that remain, is emitted if it is a main row with the preferred source ip, and becomes row j otherwise:
+// Row i, behind j that remain, is told if it is a main row with the preferred source ip, and becomes row j otherwise:
 // how many remain with it.
-fn dependent_iteration(s: &mut [u32], ev: &mut [u32], i: usize, j: usize, ip: u32) -> usize
-    requires s_len { (length s.old ≡ base_size) × (j ≤ i) × (i < 256) }
-    requires in_bounds { 34 ≤ length ev.old }
-    ensures { Swept (dependent_on ip) i j s.old s.new ev.old ev.new result }
+fn dependent_iteration(change: &mut Change<'_>, i: usize, j: usize, ip: u32) -> usize
+    requires s_len { (length change.old.state.now ≡ base_size) × (j ≤ i) × (i < 256) }
+    requires in_bounds { 34 * (change.old.told + 1) ≤ length change.old.events.now }
+    ensures { Swept (dependent_on ip) i j change.old change.new result }
 {
-    let at = ROUTES_AT + ROUTE_WORDS * i;
-    let end = at + ROUTE_WORDS;
-    if rows_wanted::dependents_from(&s[at..end], ip) {
-        step_events::del_route4(ev, &s[at..end]);
+    let row = state_retain::route_row(change.words(), i);
+    if rows_wanted::dependents_from(row, ip) {
+        let row = *row;
+        change.del_route4(&row);
         return j;
     }
-    state_retain::settle(s, i, j)
+    state_retain::settle(change.state, i, j)
 }
 
-// The main rows with the preferred source ip go, in their order: one pass emits them and closes the gaps.
-pub fn drop_dependents(s: &mut [u32], ev: &mut [u32], ip: u32) -> usize
-    requires { SomeRoom potential s.old ev.old }
-    ensures { (st : State) → RoomFor potential st s.old ev.old → EmitsWithin potential st (dependents_go ip st) s.new ev.old ev.new result }
+// The main rows with the preferred source ip go, in their order: one pass tells them and closes the gaps. The rows move
+// under the loop, so it goes by places.
+pub fn drop_dependents(change: &mut Change<'_>, ip: u32)
+    requires { SomeRoom potential change.old }
+    ensures { (st : State) → RoomFor potential st change.old → EmitsWithin potential st (dependents_go ip st) change.old change.new }
 {
-    let n = state::route_count(s);
-    let mut i = 0usize;
+    let n = state::route_count(change.words());
     let mut j = 0usize;
-    while i < n {
-        j = dependent_iteration(s, &mut ev[EVENT_WORDS * (i - j)..], i, j, ip);
-        i += 1;
+    for i in 0..n {
+        j = dependent_iteration(change, i, j, ip);
     }
-    state_retain::close(s, n, j);
-    n - j
+    state_retain::close(change.state, n, j);
 }

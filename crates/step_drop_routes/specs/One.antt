@@ -1,6 +1,6 @@
 -- What goes with an address, step by step: those of its routes that none wants, what falls with it, the device's routes.
 -- Assumes nothing.
-use Rattle.std.specs.Prelude.{ℕ, suc, ◌+◌, ◌-◌, ◌≤◌, ◌<◌, ◌≡◌, refl, Bool, cond, not, ◌&&◌, List, [], ◌∷◌, ◌++◌, eqb, length, get_or, drop}
+use Rattle.std.specs.Prelude.{ℕ, suc, ◌+◌, ◌≤◌, ◌<◌, ◌≡◌, refl, Bool, cond, not, ◌&&◌, List, [], ◌∷◌, ◌++◌, eqb, length, get_or, drop}
 use Rattle.std.proofs.Common.{ap, ◌∙◌, append-nil, arith, add-one, drop_of_length-le, drop-cons}
 use Rattle.lists.specs.Lists.{Row, any, keep}
 use Rattle.lists.specs.Bools.{test-case, cond-case}
@@ -13,8 +13,10 @@ use Rattle.definition.specs.Reference.Insert.{kernel_del4}
 use Rattle.definition.specs.Reference.Removal.{wanted, of_kind, dependent_on, fall, disable}
 use Rattle.definition.specs.Preservation.Shrinking.{potential, live, kernel_del4_away, disable_away}
 use Rattle.state.specs.Represents.{Represents}
+use Rattle.step_events.specs.Tells.{Tells}
 use Rattle.step_events.specs.EmitsWithin.{EmitsWithin}
 use Rattle.step_events.specs.Iterations.{Like, like_refl, like_sym, like_trans, stays-also, also_like}
+use Rattle.step_events.specs.declared.change.Change.{Change}
 
 -- ---- routes that none wants
 -- a route goes unless an address wants it
@@ -70,17 +72,14 @@ unfolding fall fall_from
 fall-from a left l st = rw (loses-any left l)
 
 -- a step that says nothing, behind another
-pub step-quiet : {st : State} {o : Out} {s ev₀ ev : List ℕ} {r : ℕ} (f : State → Out) {s' : List ℕ} → EmitsWithin potential st o s ev₀ ev r
-    → Represents s' (f o.state).state → (f o.state).emitted ≡ [] → potential (f o.state).state ≤ potential o.state → EmitsWithin potential st (also o f) s' ev₀ ev r
+pub step-quiet : {st : State} {o : Out} {a b : Change} (f : State → Out) {c : Change} → EmitsWithin potential st o a b
+    → Represents c.state.now (f o.state).state → Tells o.emitted a c → (f o.state).emitted ≡ [] → potential (f o.state).state ≤ potential o.state → EmitsWithin potential st (also o f) a c
 unfolding also
-step-quiet {o = o} f t h e l =
+step-quiet {o = o} f t h k e l =
     let emitted : o.emitted ++ (f o.state).emitted ≡ o.emitted = ap (λ (x : List Row). o.emitted ++ x) e ∙ append-nil o.emitted in
     record {
-      holds = h;
-      count = rw emitted t.count;
-      wide = rw emitted t.wide;
-      words = rw emitted t.words;
-      less = omega (arith, t.less);
+      emits = record { holds = h; wide = rw emitted t.emits.wide; tells = rw emitted k };
+      less = rw emitted (omega (arith, t.less));
       room = t.room;
     }
 

@@ -1,47 +1,40 @@
 -- What a step comes to: its answer by the definition's outcome, and what it leaves unless a list passed its limit.
 -- Assumes nothing.
-use Rattle.std.specs.Prelude.{ℕ, ◌+◌, ◌-◌, ◌*◌, max, ◌≡◌, refl, Bool, true, false, cond, ◌&&◌, List, ◌++◌, Result, Ok, Err, leb, length, take, drop}
-use Rattle.std.proofs.Common.{sym, ap, ◌∙◌, arith, leb-true, leb-false, le-leb}
+use Rattle.std.specs.Prelude.{ℕ, max, ◌≡◌, refl, Bool, true, false, cond, ◌&&◌, leb, List, [], length, Result, Ok, Err}
+use Rattle.std.proofs.Common.{sym, ◌∙◌, arith, leb-true, leb-false, le-leb}
 use Rattle.std.proofs.lemmas.Bool.{lt-leb}
+use Rattle.refusal.specs.declared.Refusal.{Refusal}
+use Rattle.refusal.specs.declared.Refusal.TheVariants.{Full, Errno}
 use Rattle.lists.specs.Bools.{test-case, true-false, and_iff, cond-true, cond-false}
 use Rattle.definition.specs.State.{State, Sizes, Out, sizes, most, stays, also}
 use Rattle.definition.specs.Words.{within}
 use Rattle.definition.specs.Reference.Addresses.{Outcome, goes, refused, out_of}
 use Rattle.definition.specs.Step.{roomy}
 use Rattle.state.specs.Represents.{Represents}
-use Rattle.step_events.specs.Emits.{Emits, does-none, does-also, rest}
-use Rattle.refusal.specs.declared.Refusal.{Refusal}
-use Rattle.refusal.specs.declared.Refusal.TheVariants.{Full, Errno}
+use Rattle.step_events.specs.Emits.{Emits, does-none, does-quiet, does-also}
+use Rattle.step_events.specs.Tells.{Tells}
+use Rattle.step_events.specs.declared.change.Change.{Change}
 
--- how many event rows a step wrote, or why it was refused
-abbrev pub Came : Type 0
-Came = Result ℕ Refusal
-
-abbrev pub rows_of : Came → ℕ
-rows_of (Ok k) = k
-rows_of (Err e) = 0
-
--- one that says none
-abbrev pub NoRows : Came → Type 0
-NoRows r = (k : ℕ) → r ≡ Ok k → ⊥
+abbrev pub Answer : Type 0
+Answer = Result (Unit {0}) Refusal
 
 -- the answer where every list kept to its limit, and the answer
-abbrev pub made : Outcome → Came
-made (goes o) = Ok (length o.emitted)
+abbrev pub made : Outcome → Answer
+made (goes o) = Ok tt
 made (refused n st) = Err (Errno n)
 
-abbrev pub answer_of : Outcome → Came
+abbrev pub answer_of : Outcome → Answer
 answer_of u = cond (roomy u) (made u) (Err Full)
 
 -- nothing is said of what a step left where a list was full
-pub record Comes (u : Outcome) (w ev₀ ev : List ℕ) (r : Came) : Type 0 where
+pub record Comes (u : Outcome) (a b : Change) (r : Answer) : Type 0 where
   pub answer : r ≡ answer_of u
-  pub does : roomy u ≡ true → Emits (out_of u) w ev₀ ev (rows_of r)
+  pub does : roomy u ≡ true → Emits (out_of u) a b
 
 -- it has left all as it was then: the words hold st still
-pub record ComesWhole (st : State) (u : Outcome) (w ev₀ ev : List ℕ) (r : Came) : Type 0 where
-  pub comes : Comes u w ev₀ ev r
-  pub kept : roomy u ≡ false → Emits (stays st) w ev₀ ev 0
+pub record ComesWhole (st : State) (u : Outcome) (a b : Change) (r : Answer) : Type 0 where
+  pub comes : Comes u a b r
+  pub kept : roomy u ≡ false → Emits (stays st) a b
 
 -- ---- limits
 -- words that hold a state keep it within them
@@ -78,86 +71,78 @@ unfolding also
 within-also o f = within-most o.peak (f o.state).peak
 
 -- ---- by the outcome
-module _ {u : Outcome} {w ev₀ ev : List ℕ} where
-  pub comes-made : {r : Came} → roomy u ≡ true → r ≡ made u → Emits (out_of u) w ev₀ ev (rows_of r) → Comes u w ev₀ ev r
+module _ {u : Outcome} {a b : Change} where
+  pub comes-made : {r : Answer} → roomy u ≡ true → r ≡ made u → Emits (out_of u) a b → Comes u a b r
   comes-made e h d = record { answer = h ∙ sym (cond-true (roomy u) (made u) (Err Full) e); does = λ _. d }
 
-  pub comes-full : roomy u ≡ false → Comes u w ev₀ ev (Err Full)
+  pub comes-full : roomy u ≡ false → Comes u a b (Err Full)
   comes-full e =
       record { answer = sym (cond-false (roomy u) (made u) (Err Full) e); does = λ h. absurd (true-false (roomy u) h e) }
 
-  pub whole-made : {r : Came} (st : State) → roomy u ≡ true → Comes u w ev₀ ev r → ComesWhole st u w ev₀ ev r
+  pub whole-made : {r : Answer} (st : State) → roomy u ≡ true → Comes u a b r → ComesWhole st u a b r
   whole-made st e c = record { comes = c; kept = λ h. absurd (true-false (roomy u) e h) }
 
-pub whole-full : {u : Outcome} {st : State} {w : List ℕ} (ev : List ℕ) → roomy u ≡ false → Represents w st → ComesWhole st u w ev ev (Err Full)
-whole-full {st = st} ev e h = record { comes = comes-full e; kept = λ _. does-none st h }
+pub whole-full : {u : Outcome} {st : State} {a : Change} → roomy u ≡ false → Represents a.state.now st → ComesWhole st u a a (Err Full)
+whole-full {st = st} {a = a} e h = record { comes = comes-full e; kept = λ _. does-none st a h }
 
 -- ---- by the answer
-pub no-rows : {r : Came} {e : Refusal} → r ≡ Err e → NoRows r
-no-rows h k f = cc
+ok-err : {e : Refusal} → ◌≡◌ {A = Answer} (Ok tt) (Err e) → ⊥
+ok-err h = cc
+
+errno-full : (n : ℕ) → ◌≡◌ {A = Answer} (Err (Errno n)) (Err Full) → ⊥
+errno-full n h = cc
 
 made-full : (u : Outcome) → made u ≡ Err Full → ⊥
-made-full (goes o) e = cc
-made-full (refused n st) e = cc
+made-full (goes o) h = ok-err h
+made-full (refused n st) h = errno-full n h
 
-module _ {u : Outcome} {w ev₀ ev : List ℕ} where
-  pub comes-roomy : {r : Came} → Comes u w ev₀ ev r → (r ≡ Err Full → ⊥) → roomy u ≡ true
+module _ {u : Outcome} {a b : Change} where
+  pub comes-roomy : {r : Answer} → Comes u a b r → (r ≡ Err Full → ⊥) → roomy u ≡ true
   comes-roomy c h = test-case (roomy u) (λ e. e) (λ e. absurd (h (c.answer ∙ cond-false (roomy u) (made u) (Err Full) e)))
 
-  pub comes-rows : {k : ℕ} → Comes u w ev₀ ev (Ok k) → (roomy u ≡ true) × Emits (out_of u) w ev₀ ev k
-  comes-rows {k} c = let e = comes-roomy c (λ f. cc) in (e, c.does e)
+  pub comes-ok : Comes u a b (Ok tt) → (roomy u ≡ true) × Emits (out_of u) a b
+  comes-ok c = let e = comes-roomy c ok-err in (e, c.does e)
 
-  pub full-past : Comes u w ev₀ ev (Err Full) → roomy u ≡ false
+  pub full-past : Comes u a b (Err Full) → roomy u ≡ false
   full-past c =
       test-case (roomy u) (λ e. absurd (made-full u (sym (c.answer ∙ cond-true (roomy u) (made u) (Err Full) e)))) (λ e. e)
 
--- a step that goes lacked room where it says no rows: no rule refuses it
-pub other-past : {o : Out} {w ev₀ ev : List ℕ} {r : Came} → NoRows r → Comes (goes o) w ev₀ ev r → (r ≡ Err Full) × (within o.peak ≡ false)
-other-past {o} other c =
-    let n = length o.emitted in
+-- a step that goes lacked room where it is refused: no rule refuses it
+pub other-past : {o : Out} {a b : Change} {e : Refusal} → Comes (goes o) a b (Err e) → (e ≡ Full) × (within o.peak ≡ false)
+other-past {o} {e = e} c =
     test-case (within o.peak)
-    (λ e. absurd (other n (c.answer ∙ cond-true (within o.peak) (Ok n) (Err Full) e)))
-    (λ e. (c.answer ∙ cond-false (within o.peak) (Ok n) (Err Full) e, e))
+    (λ t. absurd (ok-err (sym (c.answer ∙ cond-true (within o.peak) (Ok tt) (Err Full) t))))
+    (λ t. let same : ◌≡◌ {A = Answer} (Err e) (Err Full) = c.answer ∙ cond-false (within o.peak) (Ok tt) (Err Full) t in (cc, t))
 
-pub goes-made : {o : Out} {w ev₀ ev : List ℕ} {k : ℕ} → within o.peak ≡ true → Emits o w ev₀ ev k → Comes (goes o) w ev₀ ev (Ok k)
-goes-made e d = comes-made e (ap Ok d.count) d
+pub goes-made : {o : Out} {a b : Change} → within o.peak ≡ true → Emits o a b → Comes (goes o) a b (Ok tt)
+goes-made e d = comes-made e refl d
 
-pub refused-made : (n : ℕ) {st : State} {w : List ℕ} (ev : List ℕ) → Represents w st → Comes (refused n st) w ev ev (Err (Errno n))
-refused-made n {st} ev h = comes-made (holds-within h) refl (does-none st h)
+pub refused-made : (n : ℕ) {st : State} {a : Change} → Represents a.state.now st → Comes (refused n st) a a (Err (Errno n))
+refused-made n {st} {a} h = comes-made (holds-within h) refl (does-none st a h)
+
+pub adds-quiet : (st : State) {a b : Change} → Represents b.state.now st → Tells [] a b → Comes (goes (stays st)) a b (Ok tt)
+adds-quiet st h t = goes-made (holds-within h) (does-quiet st h t)
+
+pub adds_none : (st : State) {a : Change} → Represents a.state.now st → Comes (goes (stays st)) a a (Ok tt)
+adds_none st {a} h = goes-made (holds-within h) (does-none st a h)
 
 -- ---- one step after another
--- the answer of one after another that emitted k rows
-abbrev pub joined : ℕ → Came → Came
-joined k (Ok m) = Ok (k + m)
-joined k (Err e) = Err e
-
-pub joined-other : (k : ℕ) (r : Came) → NoRows r → r ≡ joined k r
-joined-other k (Ok m) other = absurd (other m refl)
-joined-other k (Err e) other = refl
-
-pub adds_none : (st : State) {w ev : List ℕ} → Represents w st → Comes (goes (stays st)) w ev ev (Ok 0)
-adds_none st h = goes-made (holds-within h) (does-none st h)
-
--- the second on the part of the buffer that is left behind the first's rows
-pub adds-also : {o : Out} {w ev₀ ev : List ℕ} {k : ℕ} → Comes (goes o) w ev₀ ev (Ok k) → (f : State → Out) {w' x : List ℕ} {r : Came}
-    → Comes (goes (f o.state)) w' (rest k ev) x r
-    → Comes (goes (also o f)) w' ev₀ (take (34 * k) ev ++ (x ++ drop (length ev - 34 * k) (drop (34 * k) ev))) (joined k r)
-adds-also {o} {w} {ev₀} {ev} {k} a f {w'} {x} {r} b = go r b
+pub adds-also : {o : Out} {a b c : Change} {r : Answer} → Comes (goes o) a b (Ok tt) → (f : State → Out) → Comes (goes (f o.state)) b c r → Comes (goes (also o f)) a c r
+adds-also {o} {a} {b} {c} {r} s f t = go r t
   where
-    first : (within o.peak ≡ true) × Emits o w ev₀ ev k
-    first = comes-rows a
+    first : (within o.peak ≡ true) × Emits o a b
+    first = comes-ok s
 
-    go : (r : Came) → Comes (goes (f o.state)) w' (rest k ev) x r
-        → Comes (goes (also o f)) w' ev₀ (take (34 * k) ev ++ (x ++ drop (length ev - 34 * k) (drop (34 * k) ev))) (joined k r)
-    go (Ok m) b =
-        let second = comes-rows b in
+    go : (r : Answer) → Comes (goes (f o.state)) b c r → Comes (goes (also o f)) a c r
+    go (Ok u) t =
+        let second = comes-ok t in
         let both : (within o.peak && within (f o.state).peak) ≡ true = rw first.0 second.0 in
         goes-made (within-also o f ∙ both) (does-also first.1 f second.1)
-    go (Err e) b =
-        let past = other-past (no-rows refl) b in
-        let both : (within o.peak && within (f o.state).peak) ≡ false = rw first.0 past.1 in
-        rw past.0 (comes-full (within-also o f ∙ both))
+    go (Err e) t =
+        let p = other-past t in
+        let both : (within o.peak && within (f o.state).peak) ≡ false = rw first.0 p.1 in
+        rw p.0 (comes-full (within-also o f ∙ both))
 
 -- the first lacked room already
-pub adds-stop : {o : Out} {w ev₀ ev : List ℕ} {r : Came} → NoRows r → Comes (goes o) w ev₀ ev r → (f : State → Out) {w' ev' : List ℕ} → Comes (goes (also o f)) w' ev₀ ev' r
-adds-stop {o} other a f = let p = other-past other a in rw p.0 (comes-full (within-also o f ∙ rw p.1))
+pub adds-stop : {o : Out} {a b : Change} {e : Refusal} → Comes (goes o) a b (Err e) → (f : State → Out) {c d : Change} → Comes (goes (also o f)) c d (Err e)
+adds-stop {o} s f = let p = other-past s in rw p.0 (comes-full (within-also o f ∙ rw p.1))

@@ -1,12 +1,12 @@
 -- A step that a loop makes iteration by iteration: what is done so far, and what remains to be done from there.
 -- Assumes nothing.
-use Rattle.std.specs.Prelude.{ℕ, ◌+◌, ◌-◌, ◌*◌, ◌≡◌, refl, List, [], ◌∷◌, ◌++◌, length, take, drop}
+use Rattle.std.specs.Prelude.{ℕ, ◌≡◌, refl, List, [], ◌∷◌, ◌++◌}
 use Rattle.std.proofs.Common.{sym, ap, ◌∙◌, append-nil, append_assoc}
 use Rattle.lists.specs.Lists.{Row}
 use Rattle.definition.specs.State.{State, Out, stays, also, through}
 use Rattle.state.specs.Represents.{Represents}
 use Rattle.step_events.specs.EmitsWithin.{RoomFor, SomeRoom, EmitsWithin, step_same, step-none, rest-fits, step-also}
-use Rattle.step_events.specs.Emits.{rest}
+use Rattle.step_events.specs.declared.change.Change.{Change}
 
 -- ---- steps that show the same: the state that they leave and the rows that they emit
 pub record Like (o p : Out) : Type 0 where
@@ -59,16 +59,16 @@ through_append f (x ∷ l) m st =
     (like_sym (also_assoc (f x st) (through f l) (through f m)))
 
 -- ---- turns
--- k rows are emitted of a step to goal: what remains is next, and what an iteration needs of the state is held
-pub record Going (potential : State → ℕ) (st : State) (goal : Out) (next : State → Out) (held : State → Type 0) (s ev₀ ev : List ℕ) (k : ℕ) : Type 0 where
+-- of a step to goal some is done: what remains is next, and what an iteration needs of the state is held
+pub record Going (potential : State → ℕ) (st : State) (goal : Out) (next : State → Out) (held : State → Type 0) (a b : Change) : Type 0 where
   pub sofar : Out
-  pub step : EmitsWithin potential st sofar s ev₀ ev k
+  pub step : EmitsWithin potential st sofar a b
   pub goes : Like (also sofar next) goal
   pub holding : held sofar.state
 
 module _ (potential : State → ℕ) {st : State} {goal : Out} where
-  pub going_start : {s ev : List ℕ} (next : State → Out) (held : State → Type 0) → RoomFor potential st s ev → Like (next st) goal → held st
-      → Going potential st goal next held s ev ev 0
+  pub going_start : {a : Change} (next : State → Out) (held : State → Type 0) → RoomFor potential st a → Like (next st) goal → held st
+      → Going potential st goal next held a a
   going_start next held f h k =
       record {
         sofar = stays st;
@@ -77,22 +77,22 @@ module _ (potential : State → ℕ) {st : State} {goal : Out} where
         holding = k;
       }
 
-  module _ {next : State → Out} {held : State → Type 0} {s ev₀ ev : List ℕ} {k : ℕ} (g : Going potential st goal next held s ev₀ ev k) where
-    pub going-fits : RoomFor potential g.sofar.state s (rest k ev)
+  module _ {next : State → Out} {held : State → Type 0} {a b : Change} (g : Going potential st goal next held a b) where
+    pub going-fits : RoomFor potential g.sofar.state b
     going-fits = rest-fits potential g.step
 
-    pub going_ready : SomeRoom potential s (rest k ev)
+    pub going_ready : SomeRoom potential b
     going_ready = record { state = g.sofar.state; fits = going-fits }
 
-    pub going-iteration : (turn next' : State → Out) (held' : State → Type 0) {s' x : List ℕ} {r : ℕ}
-        → ((m : State) → held m → RoomFor potential m s (rest k ev) → EmitsWithin potential m (turn m) s' (rest k ev) x r)
-        → ((m : State) → held m → Represents s m → r ≡ length (turn m).emitted → Like (next m) (also (turn m) next') × held' (turn m).state)
-        → Going potential st goal next' held' s' ev₀ (take (34 * k) ev ++ (x ++ drop (length ev - 34 * k) (drop (34 * k) ev))) (k + r)
+    pub going-iteration : (turn next' : State → Out) (held' : State → Type 0) {c : Change}
+        → ((m : State) → held m → RoomFor potential m b → EmitsWithin potential m (turn m) b c)
+        → ((m : State) → held m → Represents b.state.now m → Like (next m) (also (turn m) next') × held' (turn m).state)
+        → Going potential st goal next' held' a c
     going-iteration turn next' held' made on =
         let o = g.sofar in
         let m = o.state in
         let done = made m g.holding going-fits in
-        let more = on m g.holding g.step.holds done.count in
+        let more = on m g.holding g.step.emits.holds in
         record {
           sofar = also o turn;
           step = step-also potential g.step turn done;
@@ -102,8 +102,8 @@ module _ (potential : State → ℕ) {st : State} {goal : Out} where
           holding = unfold also in more.1;
         }
 
-    pub going_end : ((m : State) → held m → Represents s m → Like (next m) (stays m)) → EmitsWithin potential st goal s ev₀ ev k
+    pub going_end : ((m : State) → held m → Represents b.state.now m → Like (next m) (stays m)) → EmitsWithin potential st goal a b
     going_end none =
         let o = g.sofar in
-        let whole = like_trans (like_sym (like_trans (also_like next stays (like_refl o) (none o.state g.holding g.step.holds)) (also-stays o))) g.goes in
+        let whole = like_trans (like_sym (like_trans (also_like next stays (like_refl o) (none o.state g.holding g.step.emits.holds)) (also-stays o))) g.goes in
         step_same potential whole.leaves whole.same_emitted g.step

@@ -1,4 +1,5 @@
 pub mod Row
+pub mod Tells
 pub mod Emits
 pub mod EmitsWithin
 pub mod Iterations

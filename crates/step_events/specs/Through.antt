@@ -1,6 +1,6 @@
 -- A step for each element of a list, one element more at a time, as a loop does it.
 -- Assumes nothing.
-use Rattle.std.specs.Prelude.{ℕ, zero, suc, ◌+◌, ◌-◌, ◌*◌, ◌≤◌, ◌<◌, ◌≡◌, Bool, ◌&&◌, Ok, length, get_or, take, drop}
+use Rattle.std.specs.Prelude.{ℕ, zero, suc, ◌+◌, ◌≤◌, ◌<◌, ◌≡◌, Bool, ◌&&◌, length, get_or, take}
 use Rattle.std.proofs.Math.Path.{refl, sym, ap}
 use Rattle.std.proofs.Common.{◌∙◌, take_all}
 use Rattle.std.proofs.Math.Bool.{true, false}
@@ -11,9 +11,12 @@ use Rattle.definition.specs.State.{State, Out, sizes, stays, also, through}
 use Rattle.definition.specs.Words.{within}
 use Rattle.definition.specs.Reference.Addresses.{goes}
 use Rattle.state.specs.Represents.{Represents}
-use Rattle.step_events.specs.Emits.{does-same, rest}
+use Rattle.step_events.specs.Emits.{does-same}
 use Rattle.step_events.specs.Iterations.{Like, like_refl, like_sym, like_trans, also_like, through-one, through_append}
-use Rattle.step_events.specs.Comes.{Came, Comes, NoRows, joined, within-also, other-past, comes-full, adds_none, adds-also}
+use Rattle.step_events.specs.Comes.{Answer, Comes, within-also, other-past, comes-full, adds_none, adds-also}
+use Rattle.step_events.specs.declared.change.Change.{Change}
+use Rattle.refusal.specs.declared.Refusal.{Refusal}
+use Rattle.std.specs.Prelude.{Ok, Err}
 
 -- two steps that leave and emit the same, within the limits alike
 pub record Alike (o p : Out) : Type 0 where
@@ -21,11 +24,11 @@ pub record Alike (o p : Out) : Type 0 where
   pub said : o.emitted ≡ p.emitted
   pub limits : within o.peak ≡ within p.peak
 
-pub adds_same : {o p : Out} {w ev₀ ev : List ℕ} {r : Came} → Alike o p → Comes (goes o) w ev₀ ev r → Comes (goes p) w ev₀ ev r
-adds_same s a =
+pub adds_same : {o p : Out} {a b : Change} {r : Answer} → Alike o p → Comes (goes o) a b r → Comes (goes p) a b r
+adds_same s t =
     record {
-      answer = a.answer ∙ rw (s.limits, s.said);
-      does = λ e. does-same s.left s.said (a.does (s.limits ∙ e));
+      answer = t.answer ∙ rw s.limits;
+      does = λ e. does-same s.left s.said (t.does (s.limits ∙ e));
     }
 
 -- what a step leaves is no longer than its peak
@@ -94,24 +97,24 @@ full-later f k (suc i) (x ∷ l) st s h =
     and-false : {b c : Bool} → b ≡ true → c ≡ false → (b && c) ≡ false
     and-false e g = rw (e, g)
 
--- ---- loops: the first i elements, and one more on what is left of the buffer
+-- ---- loops: the first i elements, and one more
 module _ {A : Type 0} (f : A → State → Out) (l : List A) (st : State) where
   module _ (k : Covered f) (s : within (sizes st) ≡ true) where
-    pub adds-next : (i : ℕ) (d : A) → i < length l → {w ev₀ ev w' x : List ℕ} {n : ℕ} {r : Came} → Comes (goes (through f (take i l) st)) w ev₀ ev (Ok n)
-        → Comes (goes (f (get_or l i d) (through f (take i l) st).state)) w' (rest n ev) x r
-        → Comes (goes (through f (take (i + 1) l) st)) w' ev₀ (take (34 * n) ev ++ (x ++ drop (length ev - 34 * n) (drop (34 * n) ev))) (joined n r)
+    pub adds-next : (i : ℕ) (d : A) → i < length l → {a b c : Change} {r : Answer} → Comes (goes (through f (take i l) st)) a b (Ok tt)
+        → Comes (goes (f (get_or l i d) (through f (take i l) st).state)) b c r
+        → Comes (goes (through f (take (i + 1) l) st)) a c r
     adds-next i d h t u =
         rw (take_more l i d h) (adds_same (through-more f k (take i l) (get_or l i d) st s) (adds-also t (f (get_or l i d)) u))
 
     -- once there is no room, none comes back
-    pub adds-other-end : (i : ℕ) {w ev₀ ev w' ev' : List ℕ} {r : Came} → NoRows r → Comes (goes (through f (take i l) st)) w ev₀ ev r → Comes (goes (through f l st)) w' ev₀ ev' r
-    adds-other-end i other a = let p = other-past other a in rw p.0 (comes-full (full-later f k i l st s p.1))
+    pub adds-other-end : (i : ℕ) {a b c d : Change} {e : Refusal} → Comes (goes (through f (take i l) st)) a b (Err e) → Comes (goes (through f l st)) c d (Err e)
+    adds-other-end i t = let p = other-past t in rw p.0 (comes-full (full-later f k i l st s p.1))
 
-  pub adds-start : {w ev : List ℕ} → Represents w st → Comes (goes (through f (take 0 l) st)) w ev ev (Ok 0)
+  pub adds-start : {a : Change} → Represents a.state.now st → Comes (goes (through f (take 0 l) st)) a a (Ok tt)
   unfolding through
   adds-start h = adds_none st h
 
-  pub adds-end : (i : ℕ) → length l ≤ i → {w ev₀ ev : List ℕ} {r : Came} → Comes (goes (through f (take i l) st)) w ev₀ ev r → Comes (goes (through f l st)) w ev₀ ev r
+  pub adds-end : (i : ℕ) → length l ≤ i → {a b : Change} {r : Answer} → Comes (goes (through f (take i l) st)) a b r → Comes (goes (through f l st)) a b r
   adds-end i h t = rw (take_all i l h) at t
 
 -- ---- what is left is within the limits where the peak is

@@ -1,55 +1,83 @@
-// Event rows, each written at the start of what is lent: 34 words, what it is, the flags of a new route or 0, the row, zeros.
+// A change to a state as it is made: the words that hold the state, and the event rows that tell of it. An event row has 34 words:
+// what it is, the flags of a new route or 0, the row, zeros.
 #![tactic(auto)]
 
-ghost use Rattle.std.specs.Prelude.{◌≡◌, ◌∷◌, ◌++◌, ◌≤◌, length};
-ghost use Rattle.lists.specs.Lists.{put, zeros};
+ghost use Rattle.std.specs.Prelude.{◌≡◌, ◌∷◌, [], ◌++◌, ◌+◌, ◌*◌, ◌≤◌, length};
+ghost use Rattle.lists.specs.Lists.{zeros};
 ghost use Rattle.layout.specs.Event.{new_addr4, del_addr4, new_route4, del_route4};
+ghost use Rattle.step_events.specs.Tells.{Tells};
 
-use layout::event;
+mod change;
 
-fn address_event(ev: &mut [u32], kind: u32, a: &[u32])
-    requires { (34 ≤ length ev.old) × (length a.now ≡ 20) }
-    ensures { ev.new ≡ put 0 (kind ∷ 0 ∷ (a.now ++ zeros 12)) ev.old }
+pub use change::Change;
+use layout::{AddressRow, EVENT_WORDS, EventRow, RouteRow, event};
+
+fn address_event(kind: u32, a: &AddressRow) -> EventRow
+    ensures { result ≡ kind ∷ 0 ∷ (a.now ++ zeros 12) }
 {
-    words::store(ev, event::ROW, a);
-    words::clear(ev, event::BEHIND_ADDRESS, event::BEHIND_ADDRESS_WORDS);
-    ev[event::FLAGS] = 0;
-    ev[event::KIND] = kind;
+    let mut row = [0u32; EVENT_WORDS];
+    row[event::KIND] = kind;
+    words::store(&mut row, event::ROW, a);
+    row
 }
 
-fn route_event(ev: &mut [u32], kind: u32, flags: u32, r: &[u32])
-    requires { (34 ≤ length ev.old) × (length r.now ≡ 32) }
-    ensures { ev.new ≡ put 0 (kind ∷ flags ∷ r.now) ev.old }
+fn route_event(kind: u32, flags: u32, r: &RouteRow) -> EventRow
+    ensures { result ≡ kind ∷ flags ∷ r.now }
 {
-    words::store(ev, event::ROW, r);
-    ev[event::FLAGS] = flags;
-    ev[event::KIND] = kind;
+    let mut row = [0u32; EVENT_WORDS];
+    row[event::KIND] = kind;
+    row[event::FLAGS] = flags;
+    words::store(&mut row, event::ROW, r);
+    row
 }
 
-pub fn new_addr4(ev: &mut [u32], a: &[u32])
-    requires { (34 ≤ length ev.old) × (length a.now ≡ 20) }
-    ensures { ev.new ≡ put 0 (new_addr4 a.now) ev.old }
-{
-    address_event(ev, event::NEW_ADDR4, a);
-}
+impl Change<'_> {
+    // The words that hold the state, to read.
+    pub fn words(&self) -> &[u32]
+        ensures { result.now ≡ self.now.state.now }
+    {
+        self.state
+    }
 
-pub fn del_addr4(ev: &mut [u32], a: &[u32])
-    requires { (34 ≤ length ev.old) × (length a.now ≡ 20) }
-    ensures { ev.new ≡ put 0 (del_addr4 a.now) ev.old }
-{
-    address_event(ev, event::DEL_ADDR4, a);
-}
+    // One row more.
+    fn tell(&mut self, row: &EventRow)
+        requires { 34 * (self.old.told + 1) ≤ length self.old.events.now }
+        ensures tells { Tells (row.now ∷ []) self.old self.new }
+        ensures state { self.new.state.now ≡ self.old.state.now }
+    {
+        words::store(self.events, EVENT_WORDS * self.told, row);
+        self.told += 1;
+    }
 
-pub fn new_route4(ev: &mut [u32], r: &[u32], flags: u32)
-    requires { (34 ≤ length ev.old) × (length r.now ≡ 32) }
-    ensures { ev.new ≡ put 0 (new_route4 r.now flags) ev.old }
-{
-    route_event(ev, event::NEW_ROUTE4, flags, r);
-}
+    pub fn new_addr4(&mut self, a: &AddressRow)
+        requires { 34 * (self.old.told + 1) ≤ length self.old.events.now }
+        ensures tells { Tells (new_addr4 a.now ∷ []) self.old self.new }
+        ensures state { self.new.state.now ≡ self.old.state.now }
+    {
+        self.tell(&address_event(event::NEW_ADDR4, a));
+    }
 
-pub fn del_route4(ev: &mut [u32], r: &[u32])
-    requires { (34 ≤ length ev.old) × (length r.now ≡ 32) }
-    ensures { ev.new ≡ put 0 (del_route4 r.now) ev.old }
-{
-    route_event(ev, event::DEL_ROUTE4, 0, r);
+    pub fn del_addr4(&mut self, a: &AddressRow)
+        requires { 34 * (self.old.told + 1) ≤ length self.old.events.now }
+        ensures tells { Tells (del_addr4 a.now ∷ []) self.old self.new }
+        ensures state { self.new.state.now ≡ self.old.state.now }
+    {
+        self.tell(&address_event(event::DEL_ADDR4, a));
+    }
+
+    pub fn new_route4(&mut self, r: &RouteRow, flags: u32)
+        requires { 34 * (self.old.told + 1) ≤ length self.old.events.now }
+        ensures tells { Tells (new_route4 r.now flags ∷ []) self.old self.new }
+        ensures state { self.new.state.now ≡ self.old.state.now }
+    {
+        self.tell(&route_event(event::NEW_ROUTE4, flags, r));
+    }
+
+    pub fn del_route4(&mut self, r: &RouteRow)
+        requires { 34 * (self.old.told + 1) ≤ length self.old.events.now }
+        ensures tells { Tells (del_route4 r.now ∷ []) self.old self.new }
+        ensures state { self.new.state.now ≡ self.old.state.now }
+    {
+        self.tell(&route_event(event::DEL_ROUTE4, 0, r));
+    }
 }

@@ -1,51 +1,33 @@
 -- The turns of `expire`, as the code makes them.
 -- Assumes nothing.
-use Rattle.std.specs.Prelude.{ℕ, ◌+◌, ◌-◌, ◌*◌, ◌≤◌, ◌<◌, ◌≡◌, refl, Bool, false, not, ◌&&◌, eqb, ltb, length, get_or, take, drop, set}
+use Rattle.std.specs.Prelude.{ℕ, ◌+◌, ◌-◌, ◌*◌, ◌≤◌, ◌<◌, ◌≡◌, refl, false, ltb, length, get_or, set}
 use Rattle.std.proofs.Common.{sym, ◌∙◌, arith, lt-ltb, le-ltb, ltb-true, ltb-false}
 use Rattle.std.proofs.Math.Path.{ap}
-use Rattle.std.proofs.Math.Bool.{true, cond}
-use mathlib.Core.List.{List, [], ◌∷◌, ◌++◌}
-use Rattle.std.specs.Int.Bits.{bit_and}
-use Rattle.std.proofs.Math.ListN.{length-append}
-use Rattle.lists.specs.Lists.{Row, any, eq_row, put, zeros}
+use Rattle.std.proofs.Math.Bool.{true}
+use mathlib.Core.List.{[], ◌∷◌}
+use Rattle.std.proofs.Math.ListN.{length-append, length-set}
+use Rattle.lists.specs.Lists.{Row, any, eq_row, zeros}
 use Rattle.lists.specs.Bools.{cond-true, cond-false, test-case}
 use Rattle.lists.specs.All.{eq_row-refl}
 use Rattle.lists.specs.At.{all-at}
 use Rattle.lists.specs.Rows.{length-zeros}
-use Rattle.life.specs.Life.{reached}
-use Rattle.layout.specs.Bits.{has_and}
-use Rattle.layout.specs.Address.{fit_address, valid, preferred, changed, flags, permanent, deprecated}
+use Rattle.layout.specs.Address.{fit_address}
 use Rattle.layout.specs.Event.{new_addr4}
-use Rattle.definition.specs.State.{State, Out, becomes, stays, also, with_addresses}
-use Rattle.definition.specs.Words.{address_count, base_size}
+use Rattle.definition.specs.State.{State, Out, stays, also, with_addresses}
+use Rattle.definition.specs.Words.{address_count}
 use Rattle.definition.specs.Reference.Removal.{remove_v4, due, deprecates, deprecate, expire}
 use Rattle.definition.specs.Preservation.Fit.{length-address}
 use Rattle.definition.specs.Preservation.Rows.{deprecate-fit}
 use Rattle.definition.specs.Preservation.Shrinking.{potential}
 use Rattle.state.specs.Represents.{Represents, count-addresses}
-use Rattle.step_events.specs.Emits.{rest}
+use Rattle.step_events.specs.Tells.{Tells}
 use Rattle.step_events.specs.EmitsWithin.{RoomFor, SomeRoom, EmitsWithin, step-one, step-none, step-also}
 use Rattle.step_events.specs.Iterations.{like_refl, like_sym, like_trans, also_like, also_assoc, Going, going_start, going_end, going-fits}
 use Rattle.step_drop_prefsrc.specs.Delete.{step_eq}
-use Rattle.step_drop_routes.specs.Iterations.{step-facts}
+use Rattle.step_events.specs.declared.change.Change.{Change}
 use Rattle.lists.specs.Front.{any_here}
-use Rattle.step_remove_v4.specs.One.{address_row, lent-address, put-row}
 use Rattle.step_expire.specs.Iteration.{expire_turn, next_place}
-use Rattle.step_expire.proofs.Iterations.{Quiet, expire-iteration, expire-none, live-lighter, iteration_fewer}
-
--- ---- the tests
-pub due-is : (allowance now : ℕ) (a : Row) (over : Bool) → over ≡ reached allowance (valid a) (changed a) now
-    → (not (not (eqb (bit_and (flags a) 128) 0)) && over) ≡ due allowance now a
-unfolding due
-due-is allowance now a over e = ap (λ (b : Bool). not b && over) (has_and 7 (flags a)) ∙ ap (λ (o : Bool). not (permanent a) && o) e
-
-pub deprecates-is : (allowance now : ℕ) (a : Row) (over : Bool) → over ≡ reached allowance (preferred a) (changed a) now
-    → (not (not (eqb (bit_and (flags a) 128) 0)) && not (not (eqb (bit_and (flags a) 32) 0)) && over) ≡ deprecates allowance now a
-unfolding deprecates
-deprecates-is allowance now a over e =
-    ap (λ (b : Bool). not b && not (not (eqb (bit_and (flags a) 32) 0)) && over) (has_and 7 (flags a))
-    ∙ ap (λ (b : Bool). not (permanent a) && not b && over) (has_and 5 (flags a))
-    ∙ ap (λ (o : Bool). not (permanent a) && not (deprecated a) && o) e
+use Rattle.step_expire.proofs.Iterations.{Quiet, expire-iteration, expire-none, live-lighter, iteration_fewer, removed_fewer}
 
 -- ---- where to go on
 pub next-again : (i was left : ℕ) → left < was → 0 ≡ next_place i was left
@@ -60,94 +42,92 @@ next-less i n left j b m l q =
     (λ e. let z : j ≡ 0 = q ∙ rw e in let h : left < n = ltb-true left n e in omega arith)
     (λ e. let z : j ≡ i + 1 = q ∙ rw e in let h : n ≤ left = ltb-false left n e in omega arith)
 
--- ---- a row that is marked
-pub marked_row : (a row z : List ℕ) → fit_address a ≡ true → row ≡ put 0 (deprecate a) z → length z ≡ 20 → row ≡ deprecate a
-marked_row a row z f e l = e ∙ put-row (deprecate a) z (length-address (deprecate a) (deprecate-fit a f)) l
-
-pub marked-fits : (a row : List ℕ) → fit_address a ≡ true → row ≡ deprecate a → (length row ≡ 20) × (fit_address row ≡ true)
-marked-fits a row f e = (ap length e ∙ length-address (deprecate a) (deprecate-fit a f), ap fit_address e ∙ deprecate-fit a f)
-
 -- ---- the three turns
-pub some-room : {s ev : List ℕ} → SomeRoom potential s ev → (i : ℕ) → i < address_count s → 34 ≤ length ev
+pub some-room : {a : Change} → SomeRoom potential a → (i : ℕ) → i < address_count a.state.now → 34 * (a.told + 1) ≤ length a.events.now
 some-room y i b = omega (arith, y.fits.room, count-addresses y.fits.holds)
 
-module _ (allowance now : ℕ) {st : State} {s ev : List ℕ} (row : Row) (i : ℕ) (b : i < address_count s) (f : RoomFor potential st s ev) (q : row ≡ address_row s i) where
+module _ {st : State} {a : Change} {i : ℕ} (b : i < address_count a.state.now) (f : RoomFor potential st a) where
+  abbrev row : Row
+  row = get_or st.addresses i []
+
   in_use : i < length st.addresses
   in_use = omega (arith, count-addresses f.holds)
 
-  same : row ≡ get_or st.addresses i []
-  same = q ∙ lent-address f.holds i in_use
-
   pub iteration-there : any (eq_row row) st.addresses ≡ true
-  iteration-there = any_here (eq_row row) st.addresses i [] in_use (rw (← same) (eq_row-refl row))
+  iteration-there = any_here (eq_row row) st.addresses i [] in_use (eq_row-refl row)
 
-  by_row : expire_turn allowance now i st ≡ cond (due allowance now row) (remove_v4 row st) (cond (deprecates allowance now row) (becomes (with_addresses (set st.addresses i (deprecate row)) st) (new_addr4 (deprecate row) ∷ [])) (stays st))
-  unfolding expire_turn
-  by_row = ap (λ (a : Row). cond (due allowance now a) (remove_v4 a st) (cond (deprecates allowance now a) (becomes (with_addresses (set st.addresses i (deprecate a)) st) (new_addr4 (deprecate a) ∷ [])) (stays st))) (sym same)
+  pub iteration-fits : fit_address row ≡ true
+  iteration-fits = all-at fit_address i st.addresses [] in_use f.holds.addresses_fit
 
-  pub iteration-due : {s' ev' : List ℕ} {r : ℕ} → due allowance now row ≡ true → EmitsWithin potential st (remove_v4 row st) s' ev ev' r → EmitsWithin potential st (expire_turn allowance now i st) s' ev ev' r
-  iteration-due d t = step_eq (by_row ∙ cond-true (due allowance now row) (remove_v4 row st) _ d) t
+  -- a removal leaves fewer
+  pub removal-fewer : {c : Change} → EmitsWithin potential st (remove_v4 row st) a c → address_count c.state.now < address_count a.state.now
+  removal-fewer t = omega (arith, count-addresses f.holds, count-addresses t.emits.holds, removed_fewer row st iteration-there)
 
-  pub iteration-stays : due allowance now row ≡ false → deprecates allowance now row ≡ false → EmitsWithin potential st (expire_turn allowance now i st) s ev ev 0
-  iteration-stays d e = step_eq (by_row ∙ cond-false (due allowance now row) (remove_v4 row st) _ d ∙ cond-false (deprecates allowance now row) _ (stays st) e) (step-none potential f)
+  -- a mark as many
+  pub marked-same : (c : Change) → Represents c.state.now (with_addresses (set st.addresses i (deprecate row)) st) → address_count c.state.now ≡ address_count a.state.now
+  marked-same c h = omega (arith, count-addresses f.holds, count-addresses h, length-set st.addresses i (deprecate row))
 
-  pub iteration-deprecates : {s' ev' : List ℕ} → due allowance now row ≡ false → deprecates allowance now row ≡ true
-      → Represents s' (with_addresses (set st.addresses i (deprecate row)) st) → ev' ≡ put 0 (new_addr4 (deprecate row)) ev → EmitsWithin potential st (expire_turn allowance now i st) s' ev ev' 1
-  unfolding new_addr4
-  iteration-deprecates d e h w =
-      let fit : fit_address (get_or st.addresses i []) ≡ true = all-at fit_address i st.addresses [] in_use f.holds.addresses_fit in
-      let fit' : fit_address row ≡ true = ap fit_address same ∙ fit in
-      let lighter : 1 + potential (with_addresses (set st.addresses i (deprecate (get_or st.addresses i []))) st) ≤ potential st = live-lighter allowance now st i in_use fit (sym (ap (deprecates allowance now) same) ∙ e) in
-      step_eq (by_row ∙ cond-false (due allowance now row) (remove_v4 row st) _ d ∙ cond-true (deprecates allowance now row) _ (stays st) e)
-      (step-one potential (with_addresses (set st.addresses i (deprecate row)) st) (new_addr4 (deprecate row)) f h
-      (omega (arith, length-append (deprecate row) (zeros 12), length-zeros 12, length-address (deprecate row) (deprecate-fit row fit')))
-      (rw same lighter) w)
+  module _ (allowance now : ℕ) where
+    pub iteration-due : {c : Change} → due allowance now row ≡ true → EmitsWithin potential st (remove_v4 row st) a c → EmitsWithin potential st (expire_turn allowance now i st) a c
+    unfolding expire_turn
+    iteration-due d t = step_eq (cond-true (due allowance now row) (remove_v4 row st) _ d) t
+
+    pub iteration-stays : due allowance now row ≡ false → deprecates allowance now row ≡ false → EmitsWithin potential st (expire_turn allowance now i st) a a
+    unfolding expire_turn
+    iteration-stays d e = step_eq (cond-false (due allowance now row) (remove_v4 row st) _ d ∙ cond-false (deprecates allowance now row) _ (stays st) e) (step-none potential f)
+
+    pub iteration-deprecates : {c : Change} → due allowance now row ≡ false → deprecates allowance now row ≡ true
+        → Represents c.state.now (with_addresses (set st.addresses i (deprecate row)) st) → Tells (new_addr4 (deprecate row) ∷ []) a c → EmitsWithin potential st (expire_turn allowance now i st) a c
+    unfolding expire_turn new_addr4
+    iteration-deprecates d e h w =
+        step_eq (cond-false (due allowance now row) (remove_v4 row st) _ d ∙ cond-true (deprecates allowance now row) _ (stays st) e)
+        (step-one potential (with_addresses (set st.addresses i (deprecate row)) st) (new_addr4 (deprecate row)) f h
+        (omega (arith, length-append (deprecate row) (zeros 12), length-zeros 12, length-address (deprecate row) (deprecate-fit row iteration-fits)))
+        (live-lighter allowance now st i in_use iteration-fits e) w)
 
 -- ---- the pass so far
-abbrev pub Expiring : ℕ → ℕ → State → ℕ → ℕ → List ℕ → List ℕ → List ℕ → Type 0
-Expiring allowance now st i k s ev₀ ev = Going potential st (expire allowance now st) (expire allowance now) (Quiet allowance now i) s ev₀ ev k
+abbrev pub Expiring : ℕ → ℕ → State → ℕ → Change → Change → Type 0
+Expiring allowance now st i a b = Going potential st (expire allowance now st) (expire allowance now) (Quiet allowance now i) a b
 
-pub expiring_start : (allowance now : ℕ) {st : State} {s ev : List ℕ} → RoomFor potential st s ev → Expiring allowance now st 0 0 s ev ev
+pub expiring_start : (allowance now : ℕ) {st : State} {a : Change} → RoomFor potential st a → Expiring allowance now st 0 a a
 expiring_start allowance now {st} f =
     going_start potential (expire allowance now) (Quiet allowance now 0) f (like_refl (expire allowance now st)) (record { clean = refl; within = omega arith })
 
-module _ (allowance now i : ℕ) {st : State} {k : ℕ} {s ev₀ ev : List ℕ} (g : Expiring allowance now st i k s ev₀ ev) where
-  pub expiring_facts : {s₀ : List ℕ} → RoomFor potential st s₀ ev₀ → ((34 * k ≤ length ev) × (length s ≡ base_size) × (length ev ≡ length ev₀) × (k ≤ 384)) × ((i ≤ address_count s) × (address_count s ≤ 64))
-  expiring_facts f =
-      let h = g.step.holds in
-      (step-facts f g.step, (omega (arith, count-addresses h, g.holding.within), omega (arith, count-addresses h, h.addresses_within)))
+module _ (allowance now i : ℕ) {st : State} {a b : Change} (g : Expiring allowance now st i a b) where
+  pub expiring_facts : (i ≤ address_count b.state.now) × (address_count b.state.now ≤ 64)
+  expiring_facts =
+      let h = g.step.emits.holds in
+      (omega (arith, count-addresses h, g.holding.within), omega (arith, count-addresses h, h.addresses_within))
 
-  pub expiring_next : (n : ℕ) → n ≡ address_count s → i < n → (j left : ℕ) {s' x : List ℕ} {r : ℕ} → left ≡ address_count s' → j ≡ next_place i n left
-      → ((m : State) → RoomFor potential m s (rest k ev) → EmitsWithin potential m (expire_turn allowance now i m) s' (rest k ev) x r)
-      → Expiring allowance now st j (k + r) s' ev₀ (take (34 * k) ev ++ (x ++ drop (length ev - 34 * k) (drop (34 * k) ev)))
-  unfolding also
-  expiring_next n en b j left {s'} el ej t =
-      let o = g.sofar in
-      let m = o.state in
-      let h = g.step.holds in
-      let done = t m (going-fits potential g) in
-      let iteration : State → Out = expire_turn allowance now i in
-      let place : j ≡ next_place i (length m.addresses) (length (iteration m).state.addresses) =
-      ej ∙ ap (λ (x : ℕ). next_place i x left) (en ∙ count-addresses h) ∙ ap (next_place i (length m.addresses)) (el ∙ count-addresses done.holds)
-      in
-      let more = expire-iteration allowance now i m g.holding h.addresses_fit (omega (arith, count-addresses h)) j place in
-      record {
-        sofar = also o iteration;
-        step = step-also potential g.step iteration done;
-        goes =
-            like_trans (also_assoc o iteration (expire allowance now))
-            (like_trans (like_sym (also_like (expire allowance now) (λ y. also (iteration y) (expire allowance now)) (like_refl o) more.0)) g.goes);
-        holding = more.1;
-      }
+  module _ (h : i < address_count b.state.now) {c : Change} (t : (m : State) → RoomFor potential m b → EmitsWithin potential m (expire_turn allowance now i m) b c) where
+    pub expiring_next : (j : ℕ) → j ≡ next_place i (address_count b.state.now) (address_count c.state.now) → Expiring allowance now st j a c
+    unfolding also
+    expiring_next j e =
+        let o = g.sofar in
+        let m = o.state in
+        let k = g.step.emits.holds in
+        let done = t m (going-fits potential g) in
+        let turn : State → Out = expire_turn allowance now i in
+        let place : j ≡ next_place i (length m.addresses) (length (turn m).state.addresses) =
+        e ∙ ap (λ (x : ℕ). next_place i x (address_count c.state.now)) (count-addresses k) ∙ ap (next_place i (length m.addresses)) (count-addresses done.emits.holds)
+        in
+        let more = expire-iteration allowance now i m g.holding k.addresses_fit (omega (arith, count-addresses k)) j place in
+        record {
+          sofar = also o turn;
+          step = step-also potential g.step turn done;
+          goes =
+              like_trans (also_assoc o turn (expire allowance now))
+              (like_trans (like_sym (also_like (expire allowance now) (λ y. also (turn y) (expire allowance now)) (like_refl o) more.0)) g.goes);
+          holding = more.1;
+        }
 
-  pub expiring_end : address_count s ≤ i → EmitsWithin potential st (expire allowance now st) s ev₀ ev k
-  expiring_end b = going_end potential g (λ m h w. expire-none allowance now m i h.clean (omega (arith, count-addresses w)))
+    -- no address comes
+    pub expiring_fewer : address_count c.state.now ≤ address_count b.state.now
+    expiring_fewer =
+        let m = g.sofar.state in
+        let k = g.step.emits.holds in
+        let done = t m (going-fits potential g) in
+        omega (arith, count-addresses k, count-addresses done.emits.holds, iteration_fewer allowance now i m (omega (arith, count-addresses k)))
 
-  -- no address comes
-  pub expiring_fewer : (n : ℕ) → n ≡ address_count s → i < n → {s' x : List ℕ} {r : ℕ} → ((m : State) → RoomFor potential m s (rest k ev) → EmitsWithin potential m (expire_turn allowance now i m) s' (rest k ev) x r)
-      → address_count s' ≤ n
-  expiring_fewer n en b t =
-      let m = g.sofar.state in
-      let h = g.step.holds in
-      let done = t m (going-fits potential g) in
-      omega (arith, count-addresses h, count-addresses done.holds, iteration_fewer allowance now i m (omega (arith, count-addresses h)))
+  pub expiring_end : address_count b.state.now ≤ i → EmitsWithin potential st (expire allowance now st) a b
+  expiring_end h = going_end potential g (λ m q w. expire-none allowance now m i q.clean (omega (arith, count-addresses w)))

@@ -1,110 +1,103 @@
-// Addresses at the end of their lives: one that is due goes, and all begins again; one that fades is marked and emitted.
+// Addresses at the end of their lives: one that is due goes, and all begins again; one that fades is marked and told.
 #![tactic(auto)]
 
-ghost use Rattle.std.specs.Prelude.{◌≡◌, true, ◌+◌, ◌*◌, ◌≤◌, ◌<◌, length, set};
-ghost use Rattle.lists.specs.Lists.{put};
-ghost use Rattle.layout.specs.Address.{fit_address};
+ghost use Rattle.std.specs.Prelude.{◌≡◌, true, [], ◌∷◌, ◌+◌, ◌*◌, ◌≤◌, ◌<◌, length, set};
+ghost use Rattle.layout.specs.Address.{fit_address, permanent, deprecated};
 ghost use Rattle.layout.specs.Event.{new_addr4};
 ghost use Rattle.definition.specs.State.{State, with_addresses};
 ghost use Rattle.definition.specs.Words.{address_count};
 ghost use Rattle.definition.specs.Reference.Removal.{due, deprecates, deprecate, expire};
 ghost use Rattle.definition.specs.Preservation.Shrinking.{potential};
 ghost use Rattle.state.specs.Represents.{Represents, RepresentsSome};
+ghost use Rattle.step_events.specs.Tells.{Tells};
 ghost use Rattle.step_events.specs.EmitsWithin.{RoomFor, SomeRoom, EmitsWithin};
 ghost use Rattle.step_expire.specs.Iteration.{expire_turn, next_place};
 
-use layout::{ADDRESS_WORDS, ADDRESSES_AT, EVENT_WORDS, address};
+use layout::{AddressRow, address};
 use life::Nanoseconds;
+use step_events::Change;
 
-// Its valid lifetime is reached; a permanent address never runs out.
-fn due(a: &[u32], allowance: Nanoseconds, clock: Nanoseconds) -> bool
-    requires { length a.now ≡ 20 }
-    ensures { result ≡ due allowance.0 clock.0 a.now }
-{
-    let lasting = a[address::FLAGS] & row_address::PERMANENT != 0;
-    let life = row_address::life_of(a);
-    let valid = life.valid;
-    let over = life.reached(valid, clock, allowance);
-    !lasting & over
-}
-
-// Its preferred lifetime is reached, and that isn't marked yet.
-fn deprecates(a: &[u32], allowance: Nanoseconds, clock: Nanoseconds) -> bool
-    requires { length a.now ≡ 20 }
-    ensures { result ≡ deprecates allowance.0 clock.0 a.now }
-{
-    let lasting = a[address::FLAGS] & row_address::PERMANENT != 0;
-    let marked = a[address::FLAGS] & row_address::DEPRECATED != 0;
-    let life = row_address::life_of(a);
-    let preferred = life.preferred;
-    let over = life.reached(preferred, clock, allowance);
-    !lasting & !marked & over
-}
-
-// The address at i becomes the row a, marked, and is emitted.
-fn mark(s: &mut [u32], ev: &mut [u32], i: usize, a: &[u32])
-    requires represents_some { RepresentsSome s.old }
-    requires i_bound { (i < address_count s.old) × (34 ≤ length ev.old) × (fit_address a.now ≡ true) }
-    ensures ev_after { ev.new ≡ put 0 (new_addr4 (deprecate a.now)) ev.old }
-    ensures represents { (st : State) → Represents s.old st → Represents s.new (with_addresses (set st.addresses i (deprecate a.now)) st) }
-{
-    let mut row = [0u32; ADDRESS_WORDS];
-    row_update::deprecate(a, &mut row);
-    step_events::new_addr4(ev, &row);
-    state::replace_address(s, i, &row);
-}
-
-// What comes of the address at i; the number of rows emitted.
-fn iteration(
-    s: &mut [u32],
-    ev: &mut [u32],
-    i: usize,
+// When it is, and how much sooner a lifetime counts as reached.
+#[derive(Clone, Copy)]
+struct Clock {
+    time: Nanoseconds,
     allowance: Nanoseconds,
-    clock: Nanoseconds,
-) -> usize
-    requires some_room { SomeRoom potential s.old ev.old }
-    requires i_bound { i < address_count s.old }
-    ensures { (st : State) → RoomFor potential st s.old ev.old → EmitsWithin potential st (expire_turn allowance.0 clock.0 i st) s.new ev.old ev.new result }
-{
-    let at = ADDRESSES_AT + ADDRESS_WORDS * i;
-    let end = at + ADDRESS_WORDS;
-    let mut row = [0u32; ADDRESS_WORDS];
-    words::store(&mut row, 0, &s[at..end]);
-    if due(&row, allowance, clock) {
-        return step_remove_v4::remove_v4(s, ev, &row);
-    }
-    if deprecates(&row, allowance, clock) {
-        mark(s, ev, i, &row);
-        return 1;
-    }
-    0
 }
 
-// The place that is next: the first one again where addresses went.
-fn next(i: usize, was: usize, left: usize) -> usize
-    requires { i < 64 }
-    ensures { result ≡ next_place i was left }
+fn permanent(a: &AddressRow) -> bool
+    ensures { result ≡ permanent a.now }
 {
-    if left < was {
+    a[address::FLAGS] & row_address::PERMANENT != 0
+}
+
+fn deprecated(a: &AddressRow) -> bool
+    ensures { result ≡ deprecated a.now }
+{
+    a[address::FLAGS] & row_address::DEPRECATED != 0
+}
+
+impl Clock {
+    // Its valid lifetime is reached; a permanent address never runs out.
+    #[tactic(auto, unfolding(definition::specs::Reference::Removal::due))]
+    fn due(self, a: &AddressRow) -> bool
+        ensures { result ≡ due self.allowance.0 self.time.0 a.now }
+    {
+        let life = row_address::life_of(a);
+        !permanent(a) && life.reached(life.valid, self.time, self.allowance)
+    }
+
+    // Its preferred lifetime is reached, and that isn't marked yet.
+    #[tactic(auto, unfolding(definition::specs::Reference::Removal::deprecates))]
+    fn deprecates(self, a: &AddressRow) -> bool
+        ensures { result ≡ deprecates self.allowance.0 self.time.0 a.now }
+    {
+        let life = row_address::life_of(a);
+        let over = life.reached(life.preferred, self.time, self.allowance);
+        !permanent(a) && !deprecated(a) && over
+    }
+}
+
+// The address at i becomes the row a, marked, and is told.
+fn mark(change: &mut Change<'_>, i: usize, a: &AddressRow)
+    requires represents_some { RepresentsSome change.old.state.now }
+    requires i_bound { (i < address_count change.old.state.now) × (34 * (change.old.told + 1) ≤ length change.old.events.now) × (fit_address a.now ≡ true) }
+    ensures tells { Tells (new_addr4 (deprecate a.now) ∷ []) change.old change.new }
+    ensures represents { (st : State) → Represents change.old.state.now st → Represents change.new.state.now (with_addresses (set st.addresses i (deprecate a.now)) st) }
+{
+    let row = row_update::deprecate(a);
+    change.new_addr4(&row);
+    state::replace_address(change.state, i, &row);
+}
+
+// What comes of the address at i, and the place that is next: the first one again where addresses went.
+fn iteration(change: &mut Change<'_>, clock: Clock, i: usize) -> usize
+    requires some_room { SomeRoom potential change.old }
+    requires i_bound { i < address_count change.old.state.now }
+    ensures next { result ≡ next_place i (address_count change.old.state.now) (address_count change.new.state.now) }
+    ensures emits { (st : State) → RoomFor potential st change.old → EmitsWithin potential st (expire_turn clock.allowance.0 clock.time.0 i st) change.old change.new }
+{
+    let row = state::addresses(change.words()).rows[i];
+    if clock.due(&row) {
+        step_remove_v4::remove_v4(change, &row);
         return 0;
+    }
+    if clock.deprecates(&row) {
+        mark(change, i, &row);
     }
     i + 1
 }
 
-// Every address that is due goes, each that fades is marked; the number of rows emitted.
-pub fn expire(s: &mut [u32], ev: &mut [u32], allowance: Nanoseconds, clock: Nanoseconds) -> usize
-    requires { SomeRoom potential s.old ev.old }
-    ensures { (st : State) → RoomFor potential st s.old ev.old → EmitsWithin potential st (expire allowance.0 clock.0 st) s.new ev.old ev.new result }
+// Every address that is due goes, each that fades is marked. The list changes under the loop, so it walks by places.
+pub fn expire(change: &mut Change<'_>, allowance: Nanoseconds, clock: Nanoseconds)
+    requires { SomeRoom potential change.old }
+    ensures { (st : State) → RoomFor potential st change.old → EmitsWithin potential st (expire allowance.0 clock.0 st) change.old change.new }
 {
+    let clock = Clock {
+        time: clock,
+        allowance,
+    };
     let mut i = 0usize;
-    let mut k = 0usize;
-    let mut n = state::address_count(s);
-    while i < n {
-        let r = iteration(s, &mut ev[EVENT_WORDS * k..], i, allowance, clock);
-        k += r;
-        let left = state::address_count(s);
-        i = next(i, n, left);
-        n = left;
+    while i < state::address_count(change.words()) {
+        i = iteration(change, clock, i);
     }
-    k
 }

@@ -1,6 +1,6 @@
 -- What an insertion is to do, as a place among the rows.
 -- Assumes nothing.
-use Rattle.std.specs.Prelude.{ℕ, ◌-◌, ◌^◌, ◌≤◌, ◌<◌, ◌≡◌, refl, Bool, cond, not, eqb, leb, get_or}
+use Rattle.std.specs.Prelude.{ℕ, ◌^◌, ◌≤◌, ◌<◌, ◌≡◌, refl, Bool, cond, not, eqb, leb, get_or}
 use Rattle.std.proofs.Common.{sym, ◌∙◌, arith, length-set}
 use Rattle.std.proofs.Math.Path.{ap}
 use Rattle.std.proofs.Math.Bool.{true, false}
@@ -25,8 +25,9 @@ use Rattle.definition.specs.Reference.Insert.{ahead, insert4, excl_flag, replace
 use Rattle.step_insert.specs.Run.{Run, run-alike, run-within, run-ahead, run-behind, run-place}
 use Rattle.step_insert.specs.declared.Plan.{Plan}
 use Rattle.step_insert.specs.declared.Plan.TheVariants.{Add, Replace, Keep, Refuse}
-use Rattle.step_insert.specs.declared.Inserted.{Inserted}
-use Rattle.step_insert.specs.declared.Inserted.TheVariants.{Put, Nothing, Refused, Full}
+use Rattle.std.specs.Prelude.{Option, Some, None, Result, Ok, Err}
+use Rattle.refusal.specs.declared.Refusal.{Refusal}
+use Rattle.refusal.specs.declared.Refusal.TheVariants.{Full, Errno}
 
 -- what a plan comes to
 abbrev pub planned : Row → List Row → Plan → Insert.Inserted
@@ -97,11 +98,15 @@ module _ (new : Row) (flags : ℕ) (l : List Row) where
         (cases start end (excl_flag flags) (replace_flag flags) there f (create_flag flags) (append_flag flags))
 
 -- ---- the words
+-- the flags of a row put in, none where it is there already
+abbrev pub Inserted : Type 0
+Inserted = Result (Option ℕ) Refusal
+
 -- what came of it, and the rows afterwards, by how many there may be
 abbrev pub answer_of : Insert.Inserted → Inserted
-answer_of (Insert.placed rows emitted) = cond (leb (length rows) 256) (Put emitted) Full
-answer_of Insert.nothing = Nothing
-answer_of (Insert.unplaced n) = Refused n
+answer_of (Insert.placed rows emitted) = cond (leb (length rows) 256) (Ok (Some emitted)) (Err Full)
+answer_of Insert.nothing = Ok None
+answer_of (Insert.unplaced n) = Err (Errno n)
 
 abbrev pub rows_after : Insert.Inserted → List Row → List Row
 rows_after (Insert.placed rows emitted) old = cond (leb (length rows) 256) rows old
@@ -130,32 +135,32 @@ pub record InsertedInto (new : Row) (flags : ℕ) (st : State) (w : List ℕ) (r
   pub holds : Represents w (with_routes (rows_after (insert4 new flags st.routes) st.routes) st)
 
 module _ (new : Row) (flags : ℕ) (st : State) (p : Plan) (e : planned new st.routes p ≡ insert4 new flags st.routes) where
-  pub into-full : {w : List ℕ} → Represents w st → (i emitted : ℕ) → p ≡ Add i emitted → i ≤ length st.routes → length st.routes ≡ 256 → InsertedInto new flags st w Full
+  pub into-full : {w : List ℕ} → Represents w st → (i emitted : ℕ) → p ≡ Add i emitted → i ≤ length st.routes → length st.routes ≡ 256 → InsertedInto new flags st w (Err Full)
   into-full {w} h i emitted q b n =
       let long : leb (length (insert_at i new st.routes)) 256 ≡ false = lt-leb (length (insert_at i new st.routes)) 256 (omega (arith, length-insert_at i new st.routes b)) in
       let is : insert4 new flags st.routes ≡ Insert.placed (insert_at i new st.routes) emitted = sym e ∙ ap (planned new st.routes) q in
       record { answer = rw (is, long); holds = rw (is, long) h }
 
   pub into-put : {w : List ℕ} (i emitted : ℕ) → p ≡ Add i emitted → i ≤ length st.routes → length st.routes < 256
-      → Represents w (with_routes (insert_at i new st.routes) st) → InsertedInto new flags st w (Put emitted)
+      → Represents w (with_routes (insert_at i new st.routes) st) → InsertedInto new flags st w (Ok (Some emitted))
   into-put {w} i emitted q b n h =
       let long : leb (length (insert_at i new st.routes)) 256 ≡ true = le-leb (length (insert_at i new st.routes)) 256 (omega (arith, length-insert_at i new st.routes b)) in
       let is : insert4 new flags st.routes ≡ Insert.placed (insert_at i new st.routes) emitted = sym e ∙ ap (planned new st.routes) q in
       record { answer = rw (is, long); holds = rw (is, long) h }
 
   pub into_replaced : {w : List ℕ} (i : ℕ) → p ≡ Replace i → length st.routes ≤ 256
-      → Represents w (with_routes (set st.routes i new) st) → InsertedInto new flags st w (Put 0x100)
+      → Represents w (with_routes (set st.routes i new) st) → InsertedInto new flags st w (Ok (Some 0x100))
   into_replaced {w} i q n h =
       let long : leb (length (set st.routes i new)) 256 ≡ true = le-leb (length (set st.routes i new)) 256 (omega (arith, length-set st.routes i new)) in
       let is : insert4 new flags st.routes ≡ Insert.placed (set st.routes i new) 0x100 = sym e ∙ ap (planned new st.routes) q in
       record { answer = rw (is, long); holds = rw (is, long) h }
 
-  pub into-kept : {w : List ℕ} → Represents w st → p ≡ Keep → InsertedInto new flags st w Nothing
+  pub into-kept : {w : List ℕ} → Represents w st → p ≡ Keep → InsertedInto new flags st w (Ok None)
   into-kept {w} h q =
       let is : insert4 new flags st.routes ≡ Insert.nothing = sym e ∙ ap (planned new st.routes) q in
       record { answer = rw is; holds = rw is h }
 
-  pub into-refused : {w : List ℕ} → Represents w st → (n : ℕ) → p ≡ Refuse n → InsertedInto new flags st w (Refused n)
+  pub into-refused : {w : List ℕ} → Represents w st → (n : ℕ) → p ≡ Refuse n → InsertedInto new flags st w (Err (Errno n))
   into-refused {w} h n q =
       let is : insert4 new flags st.routes ≡ Insert.unplaced n = sym e ∙ ap (planned new st.routes) q in
       record { answer = rw is; holds = rw is h }

@@ -1,6 +1,6 @@
 -- Among ordered rows those alike a new one stand together: where they begin and end, found in one pass.
 -- Assumes nothing.
-use Rattle.std.specs.Prelude.{ℕ, suc, ◌+◌, ◌-◌, ◌≤◌, ◌<◌, ◌≡◌, Bool, ◌||◌, ltb, length, take}
+use Rattle.std.specs.Prelude.{ℕ, suc, ◌+◌, ◌≤◌, ◌<◌, ◌≡◌, Bool, ◌||◌, ltb, length, take}
 use Rattle.std.proofs.Math.Path.{refl, ap}
 use Rattle.std.proofs.Common.{sym, ◌∙◌, arith, take-append-drop, take_all, length-take-le}
 use Rattle.std.proofs.Math.Bool.{true, false, not, not-not, or-false}

@@ -15,7 +15,8 @@ ghost use Rattle.step_insert.specs.Search.{in_front, in_run, run_start, run_end,
 ghost use Rattle.step_insert.specs.Run.{Run};
 ghost use Rattle.step_insert.specs.Plan.{planned, placed, created, replacing, among, InsertedInto};
 
-use layout::{ROUTE_LIMIT, ROUTE_WORDS, route};
+use layout::{ROUTE_LIMIT, ROUTE_WORDS, RouteRow, route};
+use refusal::Refusal;
 
 fn one_if(b: bool) -> usize
     ensures { result ≡ tick b }
@@ -147,15 +148,6 @@ pub enum Plan {
     Refuse(u32),
 }
 
-// What came of it. Full: there is no room for a row more, and nothing was changed.
-#[derive(Clone, Copy)]
-pub enum Inserted {
-    Put(u32),
-    Nothing,
-    Refused(u32),
-    Full,
-}
-
 // The flags of a request (netlink's NLM_F_*).
 const REPLACE: u32 = 0x100;
 
@@ -233,8 +225,9 @@ fn plan4(rows: &[u32], n: usize, new: &[u32], flags: u32) -> Plan
     among(flags, start, end, alike.there, first)
 }
 
-// A route put into its place: what came of it, the rows as the definition has them. A full list stays as it is.
-pub fn insert4(s: &mut [u32], new: &[u32], flags: u32) -> Inserted
+// A route put into its place, the rows as the definition has them: the flags to tell of it, none where it is there already. A full
+// list stays as it is.
+pub fn insert4(s: &mut [u32], new: &RouteRow, flags: u32) -> Result<Option<u32>, Refusal>
     requires represents_some { RepresentsSome s.old }
     requires value { fit_route new.now ≡ true }
     ensures represents_some_2 { RepresentsSome s.new }
@@ -245,16 +238,16 @@ pub fn insert4(s: &mut [u32], new: &[u32], flags: u32) -> Inserted
     match plan {
         Plan::Add(place, emitted) => {
             if n == ROUTE_LIMIT {
-                return Inserted::Full;
+                return Err(Refusal::Full);
             }
             state::insert_route(s, place, new);
-            Inserted::Put(emitted)
+            Ok(Some(emitted))
         }
         Plan::Replace(place) => {
             state::replace_route(s, place, new);
-            Inserted::Put(REPLACE)
+            Ok(Some(REPLACE))
         }
-        Plan::Keep => Inserted::Nothing,
-        Plan::Refuse(error) => Inserted::Refused(error),
+        Plan::Keep => Ok(None),
+        Plan::Refuse(error) => Err(Refusal::Errno(error)),
     }
 }

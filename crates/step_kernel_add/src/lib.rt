@@ -1,43 +1,42 @@
-// The kernel's own routes: added with their table listed, with their events.
+// The kernel's own routes: added with their table listed, and told.
 #![tactic(auto)]
 
-ghost use Rattle.std.specs.Prelude.{◌≡◌, true, ◌≤◌, ◌<◌, length};
+ghost use Rattle.std.specs.Prelude.{◌≡◌, true, ◌+◌, ◌*◌, ◌≤◌, length};
 ghost use Rattle.layout.specs.Route.{fit_route};
 ghost use Rattle.definition.specs.State.{State};
 ghost use Rattle.definition.specs.Words.{fit_state};
 ghost use Rattle.definition.specs.Reference.Insert.{kernel_add4};
 ghost use Rattle.definition.specs.Reference.Addresses.{goes};
 ghost use Rattle.state.specs.Represents.{Represents, RepresentsSome};
-ghost use Rattle.step_events.specs.Comes.{Comes, rows_of};
+ghost use Rattle.step_events.specs.Comes.{Comes};
 
-use layout::{TABLE_LIMIT, route};
+use layout::{RouteRow, TABLE_LIMIT, route};
 use refusal::Refusal;
-use step_insert::Inserted;
+use step_events::Change;
 
 const CREATE_APPEND: u32 = 0xc00;
 
-// Its table is listed, and it is put behind the rows alike it with its event, unless it is there.
-pub fn kernel_add4(s: &mut [u32], ev: &mut [u32], new: &[u32]) -> Result<usize, Refusal>
-    requires represents_some { RepresentsSome s.old }
+// Its table is listed, and it is put behind the rows alike it and told, unless it is there.
+pub fn kernel_add4(change: &mut Change<'_>, new: &RouteRow) -> Result<(), Refusal>
+    requires represents_some { RepresentsSome change.old.state.now }
     requires value { fit_route new.now ≡ true }
-    requires in_bounds { 34 ≤ length ev.old }
-    ensures represents_some_2 { RepresentsSome s.new }
-    ensures result_bound { rows_of result ≤ 1 }
-    ensures comes { (st : State) → Represents s.old st → fit_state st ≡ true → Comes (goes (kernel_add4 new.now st)) s.new ev.old ev.new result }
+    requires in_bounds { 34 * (change.old.told + 1) ≤ length change.old.events.now }
+    ensures represents_some_2 { RepresentsSome change.new.state.now }
+    ensures told { change.new.told ≤ change.old.told + 1 }
+    ensures comes { (st : State) → Represents change.old.state.now st → fit_state st ≡ true → Comes (goes (kernel_add4 new.now st)) change.old change.new result }
 {
     let table = new[route::TABLE];
-    if TABLE_LIMIT < state_tables::tables_after(s, table) {
+    if TABLE_LIMIT < state_tables::tables_after(change.words(), table) {
         return Err(Refusal::Full);
     }
-    state_tables::list_table(s, table);
-    let came = step_insert::insert4(s, new, CREATE_APPEND);
-    match came {
-        Inserted::Put(flags) => {
-            step_events::new_route4(ev, new, flags);
-            Ok(1)
-        }
-        Inserted::Nothing => Ok(0),
-        Inserted::Refused(_) => Ok(0),
-        Inserted::Full => Err(Refusal::Full),
+    state_tables::list_table(change.state, table);
+    match step_insert::insert4(change.state, new, CREATE_APPEND) {
+        Ok(Some(flags)) => change.new_route4(new, flags),
+        Ok(None) => {}
+        Err(refusal) => match refusal {
+            Refusal::Full => return Err(Refusal::Full),
+            _ => {}
+        },
     }
+    Ok(())
 }

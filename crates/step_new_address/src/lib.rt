@@ -1,126 +1,96 @@
-// Routes and addresses put in, with their events: a block of routes, a new address with what it brings, an address changed.
+// Routes and addresses put in and told: a row of routes, a new address with what it brings, an address changed.
 #![tactic(auto)]
 
-ghost use Rattle.std.specs.Prelude.{◌≡◌, true, List, [], ◌+◌, ◌*◌, ◌≤◌, ◌<◌, length, get_or};
-ghost use Rattle.lists.specs.Lists.{Row};
-ghost use Rattle.lists.specs.Laid.{Laid, Lays};
+ghost use Rattle.std.specs.Prelude.{◌≡◌, true, [], ◌+◌, ◌*◌, ◌≤◌, ◌<◌, length, get_or};
 ghost use Rattle.lists.specs.Place.{place_of};
 ghost use Rattle.layout.specs.Address.{fit_address};
-ghost use Rattle.layout.specs.Route.{fit_route};
 ghost use Rattle.layout.specs.Request.{fit_add_v4};
 ghost use Rattle.definition.specs.State.{State};
 ghost use Rattle.definition.specs.Words.{fit_state, address_count};
 ghost use Rattle.definition.specs.Reference.Addresses.{goes, install, new_address, moved, change_v4, same_address};
 ghost use Rattle.state.specs.Represents.{Represents, RepresentsFit};
-ghost use Rattle.step_events.specs.Comes.{Comes, rows_of, joined};
+ghost use Rattle.step_events.specs.Comes.{Comes};
 ghost use Rattle.step_new_address.specs.Adding.{AddsFrom};
 
-use layout::{ADDRESS_LIMIT, ADDRESS_WORDS, ADDRESSES_AT, EVENT_WORDS, ROUTE_WORDS, address};
+use layout::{ADDRESS_LIMIT, AddV4, AddressRow, address};
 use life::Nanoseconds;
 use refusal::Refusal;
+use rows::{Routes, Rows};
+use step_events::Change;
 
-// The answer of one step after another that emitted k rows.
-pub fn joined(k: usize, came: Result<usize, Refusal>) -> Result<usize, Refusal>
-    requires { k + rows_of came ≤ 1000 }
-    ensures { result ≡ joined k came }
+// The routes, in order.
+pub fn install(change: &mut Change<'_>, routes: Routes<'_>) -> Result<(), Refusal>
+    requires represents_fit { RepresentsFit change.old.state.now }
+    requires in_bounds { 34 * (change.old.told + length routes.rows.now) ≤ length change.old.events.now }
+    ensures told { change.new.told ≤ change.old.told + length routes.entry.rows.now }
+    ensures adds_from { AddsFrom (install routes.entry.rows.now) change.old change.new result }
 {
-    Ok(k + came?)
-}
-
-// The k routes laid out in a block, in order.
-pub fn install(s: &mut [u32], ev: &mut [u32], block: &[u32], k: usize) -> Result<usize, Refusal>
-    requires represents_fit { RepresentsFit s.old }
-    requires block_len { (length block.now ≡ 32 * k) × Lays 32 fit_route block.now }
-    requires k_in_bounds { (34 * k ≤ length ev.old) × (k ≤ 100) }
-    ensures result_bound { rows_of result ≤ k }
-    ensures adds_from { (rows : List Row) → Laid 32 fit_route block.now rows → AddsFrom (install rows) s.old s.new ev.old ev.new result }
-{
-    let mut emitted = 0usize;
-    let mut i = 0usize;
-    while i < k {
-        let at = ROUTE_WORDS * i;
-        let from = EVENT_WORDS * emitted;
-        let m = step_kernel_add::kernel_add4(s, &mut ev[from..], &block[at..at + ROUTE_WORDS])?;
-        emitted += m;
-        i += 1;
+    for row in routes.rows {
+        step_kernel_add::kernel_add4(change, row)?;
     }
-    Ok(emitted)
+    Ok(())
 }
 
-// An address put in its place with its event, then the routes that it brings.
-pub fn new_address(s: &mut [u32], ev: &mut [u32], new: &[u32], up: bool) -> Result<usize, Refusal>
-    requires represents_fit { RepresentsFit s.old }
+// An address put in its place and told, then the routes that it brings.
+pub fn new_address(change: &mut Change<'_>, new: &AddressRow, up: bool) -> Result<(), Refusal>
+    requires represents_fit { RepresentsFit change.old.state.now }
     requires value { fit_address new.now ≡ true }
-    requires in_bounds { 170 ≤ length ev.old }
-    ensures result_bound { rows_of result ≤ 5 }
-    ensures adds_from { AddsFrom (new_address new.now up) s.old s.new ev.old ev.new result }
+    requires in_bounds { 34 * (change.old.told + 5) ≤ length change.old.events.now }
+    ensures told { change.new.told ≤ change.old.told + 5 }
+    ensures adds_from { AddsFrom (new_address new.now up) change.old change.new result }
 {
-    let n = state::address_count(s);
-    if ADDRESS_LIMIT <= n {
+    let addresses = state::addresses(change.words());
+    if ADDRESS_LIMIT <= addresses.rows.len() {
         return Err(Refusal::Full);
     }
-    let place = rows_place::place4(state_read::addresses(s), n, new);
-    state::insert_address(s, place, new);
-    step_events::new_addr4(ev, new);
-    let mut block = [0u32; 128];
-    let k = row_candidates::candidates(state_read::addresses(s), n + 1, new, up, &mut block);
-    let end = ROUTE_WORDS * k;
-    let came = install(s, &mut ev[EVENT_WORDS..], &block[0..end], k);
-    joined(1, came)
+    let place = rows_place::place4(addresses, new);
+    state::insert_address(change.state, place, new);
+    change.new_addr4(new);
+    let block = row_candidates::candidates(state::addresses(change.words()), new, up);
+    install(
+        change,
+        Rows {
+            rows: block.as_slice(),
+        },
+    )
 }
 
 // An address's prefix route with a request's priority put in, and then the one with its own taken out.
-fn moved(s: &mut [u32], ev: &mut [u32], q: &[u32], old: &[u32]) -> Result<usize, Refusal>
-    requires represents_fit { RepresentsFit s.old }
-    requires q_len { length q.now ≡ 18 }
-    requires len { length old.now ≡ 20 }
+fn moved(change: &mut Change<'_>, q: &AddV4, old: &AddressRow) -> Result<(), Refusal>
+    requires represents_fit { RepresentsFit change.old.state.now }
     requires value { fit_address old.now ≡ true }
-    requires in_bounds { 68 ≤ length ev.old }
-    ensures result_bound { rows_of result ≤ 2 }
-    ensures adds_from { AddsFrom (moved q.now old.now) s.old s.new ev.old ev.new result }
+    requires in_bounds { 34 * (change.old.told + 2) ≤ length change.old.events.now }
+    ensures told { change.new.told ≤ change.old.told + 2 }
+    ensures adds_from { AddsFrom (moved q.now old.now) change.old change.new result }
 {
     if !rows_place::reroutes(q, old) {
-        return Ok(0);
+        return Ok(());
     }
-    let mut new = [0u32; ROUTE_WORDS];
-    row_candidates::prefix_route4(&mut new, 0, old, q[address::PRIORITY], old[address::LOCAL]);
-    let mut gone = [0u32; ROUTE_WORDS];
-    row_candidates::prefix_route4(
-        &mut gone,
-        0,
-        old,
-        old[address::PRIORITY],
-        old[address::LOCAL],
-    );
-    let k = step_kernel_add::kernel_add4(s, ev, &new)?;
-    let from = EVENT_WORDS * k;
-    let went = step_kernel_del::kernel_del4(s, &mut ev[from..], &gone);
-    Ok(k + went)
+    let new = row_candidates::prefix_route4(old, q[address::PRIORITY], old[address::LOCAL]);
+    step_kernel_add::kernel_add4(change, &new)?;
+    let gone = row_candidates::prefix_route4(old, old[address::PRIORITY], old[address::LOCAL]);
+    step_kernel_del::kernel_del4(change, &gone);
+    Ok(())
 }
 
 // Address i, which is the requested one, with the request's priority, proto and lifetimes.
 pub fn change_v4(
-    s: &mut [u32],
-    ev: &mut [u32],
+    change: &mut Change<'_>,
     i: usize,
-    q: &[u32],
+    q: &AddV4,
     clock: Nanoseconds,
-) -> Result<usize, Refusal>
-    requires represents_fit { RepresentsFit s.old }
-    requires i_bound { i < address_count s.old }
-    requires q_len { (length q.now ≡ 18) × (fit_add_v4 q.now ≡ true) }
-    requires in_bounds { 102 ≤ length ev.old }
-    ensures result_bound { rows_of result ≤ 3 }
-    ensures comes { (st : State) → Represents s.old st → fit_state st ≡ true → i ≡ place_of (same_address q.now) st.addresses → Comes (goes (change_v4 q.now (get_or st.addresses i []) clock.0 st)) s.new ev.old ev.new result }
+) -> Result<(), Refusal>
+    requires represents_fit { RepresentsFit change.old.state.now }
+    requires i_bound { i < address_count change.old.state.now }
+    requires q_value { fit_add_v4 q.now ≡ true }
+    requires in_bounds { 34 * (change.old.told + 3) ≤ length change.old.events.now }
+    ensures told { change.new.told ≤ change.old.told + 3 }
+    ensures comes { (st : State) → Represents change.old.state.now st → fit_state st ≡ true → i ≡ place_of (same_address q.now) st.addresses → Comes (goes (change_v4 q.now (get_or st.addresses i []) clock.0 st)) change.old change.new result }
 {
-    let at = ADDRESSES_AT + ADDRESS_WORDS * i;
-    let mut old = [0u32; ADDRESS_WORDS];
-    words::store(&mut old, 0, &s[at..at + ADDRESS_WORDS]);
-    let mut row = [0u32; ADDRESS_WORDS];
-    row_update::changed_to(q, &old, clock, &mut row);
-    let k = moved(s, ev, q, &old)?;
-    state::replace_address(s, i, &row);
-    let from = EVENT_WORDS * k;
-    step_events::new_addr4(&mut ev[from..], &row);
-    Ok(k + 1)
+    let old = state::addresses(change.words()).rows[i];
+    let row = row_update::changed_to(q, &old, clock);
+    moved(change, q, &old)?;
+    state::replace_address(change.state, i, &row);
+    change.new_addr4(&row);
+    Ok(())
 }

@@ -20,6 +20,7 @@ use Rattle.state_tables.specs.Listed.{tables_of}
 use Rattle.state_read.specs.Parts.{listed-there}
 use Rattle.request_prefsrc.specs.Rows.{prefsrc_table, prefsrc_rows, prefsrc-rows}
 use Rattle.request_gateway.specs.Rows.{reached, reach_rows, reach-rows}
+use Rattle.refusal.specs.Refusal.{unless}
 use Rattle.refusal.specs.declared.Refusal.{Refusal}
 use Rattle.refusal.specs.declared.Refusal.TheVariants.{Errno}
 
@@ -129,13 +130,22 @@ module _ (q : Row) (st : State) (t : ℕ) (named : t ≡ table_named q) where
       bad_prefsrc k = rw (eq-eqb (prefsrc_present q) 1 h, valid-is, k)
 
   -- ---- all of them
-  module _ (n : ℕ) (form : n ≡ form_check q) where
-    pub check_form : (n ≡ 0 → ⊥) → Err (Errno n) ≡ reached (check_all q (create4 (table_named q) st))
-    check_form h = rw (← form, ne_eqb n 0 h)
+  module _ (y : Result Unit Refusal) (form : y ≡ unless (eqb (form_check q) 0) (Errno (form_check q))) where
+    pub check_form : (m : Refusal) → y ≡ Err m → Err m ≡ reached (check_all q (create4 (table_named q) st))
+    check_form m k =
+        test-case (eqb (form_check q) 0)
+        (λ e. let passes : ◌≡◌ {A = Result Unit Refusal} (Err m) (Ok tt) = rw (k, e) at form in cc)
+        (λ e. let is : ◌≡◌ {A = Result Unit Refusal} (Err m) (Err (Errno (form_check q))) = rw (k, e) at form in let same : m ≡ Errno (form_check q) = cc in rw e (ap Err same))
 
-    module _ (z : n ≡ 0) (a b : Bool) (e : a ≡ (listed local_table st || eqb local_table t)) (f : b ≡ (listed default_table st || eqb default_table t)) where
+    formed : (u : Unit) → y ≡ Ok u → eqb (form_check q) 0 ≡ true
+    formed u z =
+        test-case (eqb (form_check q) 0)
+        (λ e. e)
+        (λ e. let is : ◌≡◌ {A = Result Unit Refusal} (Ok u) (Err (Errno (form_check q))) = rw (z, e) at form in cc)
+
+    module _ (u : Unit) (z : y ≡ Ok u) (a b : Bool) (e : a ≡ (listed local_table st || eqb local_table t)) (f : b ≡ (listed default_table st || eqb default_table t)) where
       check-goes : check_all q (create4 (table_named q) st) ≡ prefsrc_check q (reach_rows q a b st.routes) (create4 (table_named q) st)
-      check-goes = rw (← form, eq-eqb n 0 z, made-reach a b e f)
+      check-goes = rw (formed u z, made-reach a b e f)
 
       module _ (x : Result Bool Refusal) (g : x ≡ reached (reach_rows q a b st.routes)) where
         pub check-refused : (m : Refusal) → x ≡ Err m → x ≡ reached (check_all q (create4 (table_named q) st))

@@ -1,70 +1,60 @@
 -- `call_change::add_route4_lent` meets its contract.
--- Assumes nothing.
-use native.Mathlib.Omega.{arith}
-use mathlib.Core.Path.{sym}
+use Rattle.std.proofs.Common.{arith, sym, refl, length}
 use Rattle.layout.specs.Request.{add_route4_size, fit_add_route4}
+use Rattle.definition.specs.Reference.Routes.{add_route4}
+use Rattle.definition.proofs.Preservation.Numbers.{insert_number, added-number}
+use Rattle.definition.proofs.Preservation.Change.{unless-passed}
+use Rattle.definition.specs.Reference.Insert.{insert4}
 use Rattle.definition.specs.Call as Call
 use Rattle.definition.specs.Words.{state_of}
 use Rattle.definition.specs.Step.{unless, events_fit, semantics, add_route4_call}
-use Rattle.definition.specs.Reference.Routes.{add_route4}
-use Rattle.definition.proofs.Preservation.Change.{unless-passed}
-use Rattle.definition.specs.Reference.Insert.{insert4}
-use Rattle.definition.proofs.Preservation.Numbers.{insert_number, added-number}
-use Rattle.call_read.specs.Laws.{passed, lent}
-use Rattle.call_change.specs.Laws.{request-checked, sizes, sound, answers-refused, answers-passed}
-use Rattle.call_change.specs.Steps.{whole-answers}
+use Rattle.call_read.specs.Laws.{passed, lent, request}
+use Rattle.call_change.specs.Laws.{unsized, request-checked, long, answers-unsized, answers-refused, answers-passed, sound, room}
+use Rattle.call_change.specs.Steps.{request-answers}
 use Rattle.call_change.proofs.add_route4_lent.Goals as goal
 
-pub returns-then-n-ne0 : goal.returns-then-n-ne0
+pub returns-in_err-q : goal.returns-in_err-q
 unfolding add_route4_call
-returns-then-n-ne0 c =
-    let call = semantics (Call.add_route4 c.args.q.now c.args.room) in
-    let n-is =
-    request-checked add_route4_size c.args.q.now (events_fit c.args.room) (unless (fit_add_route4 c.args.q.now) 202) c.args.state.now
-    c.checked-n.ensures c.fit_add_route4-fit.ensures
-    in
-    answers-refused call c.args.state.now c.args.events.now n-is c.if-n-ne0.true
+returns-in_err-q c =
+    answers-unsized (semantics (Call.add_route4 c.args.q.now c.args.room)) c.args.state.now c.args.events.now
+    (unsized add_route4_size c.args.q.now c.args.state.now (events_fit c.args.room) (unless (fit_add_route4 c.args.q.now) 202) c.in_err-q.ensures.1) c.in_err-q.ensures.0 c.from_residual.ensures.1
 
-pub slice_bounds-add_route4-end : goal.slice_bounds-add_route4-end
-slice_bounds-add_route4-end c =
-    let call = semantics (Call.add_route4 c.args.q.now c.args.room) in
-    let n-is =
-    request-checked add_route4_size c.args.q.now (events_fit c.args.room) (unless (fit_add_route4 c.args.q.now) 202) c.args.state.now
-    c.checked-n.ensures c.fit_add_route4-fit.ensures
-    in
-    let p = passed call.checks c.args.state.now n-is c.if-n-ne0.false in
-    omega (arith, p.long)
+pub returns-in_err-checked : goal.returns-in_err-checked
+unfolding add_route4_call
+returns-in_err-checked c =
+    answers-refused (semantics (Call.add_route4 c.args.q.now c.args.room)) c.args.state.now c.args.events.now
+    (request-checked add_route4_size c.args.q.now c.args.state.now c.in_ok-q.ensures c.checked.result (events_fit c.args.room) (λ q. unless (fit_add_route4 q) 202) (c.checked.ensures.refuses _ (request c.asked-fit.result c.asked-fit.ensures (c.fit_add_route4.ensures (long add_route4_size c.args.q.now c.args.state.now c.in_ok-q.ensures))))) c.in_err-checked.was c.from_residual-in_err-checked.ensures.1
 
 pub slice_bounds-add_route4-end-2 : goal.slice_bounds-add_route4-end-2
 slice_bounds-add_route4-end-2 c =
-    let call = semantics (Call.add_route4 c.args.q.now c.args.room) in
-    let n-is =
-    request-checked add_route4_size c.args.q.now (events_fit c.args.room) (unless (fit_add_route4 c.args.q.now) 202) c.args.state.now
-    c.checked-n.ensures c.fit_add_route4-fit.ensures
-    in
-    let p = passed call.checks c.args.state.now n-is c.if-n-ne0.false in
-    sym (lent p)
+    sym
+    (lent
+    (passed (semantics (Call.add_route4 c.args.q.now c.args.room)).checks c.args.state.now
+    (request-checked add_route4_size c.args.q.now c.args.state.now c.in_ok-q.ensures c.checked.result (events_fit c.args.room) (λ q. unless (fit_add_route4 q) 202) (c.checked.ensures.refuses _ (request c.asked-fit.result c.asked-fit.ensures (c.fit_add_route4.ensures (long add_route4_size c.args.q.now c.args.state.now c.in_ok-q.ensures))))) c.in_ok-checked.was))
 
-pub add_route4-requires : goal.add_route4-requires
-add_route4-requires c =
-    let call = semantics (Call.add_route4 c.args.q.now c.args.room) in
-    let n-is =
-    request-checked add_route4_size c.args.q.now (events_fit c.args.room) (unless (fit_add_route4 c.args.q.now) 202) c.args.state.now
-    c.checked-n.ensures c.fit_add_route4-fit.ensures
+pub add_route4-requires-clause-represents_fit : goal.add_route4-requires-clause-represents_fit
+add_route4-requires-clause-represents_fit c =
+    let p =
+    passed (semantics (Call.add_route4 c.args.q.now c.args.room)).checks c.args.state.now
+    (request-checked add_route4_size c.args.q.now c.args.state.now c.in_ok-q.ensures c.checked.result (events_fit c.args.room) (λ q. unless (fit_add_route4 q) 202) (c.checked.ensures.refuses _ (request c.asked-fit.result c.asked-fit.ensures (c.fit_add_route4.ensures (long add_route4_size c.args.q.now c.args.state.now c.in_ok-q.ensures))))) c.in_ok-checked.was
     in
-    let p = passed call.checks c.args.state.now n-is c.if-n-ne0.false in
-    let size = sizes add_route4_size c.args.q.now c.args.room p.room in
-    record { represents_fit = sound p; q_len = (size.long, unless-passed (fit_add_route4 c.args.q.now) p.fit); in_bounds = omega (arith, c.requires size.room) }
+    sound p
+
+pub add_route4-requires-clause-in_bounds : goal.add_route4-requires-clause-in_bounds
+add_route4-requires-clause-in_bounds c =
+    let p =
+    passed (semantics (Call.add_route4 c.args.q.now c.args.room)).checks c.args.state.now
+    (request-checked add_route4_size c.args.q.now c.args.state.now c.in_ok-q.ensures c.checked.result (events_fit c.args.room) (λ q. unless (fit_add_route4 q) 202) (c.checked.ensures.refuses _ (request c.asked-fit.result c.asked-fit.ensures (c.fit_add_route4.ensures (long add_route4_size c.args.q.now c.args.state.now c.in_ok-q.ensures))))) c.in_ok-checked.was
+    in
+    omega (arith, c.requires (room add_route4_size c.args.q.now c.args.room p.room))
 
 pub returns : goal.returns
 unfolding add_route4_call
 returns c =
-    let call = semantics (Call.add_route4 c.args.q.now c.args.room) in
-    let n-is =
-    request-checked add_route4_size c.args.q.now (events_fit c.args.room) (unless (fit_add_route4 c.args.q.now) 202) c.args.state.now
-    c.checked-n.ensures c.fit_add_route4-fit.ensures
+    let p =
+    passed (semantics (Call.add_route4 c.args.q.now c.args.room)).checks c.args.state.now
+    (request-checked add_route4_size c.args.q.now c.args.state.now c.in_ok-q.ensures c.checked.result (events_fit c.args.room) (λ q. unless (fit_add_route4 q) 202) (c.checked.ensures.refuses _ (request c.asked-fit.result c.asked-fit.ensures (c.fit_add_route4.ensures (long add_route4_size c.args.q.now c.args.state.now c.in_ok-q.ensures))))) c.in_ok-checked.was
     in
-    let p = passed call.checks c.args.state.now n-is c.if-n-ne0.false in
-    answers-passed call c.args.state.now p
-    (whole-answers p (add_route4 c.args.q.now (state_of c.args.state.now)) (added-number insert4 insert_number c.args.q.now (state_of c.args.state.now) (unless-passed (fit_add_route4 c.args.q.now) p.fit))
-    (c.add_route4.ensures (state_of c.args.state.now) p.holds p.good.fits) c.of_done.ensures)
+    answers-passed (semantics (Call.add_route4 c.args.q.now c.args.room)) c.args.state.now p
+    (request-answers p (λ q. add_route4 q (state_of c.args.state.now)) c.in_ok-q.ensures.0 (added-number insert4 insert_number c.args.q.now (state_of c.args.state.now) (unless-passed (fit_add_route4 c.args.q.now) p.fit))
+    (c.add_route4.ensures (state_of c.args.state.now) p.holds p.good.fits))

@@ -1,46 +1,30 @@
 -- `call_change::up` meets its contract.
--- Assumes nothing.
-use native.Mathlib.Omega.{arith}
-use mathlib.Core.Path.{sym}
-use lib.ListN.{length}
-use borrow.Author.Tests.{leb-true}
+use Rattle.std.proofs.Common.{sym, refl, length}
+use Rattle.definition.specs.Reference.Addresses.{goes, up}
 use Rattle.definition.specs.Call as Call
 use Rattle.definition.specs.Words.{state_of}
-use Rattle.definition.specs.Step.{event_room, semantics, up_call}
-use Rattle.definition.specs.Reference.Addresses.{goes, up}
+use Rattle.definition.specs.Step.{semantics, up_call}
 use Rattle.call_read.specs.Laws.{passed, lent}
-use Rattle.call_change.specs.Laws.{sound, answers-refused, answers-passed}
+use Rattle.call_change.specs.Laws.{answers-refused, answers-passed, sound}
 use Rattle.call_change.specs.Steps.{whole-answers}
 use Rattle.call_change.proofs.up.Goals as goal
 
-pub returns-then-n-ne0 : goal.returns-then-n-ne0
+pub returns-in_err-checked : goal.returns-in_err-checked
 unfolding up_call
-returns-then-n-ne0 c =
-    let call = semantics (Call.up (length c.args.events.now) c.args.clock) in
-    answers-refused call c.args.state.now c.args.events.now c.checked-n.ensures c.if-n-ne0.true
-
-pub slice_bounds-up-end : goal.slice_bounds-up-end
-slice_bounds-up-end c =
-    let call = semantics (Call.up (length c.args.events.now) c.args.clock) in
-    let p = passed call.checks c.args.state.now c.checked-n.ensures c.if-n-ne0.false in
-    omega (arith, p.long)
+returns-in_err-checked c =
+    answers-refused (semantics (Call.up (length c.args.events.now) c.args.clock)) c.args.state.now c.args.events.now (c.checked.ensures.refuses 0 refl) c.in_err-checked.was c.from_residual.ensures.1
 
 pub slice_bounds-up-end-2 : goal.slice_bounds-up-end-2
-slice_bounds-up-end-2 c =
-    let call = semantics (Call.up (length c.args.events.now) c.args.clock) in
-    let p = passed call.checks c.args.state.now c.checked-n.ensures c.if-n-ne0.false in
-    sym (lent p)
+slice_bounds-up-end-2 c = sym (lent (passed (semantics (Call.up (length c.args.events.now) c.args.clock)).checks c.args.state.now (c.checked.ensures.refuses 0 refl) c.in_ok-checked.was))
 
-pub up-requires : goal.up-requires
-up-requires c =
-    let call = semantics (Call.up (length c.args.events.now) c.args.clock) in
-    let p = passed call.checks c.args.state.now c.checked-n.ensures c.if-n-ne0.false in
-    record { represents_fit = sound p; event_room_in_bounds = leb-true event_room (length c.args.events.now) p.room }
+pub up-requires-clause-represents_fit : goal.up-requires-clause-represents_fit
+up-requires-clause-represents_fit c =
+    let p = passed (semantics (Call.up (length c.args.events.now) c.args.clock)).checks c.args.state.now (c.checked.ensures.refuses 0 refl) c.in_ok-checked.was in
+    sound p
 
 pub returns : goal.returns
 unfolding up_call
 returns c =
-    let call = semantics (Call.up (length c.args.events.now) c.args.clock) in
-    let p = passed call.checks c.args.state.now c.checked-n.ensures c.if-n-ne0.false in
-    answers-passed call c.args.state.now p
-    (whole-answers p (goes (up c.args.clock (state_of c.args.state.now))) tt (c.up.ensures.comes_whole (state_of c.args.state.now) p.holds p.good.fits) c.of_done.ensures)
+    let p = passed (semantics (Call.up (length c.args.events.now) c.args.clock)).checks c.args.state.now (c.checked.ensures.refuses 0 refl) c.in_ok-checked.was in
+    answers-passed (semantics (Call.up (length c.args.events.now) c.args.clock)) c.args.state.now p
+    (whole-answers p (goes (up c.args.clock (state_of c.args.state.now))) tt (c.up.ensures.comes_whole (state_of c.args.state.now) p.holds p.good.fits))

@@ -1,18 +1,14 @@
 -- `call_dispatch::add_route4` meets its contract.
--- Assumes nothing.
-use mathlib.Core.Path.{refl}
-use lib.ListN.{length}
+use Rattle.std.proofs.Common.{refl, length}
 use Rattle.definition.specs.Call.{Call}
 use Rattle.definition.specs.Step.{add_route4_call}
-use Rattle.call_dispatch.specs.Laws.{done-small, change-made}
+use Rattle.call_dispatch.specs.Laws.{rows-fit, change-made}
 use Rattle.call_dispatch.proofs.add_route4.Goals as goal
 
-pub done-requires : goal.done-requires
+pub of-requires : goal.of-requires
 unfolding add_route4_call
-done-requires c =
-    done-small (Call.add_route4 c.args.q.now (length c.args.events.now)) c.args.state.now c.add_route4.result c.add_route4.ensures refl
+of-requires c = rows-fit (Call.add_route4 c.args.q.now (length c.args.events.now)) c.args.state.now c.add_route4.ensures refl
 
 pub returns : goal.returns
 unfolding add_route4_call
-returns c =
-    change-made (Call.add_route4 c.args.q.now (length c.args.events.now)) c.args.state.now c.add_route4.result c.add_route4.ensures refl refl c.done.ensures
+returns c = change-made (Call.add_route4 c.args.q.now (length c.args.events.now)) c.args.state.now c.add_route4.ensures refl refl c.of.ensures

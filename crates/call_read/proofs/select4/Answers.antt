@@ -1,38 +1,28 @@
 -- `call_read::select4` meets its contract.
--- Assumes nothing.
-use mathlib.Core.Path.{refl, sym}
+use Rattle.std.proofs.Common.{sym, refl, length}
 use Rattle.definition.specs.Call as Call
 use Rattle.definition.specs.Words.{state_of}
-use Rattle.call_read.specs.Laws.{checked_as, lent, valid, passed, says-refused, says-passed, chosen-refused, chosen-answer}
 use Rattle.definition.specs.Step.{semantics, select4_call}
+use Rattle.call_read.specs.Laws.{lent, valid, passed, says-refused, says-passed, request, optional-answer}
 use Rattle.call_read.proofs.select4.Goals as goal
 
-pub returns-then-n-ne0 : goal.returns-then-n-ne0
+pub returns-in_err-checked : goal.returns-in_err-checked
 unfolding select4_call
-returns-then-n-ne0 c =
-    let call = semantics (Call.select4 c.args.dst_present c.args.dst c.args.scope) in
-    let n-is = checked_as call.checks c.args.state.now c.checked-n.ensures refl c.fit_select.ensures in
-    says-refused call c.args.state.now n-is c.if-n-ne0.true (chosen-refused c.checked-n.result c.if-n-ne0.true)
+returns-in_err-checked c =
+    says-refused (semantics (Call.select4 c.args.dst_present c.args.dst c.args.scope)) c.args.state.now (c.checked.ensures.refuses _ (request c.asked.result c.asked.ensures c.fit_select.ensures)) c.in_err-checked.was c.from_residual.ensures.1
 
 pub slice_bounds-select4-end : goal.slice_bounds-select4-end
 slice_bounds-select4-end c =
-    let call = semantics (Call.select4 c.args.dst_present c.args.dst c.args.scope) in
-    let n-is = checked_as call.checks c.args.state.now c.checked-n.ensures refl c.fit_select.ensures in
-    let p = passed call.checks c.args.state.now n-is c.if-n-ne0.false in
-    sym (lent p)
+    sym (lent (passed (semantics (Call.select4 c.args.dst_present c.args.dst c.args.scope)).checks c.args.state.now (c.checked.ensures.refuses _ (request c.asked.result c.asked.ensures c.fit_select.ensures)) c.in_ok-checked.was))
 
 pub select4-requires : goal.select4-requires
 select4-requires c =
-    let call = semantics (Call.select4 c.args.dst_present c.args.dst c.args.scope) in
-    let n-is = checked_as call.checks c.args.state.now c.checked-n.ensures refl c.fit_select.ensures in
-    let p = passed call.checks c.args.state.now n-is c.if-n-ne0.false in
+    let p = passed (semantics (Call.select4 c.args.dst_present c.args.dst c.args.scope)).checks c.args.state.now (c.checked.ensures.refuses _ (request c.asked.result c.asked.ensures c.fit_select.ensures)) c.in_ok-checked.was in
     valid p
 
 pub returns : goal.returns
 unfolding select4_call
 returns c =
     let call = semantics (Call.select4 c.args.dst_present c.args.dst c.args.scope) in
-    let n-is = checked_as call.checks c.args.state.now c.checked-n.ensures refl c.fit_select.ensures in
-    let p = passed call.checks c.args.state.now n-is c.if-n-ne0.false in
-    says-passed call c.args.state.now p
-    (chosen-answer c.select4.result _ c.chosen_for.ensures (c.select4.ensures (state_of c.args.state.now) p.holds))
+    let p = passed call.checks c.args.state.now (c.checked.ensures.refuses _ (request c.asked.result c.asked.ensures c.fit_select.ensures)) c.in_ok-checked.was in
+    says-passed call c.args.state.now p (optional-answer c.select4.result _ c.chosen.ensures (c.select4.ensures (state_of c.args.state.now) p.holds))

@@ -1,19 +1,22 @@
-use mathlib.Core.Path.{sym, ◌∙◌}
-use Rattle.row_subnet.specs.Laws.{source-own, source-none, source-found}
+use Rattle.std.specs.Prelude.{◌≡◌, true, List, Option, Some, None}
+use Rattle.std.proofs.Common.{sym, ◌∙◌}
+use Rattle.std.specs.List.{find}
+use Rattle.std.specs.Option.{option_map, unwrap_or}
+use Rattle.lists.specs.Lists.{Row}
+use Rattle.lists.specs.Library.{first_find}
+use Rattle.layout.specs.Address.{secondary, local}
+use Rattle.definition.specs.Reference.Addresses.{primary_of}
+use Rattle.row_subnet.specs.OwnRoutes.{primary_for}
 use Rattle.row_subnet.proofs.primary_of.Goals as goal
 
-pub returns-then-not-secondary : goal.returns-then-not-secondary
-returns-then-not-secondary c =
-    λ l h. source-own c.args.a.now l (sym c.secondary.ensures ∙ c.if-not-secondary.true)
-
-pub returns-then-n-place : goal.returns-then-n-place
-returns-then-n-place c =
-    λ l h.
-    source-none c.args.a.now l c.args.addresses.now c.args.n c.requires.addresses_len.0 h (sym c.secondary.ensures ∙ c.if-not-secondary.false)
-    c.primary_at-place.result (c.primary_at-place.ensures l h) c.if-n-place.true
+-- the row that is found, else a itself
+source : {A : Type 0} (row : A → Row) (l : List Row) (a : A) (o : Option A)
+    → secondary (row a) ≡ true → option_map row o ≡ find (primary_for (row a)) l → local (row (unwrap_or o a)) ≡ primary_of l (row a)
+unfolding primary_of
+source row l a None e h = rw (e, first_find (primary_for (row a)) l, ← h)
+source row l a (Some x) e h = rw (e, first_find (primary_for (row a)) l, ← h)
 
 pub returns : goal.returns
 returns c =
-    λ l h.
-    source-found c.args.a.now l c.args.addresses.now c.args.n c.requires.addresses_len.0 h (sym c.secondary.ensures ∙ c.if-not-secondary.false)
-    c.primary_at-place.result (c.primary_at-place.ensures l h) c.if-n-place.false
+    rw c.unwrap_or-primary.ensures
+    (source (λ b. b.now) c.args.addresses.rows.now c.args.a c.primary_at.result (sym c.secondary.ensures ∙ c.if-not-secondary.false) c.primary_at.ensures)

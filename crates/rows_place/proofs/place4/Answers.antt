@@ -1,37 +1,27 @@
-use Prim.Native.Nat.{◌+◌, ◌-◌}
-use mathlib.Core.Path.{refl, sym, ap, ◌∙◌}
-use mathlib.Core.Bool.{Bool, cond}
-use native.Mathlib.Omega.{arith}
-use Rattle.row_subnet.specs.Laws.{part-short}
-use Rattle.rows_place.specs.Rows.{pass-last, pass-more, pass-place, pass_le}
-use borrow.Author.Rules.{rules}
+use Rattle.std.proofs.Common.{refl, [], arith, sym, ap, ◌∙◌, take_all}
+use Rattle.definition.specs.Reference.Addresses.{yields}
+use Rattle.rows_place.specs.Behind.{behind_of, behind_le, behind_more}
+use Rattle.rows_place.specs.Rows.{place-last, place-behind}
 use Rattle.rows_place.proofs.place4.Goals as goal
+use Rattle.rows_place.proofs.place4.Goals.{then-yields, else-yields}
 
-pub returns-then-secondary : goal.returns-then-secondary
-returns-then-secondary c =
-    record { upper_bound = search rules; l_value = λ l h. pass-last c.args.addresses.now c.args.n c.requires.addresses_len.0 c.args.new.now l h (sym c.secondary.ensures ∙ c.if-secondary.true) }
-
-pub loop-i-init : goal.loop-i-init
-loop-i-init c = (search rules, λ l h. refl)
-
-pub yields-goes-requires : goal.yields-goes-requires
-yields-goes-requires c =
-    (c.requires.len, (part-short c.args.addresses.now c.args.n c.requires.addresses_len.0 c.requires.addresses_len.1 c.loop-i.i c.loop-i-test.true).0)
+pub returns-then-secondary-clause-value : goal.returns-then-secondary-clause-value
+returns-then-secondary-clause-value c = place-last c.args.new.now c.args.addresses.rows.now _ refl (sym c.secondary.ensures ∙ c.if-secondary.true)
 
 pub loop-i-preserved : goal.loop-i-preserved
-loop-i-preserved c = (
-  omega arith,
-  λ l h.
-      c.choose-place.ensures
-      ∙ ap (λ (b : Bool). cond b (c.loop-i.i + 1) c.loop-i.place) c.yields-goes.ensures
-      ∙ pass-more c.args.addresses.now c.args.n c.requires.addresses_len.0 c.args.new.now l h c.loop-i.i c.loop-i.place (c.loop-i.invariant.1 l h) c.loop-i-test.true,
-)
+loop-i-preserved c =
+    let more = behind_more (yields c.args.new.now) c.args.addresses.rows.now c.loop-i.i [] (omega arith) in
+    elim c.if-yields.branch [
+      | then-yields w ↦ w.place-is ∙ (rw (sym c.yields.ensures ∙ w.if-yields.true) at more)
+      | else-yields w ↦ w.place-is ∙ c.loop-i.invariant ∙ (rw (sym c.yields.ensures ∙ w.if-yields.false) at more)
+    ]
 
-pub returns : goal.returns
-returns c =
-    record {
-      upper_bound = pass_le c.args.addresses.now c.args.n c.requires.addresses_len.0 c.args.new.now c.requires.addresses_len.1.list c.requires.addresses_len.1.laid c.loop-i.i c.loop-i.place (c.loop-i.invariant.1 c.requires.addresses_len.1.list c.requires.addresses_len.1.laid) c.loop-i-test.false;
-      l_value = λ l h.
-          pass-place c.args.addresses.now c.args.n c.requires.addresses_len.0 c.args.new.now l h c.loop-i.i c.loop-i.place (c.loop-i.invariant.1 l h) c.loop-i-test.false
-          (sym c.secondary.ensures ∙ c.if-secondary.false);
-    }
+pub returns-clause-upper_bound : goal.returns-clause-upper_bound
+returns-clause-upper_bound c =
+    let all = ap (behind_of (yields c.args.new.now)) (take_all c.loop-i.i c.args.addresses.rows.now (omega arith)) in
+    omega (arith, c.loop-i.invariant, all, behind_le (yields c.args.new.now) c.args.addresses.rows.now)
+
+pub returns-clause-value : goal.returns-clause-value
+returns-clause-value c =
+    let all = ap (behind_of (yields c.args.new.now)) (take_all c.loop-i.i c.args.addresses.rows.now (omega arith)) in
+    place-behind c.args.new.now c.args.addresses.rows.now c.loop-i.place (sym c.secondary.ensures ∙ c.if-secondary.false) (c.loop-i.invariant ∙ all)

@@ -1,29 +1,24 @@
--- `state_tables::tables_after` meets its contract: 254 is one more where it is not there.
--- Assumes nothing.
-use mathlib.Core.Path.{◌≡◌, sym, ap, ◌∙◌}
-use mathlib.Core.Bool.{Bool}
-use Prim.Native.Nat.{ℕ, ◌+◌}
-use native.Mathlib.Omega.{arith}
-use lib.ListN.{length}
+use Rattle.std.proofs.Common.{arith, sym, ap, ◌∙◌}
+use Rattle.std.specs.Prelude.{ℕ, ◌≡◌, ◌+◌, true, length}
 use Rattle.lists.specs.Lists.{among}
 use Rattle.state_tables.specs.Listed.{tables_of, length-local, list-other, list-local, at_most}
 use Rattle.state_tables.proofs.tables_after.Goals as goal
-
-pub returns-then-t-ne-TABLE_LOCAL : goal.returns-then-t-ne-TABLE_LOCAL
-returns-then-t-ne-TABLE_LOCAL c =
-    c.with_table.ensures ∙ sym (ap length (list-other c.args.t (tables_of c.args.s.now) c.if-t-ne-TABLE_LOCAL.true))
-
-pub returns-then-listed : goal.returns-then-listed
-returns-then-listed c =
-    let l = tables_of c.args.s.now in
-    let e : c.args.t ≡ 255 = c.if-t-ne-TABLE_LOCAL.false in
-    let f : among 254 l ≡ Bool.true = sym c.listed.ensures ∙ c.if-listed.true in
-    c.with_table-then-listed.ensures ∙ sym (rw (list-local c.args.t l e, f))
+use Rattle.state_tables.proofs.tables_after.Goals.{else-t-eq-TABLE_LOCAL-via-then-t-eq-TABLE_LOCAL+else-not-listed, else-t-eq-TABLE_LOCAL-via-else-t-eq-TABLE_LOCAL}
 
 pub overflow_add-result : goal.overflow_add-result
-overflow_add-result c =
-    omega (arith, c.with_table-2.ensures, at_most c.args.t c.requires)
+overflow_add-result c = omega (arith, c.with_table-n.ensures, at_most c.args.t c.requires)
 
-pub returns : goal.returns
-returns c =
-    ap (λ (n : ℕ). n + 1) c.with_table-2.ensures ∙ sym (length-local c.args.t (tables_of c.args.s.now) c.if-t-ne-TABLE_LOCAL.false (sym c.listed.ensures ∙ c.if-listed.false))
+pub returns-then-not-listed : goal.returns-then-not-listed
+returns-then-not-listed c =
+    ap (λ (n : ℕ). n + 1) c.with_table-n.ensures
+    ∙ sym (length-local c.args.t (tables_of c.args.s.now) c.if-t-eq-TABLE_LOCAL.true (sym c.listed.ensures ∙ c.if-not-listed.true))
+
+pub returns-else-t-eq-TABLE_LOCAL : goal.returns-else-t-eq-TABLE_LOCAL
+returns-else-t-eq-TABLE_LOCAL c =
+    let l = tables_of c.args.s.now in
+    elim c.else-t-eq-TABLE_LOCAL.branch [
+      | else-t-eq-TABLE_LOCAL-via-then-t-eq-TABLE_LOCAL+else-not-listed w ↦
+          let there : among 254 l ≡ true = sym w.listed.ensures ∙ w.if-not-listed.false in
+          c.with_table-n.ensures ∙ sym (rw (list-local c.args.t l w.if-t-eq-TABLE_LOCAL.true, there))
+      | else-t-eq-TABLE_LOCAL-via-else-t-eq-TABLE_LOCAL w ↦ c.with_table-n.ensures ∙ sym (ap length (list-other c.args.t l w.if-t-eq-TABLE_LOCAL.false))
+    ]

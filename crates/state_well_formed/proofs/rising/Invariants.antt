@@ -1,14 +1,10 @@
--- `state_well_formed::rising` meets its contract: each row passed over is in its place, so what is left says the same.
--- Assumes nothing.
-use mathlib.Core.Path.{◌≡◌}
-use Prim.Native.Nat.{◌-◌, ◌≤◌}
-use lib.ListN.{drop}
-use Rattle.lists.specs.Lists.{chop}
+-- Each row passed over is in its place, so what is left says the same.
+use Rattle.std.specs.Prelude.{◌≡◌, ◌-◌, ◌≤◌, length, drop}
 use Rattle.state_well_formed.specs.Place.{in_place}
 use Rattle.state_well_formed.proofs.rising.Given as goal
 
 abbrev pub invariant-loop-i : goal.invariant-loop-i
-invariant-loop-i l = (l.i ≤ l.n) × (l.from ≤ l.i) × (in_place (drop l.from (chop 32 l.n l.p)) ≡ in_place (drop l.i (chop 32 l.n l.p)))
+invariant-loop-i l = (l.i ≤ length l.routes) × (l.from ≤ l.i) × (in_place (drop l.from l.routes) ≡ in_place (drop l.i l.routes))
 
 abbrev pub decreases-loop-i : goal.decreases-loop-i
-decreases-loop-i l = l.n - l.i
+decreases-loop-i l = length l.routes - l.i

@@ -1,6 +1,4 @@
--- `state_well_formed::well_formed` meets its contract: the counts, the rows in use, the words behind them.
--- Assumes nothing.
-use native.Mathlib.Omega.{arith}
+use Rattle.std.proofs.Common.{arith}
 use Rattle.state_well_formed.specs.Look.{form_parts, too_many-addresses, too_many-routes, too_many-tables}
 use Rattle.state_well_formed.proofs.well_formed.Goals as goal
 
@@ -18,4 +16,5 @@ returns-then-t-gt-TABLE_LIMIT c =
 
 pub returns : goal.returns
 returns c =
-    form_parts c.args.s.now c.requires c.wide-a.ensures c.wide-r.ensures c.wide-t.ensures c.if-a-gt-ADDRESS_LIMIT.false c.if-r-gt-ROUTE_LIMIT.false c.if-t-gt-TABLE_LIMIT.false c.fit_addresses.ensures c.routes_form.ensures c.none_twice.ensures c.unused_zero.ensures
+    form_parts c.args.s.now c.requires c.wide-a.ensures c.wide-r.ensures c.wide-t.ensures c.if-a-gt-ADDRESS_LIMIT.false c.if-r-gt-ROUTE_LIMIT.false c.if-t-gt-TABLE_LIMIT.false
+    c.as_chunks.ensures.front c.as_chunks-2.ensures.front c.addresses_form.ensures c.routes_form.ensures c.none_twice.ensures c.unused_zero.ensures

@@ -1,5 +1,6 @@
+use Rattle.std.proofs.Common.{arith}
+use Rattle.state.specs.Represents.{sizes-valid}
 use Rattle.step_add_v4_atomic.proofs.has_room.Goals as goal
 
-pub returns : goal.returns
-returns c =
-    cc
+pub bounds-s-2 : goal.bounds-s-2
+bounds-s-2 c = omega (arith, (sizes-valid c.requires).long)

@@ -1,23 +1,28 @@
-use mathlib.Core.Path.{sym}
-use native.Mathlib.Omega.{arith}
+use Rattle.std.proofs.Common.{refl}
 use Rattle.definition.specs.Reference.Addresses.{add_v4}
 use Rattle.definition.proofs.Laws.Refusals.{add_v4-leaves}
+use Rattle.refusal.specs.Refusal.{passed_on}
 use Rattle.state.specs.Represents.{sound-long}
-use Rattle.step_add_v4_atomic.specs.Copy.{copy_sound, copy_holds}
+use Rattle.step_add_v4_atomic.specs.Copy.{tried-long, whole_back, whole-left}
 use Rattle.step_add_v4_atomic.proofs.try_add_v4.Goals as goal
 
-pub store-requires : goal.store-requires
-store-requires c =
-    omega (arith, sound-long c.requires.represents_fit)
+pub copy-requires : goal.copy-requires
+copy-requires c = rw c.words.ensures (sound-long c.requires.represents_fit)
 
-pub add_v4-came-requires : goal.add_v4-came-requires
-add_v4-came-requires c =
-    record { represents_fit = copy_sound _ c.args.s.now (sym (sound-long c.requires.represents_fit)) c.store.ensures c.requires.represents_fit; q_len = c.requires.q_len; in_bounds = omega arith }
+pub returns-in_err-add_v4-clause-comes_whole : goal.returns-in_err-add_v4-clause-comes_whole
+returns-in_err-add_v4-clause-comes_whole c =
+    rw (passed_on c.in_err-add_v4.was c.from_residual.ensures.1)
+    (λ st h g.
+    whole-left c.in_err-add_v4.was st (add_v4 c.args.q.now c.args.clock.0 st) h (add_v4-leaves c.args.q.now c.args.clock.0 st)
+    (c.add_v4.ensures.comes st (rw (c.copy.ensures, c.words.ensures) h) g))
 
-pub copy_back-requires : goal.copy_back-requires
-copy_back-requires c =
-    record { copy_len = (omega (arith, sound-long c.requires.represents_fit), omega (arith, c.add_v4-came.ensures.result_bound)); came_in_bounds = (omega (arith, c.add_v4-came.ensures.result_bound), omega (arith, c.add_v4-came.ensures.result_bound, c.requires.in_bounds)) }
+pub copy_back-requires-clause-same_length : goal.copy_back-requires-clause-same_length
+copy_back-requires-clause-same_length c =
+    let v = c.requires.represents_fit in
+    tried-long c.in_ok-add_v4.was (c.add_v4.ensures.comes v.state (rw (c.copy.ensures, c.words.ensures) v.holds) v.fits) v
 
-pub returns : goal.returns
-returns c =
-    record { result_bound = omega (arith, c.copy_back.ensures.result_bound, c.add_v4-came.ensures.result_bound); comes_whole = λ st h g. c.copy_back.ensures.comes_whole st (add_v4 c.args.q.now c.args.clock.0 st) _ h (add_v4-leaves c.args.q.now c.args.clock.0 st) (c.add_v4-came.ensures.comes st (copy_holds _ c.args.s.now (sym (sound-long c.requires.represents_fit)) c.store.ensures st h) g) }
+pub returns-clause-comes_whole : goal.returns-clause-comes_whole
+returns-clause-comes_whole c =
+    λ st h g.
+    whole_back refl c.copy_back.ensures c.in_ok-add_v4.was st (add_v4 c.args.q.now c.args.clock.0 st)
+    (c.add_v4.ensures.comes st (rw (c.copy.ensures, c.words.ensures) h) g)

@@ -1,36 +1,40 @@
--- `step_drop_prefsrc::drop_dependents` meets its contract: after i iterations those of the first i rows that depend on that source are emitted, and the others stand in front.
--- Assumes nothing.
-use Prim.Native.Nat.{◌-◌}
-use mathlib.Core.Path.{◌≡◌, refl, sym, ◌∙◌}
-use native.Mathlib.Omega.{arith}
+use Rattle.std.proofs.Common.{refl, ap, ◌∙◌, arith, length, ◌≡◌}
 use Rattle.definition.specs.Reference.Removal.{dependent_on}
+use Rattle.definition.specs.Words.{route_count}
 use Rattle.state.specs.Represents.{sizes-valid}
 use Rattle.state_retain.specs.Retain.{keeping_few}
+use Rattle.step_events.specs.Emits.{tells-behind}
 use Rattle.step_drop_prefsrc.specs.Delete.{ready_valid, ready_room}
-use Rattle.step_drop_prefsrc.specs.Sweep.{length_rest, sweeping_start, sweeping_iteration, sweeping_end}
+use Rattle.step_drop_prefsrc.specs.Sweep.{sweeping_start, sweeping_room, sweeping_iteration, sweeping_end}
 use Rattle.step_drop_prefsrc.proofs.drop_dependents.Goals as goal
 
 pub route_count-n-requires : goal.route_count-n-requires
-route_count-n-requires c = (sizes-valid (ready_valid c.requires)).long
+route_count-n-requires c = ap length c.words.ensures ∙ (sizes-valid (ready_valid c.requires)).long
 
 pub loop-i-init : goal.loop-i-init
-loop-i-init c =
-    let sizes = sizes-valid (ready_valid c.requires) in
-    (omega arith, omega arith, omega (arith, c.route_count-n.ensures, sizes.routes), omega (arith, c.route_count-n.ensures, ready_room c.requires), sizes.long, refl, sweeping_start (dependent_on c.args.ip) c.args.s.now c.args.ev.now sizes.long)
+loop-i-init c = sweeping_start (dependent_on c.args.ip) c.args.change.now (sizes-valid (ready_valid c.requires)).long
 
 pub dependent_iteration-j-requires : goal.dependent_iteration-j-requires
 dependent_iteration-j-requires c =
-    record { s_len = omega arith; in_bounds = omega (arith, length_rest (c.loop-i.i - c.loop-i.j) c.loop-i.ev) }
+    let n : c.route_count-n.result ≡ route_count c.args.change.now.state.now = c.route_count-n.ensures ∙ ap route_count c.words.ensures in
+    record {
+      s_len = (c.loop-i.invariant.kept.long, keeping_few c.loop-i.invariant.kept, omega (arith, (sizes-valid (ready_valid c.requires)).routes));
+      in_bounds = sweeping_room c.loop-i.invariant c.loop-i-test.true (rw n (ready_room c.requires));
+    }
 
 pub loop-i-preserved : goal.loop-i-preserved
 loop-i-preserved c =
-    let k = sweeping_iteration c.loop-i.invariant.6 (omega (arith, c.loop-i-test.true)) (omega (arith, c.loop-i-test.true)) c.dependent_iteration-j.auto.s c.dependent_iteration-j.auto.ev c.dependent_iteration-j.ensures in
-    (omega (arith, c.loop-i-test.true), keeping_few k.kept, c.loop-i.invariant.2, omega (arith, k.long), k.kept.long, k.long, k)
+    let n : c.route_count-n.result ≡ route_count c.args.change.now.state.now = c.route_count-n.ensures ∙ ap route_count c.words.ensures in
+    sweeping_iteration c.loop-i.invariant (omega (arith, (sizes-valid (ready_valid c.requires)).routes)) c.dependent_iteration-j.ensures
 
-pub shape_of-s : goal.shape_of-s
-shape_of-s c = c.close.auto.s ∙ c.loop-i.invariant.4 ∙ sym (sizes-valid (ready_valid c.requires)).long
+pub close-requires : goal.close-requires
+close-requires c =
+    let n : c.route_count-n.result ≡ route_count c.args.change.now.state.now = c.route_count-n.ensures ∙ ap route_count c.words.ensures in
+    (c.loop-i.invariant.kept.long, omega (arith, keeping_few c.loop-i.invariant.kept), omega (arith, (sizes-valid (ready_valid c.requires)).routes))
 
 pub returns : goal.returns
 returns c =
-    let all : c.loop-i.i ≡ c.route_count-n.result = omega (arith, c.loop-i-test.false) in
-    λ st f. rw (c.close.ensures, ← all) (sweeping_end c.args.ip c.loop-i.invariant.6 (all ∙ c.route_count-n.ensures) f)
+    let n : c.route_count-n.result ≡ route_count c.args.change.now.state.now = c.route_count-n.ensures ∙ ap route_count c.words.ensures in
+    let all : c.loop-i.i ≡ c.route_count-n.result = omega arith in
+    let k = rw all at c.loop-i.invariant in
+    λ st f. sweeping_end c.args.ip k n f c.close.ensures (tells-behind k.tells refl refl refl refl)

@@ -1,42 +1,51 @@
-use Rattle.step_kernel_add.specs.Add.{created-fit, valid-created, add_full_tables, add_put, add_nothing, add_refused, add_full}
+use Rattle.std.proofs.Common.{arith, refl, sym, ◌∙◌, ◌≡◌, Some, None, Ok, Err}
+use Rattle.refusal.specs.declared.Refusal.TheVariants.{Full}
+use Rattle.layout.specs.Route.{table}
 use Rattle.definition.specs.Preservation.Fit.{length-route}
 use Rattle.definition.specs.Reference.Insert.{create4}
-use Rattle.layout.specs.Route.{table}
-use native.Mathlib.Omega.{arith}
+use Rattle.step_insert.specs.Plan.{Inserted}
+use Rattle.step_events.specs.Emits.{tells-none, tells-behind, tells-ahead}
+use Rattle.step_kernel_add.specs.Add.{created-fit, add_full_tables, add_put, add_none, add_full}
 use Rattle.step_kernel_add.proofs.kernel_add4.Goals as goal
 
-pub bounds-new-0 : goal.bounds-new-0
-bounds-new-0 c =
-    omega (arith, length-route c.args.new.now c.requires.value)
+pub returns-then-tables_after-gt-TABLE_LIMIT-clause-comes : goal.returns-then-tables_after-gt-TABLE_LIMIT-clause-comes
+returns-then-tables_after-gt-TABLE_LIMIT-clause-comes c =
+    λ st h g. add_full_tables c.args.new.now st h (rw (← c.words.ensures) (omega (arith, c.tables_after.ensures, c.if-tables_after-gt-TABLE_LIMIT.true)))
 
-pub returns-then-tables_after-gt-TABLE_LIMIT : goal.returns-then-tables_after-gt-TABLE_LIMIT
-returns-then-tables_after-gt-TABLE_LIMIT c =
-    record { represents_some_2 = c.requires.represents_some; result_bound = omega arith; comes = λ st h g. add_full_tables c.args.new.now st h (omega (arith, c.tables_after.ensures, c.if-tables_after-gt-TABLE_LIMIT.true)) }
+pub returns-in-Ok-Some-clause-comes : goal.returns-in-Ok-Some-clause-comes
+returns-in-Ok-Some-clause-comes c =
+    λ st h g.
+    let i = c.insert4.ensures.inserted_into (create4 (table c.args.new.now) st) (c.list_table.ensures st h) (created-fit (table c.args.new.now) st g) in
+    let is : c.insert4.result ≡ Ok (Some c.in-Ok-Some.flags) = cc (c.in-Ok-Some.is, c.in-Ok-Some.field-0-is) in
+    add_put c.args.new.now st i c.in-Ok-Some.flags is (sym c.new_route4.ensures.state) (length-route c.args.new.now c.requires.value)
+    (tells-ahead c.new_route4.ensures.tells refl refl refl refl)
 
-pub list_table-requires : goal.list_table-requires
-list_table-requires c =
-    record { represents_some = c.requires.represents_some; s_len_bound = rw c.tables_after.ensures at c.if-tables_after-gt-TABLE_LIMIT.false }
+pub returns-in-Ok-None-clause-comes : goal.returns-in-Ok-None-clause-comes
+returns-in-Ok-None-clause-comes c =
+    λ st h g.
+    let i = c.insert4.ensures.inserted_into (create4 (table c.args.new.now) st) (c.list_table.ensures st h) (created-fit (table c.args.new.now) st g) in
+    let is : c.insert4.result ≡ Ok None = cc (c.in-Ok-None.is, c.in-Ok-None.field-0-is) in
+    add_none c.args.new.now st i
+    (λ flags e. let z : ◌≡◌ {A = Inserted} (Ok None) (Ok (Some flags)) = sym is ∙ e in cc)
+    (λ e. let z : ◌≡◌ {A = Inserted} (Ok None) (Err Full) = sym is ∙ e in cc)
+    refl (tells-behind (tells-none c.args.change.now) refl refl refl refl)
 
-pub insert4-came-requires : goal.insert4-came-requires
-insert4-came-requires c =
-    record { represents_some = valid-created (table c.args.new.now) c.requires.represents_some.state (c.list_table.ensures c.requires.represents_some.state c.requires.represents_some.holds); value = c.requires.value }
+pub returns-in-Full-clause-comes : goal.returns-in-Full-clause-comes
+returns-in-Full-clause-comes c =
+    λ st h g.
+    let i = c.insert4.ensures.inserted_into (create4 (table c.args.new.now) st) (c.list_table.ensures st h) (created-fit (table c.args.new.now) st g) in
+    let is : c.insert4.result ≡ Err Full = cc (c.in-Err.is, c.in-Full.is) in
+    add_full c.args.new.now st i is
 
-pub new_route4-requires : goal.new_route4-requires
-new_route4-requires c =
-    (c.requires.in_bounds, length-route c.args.new.now c.requires.value)
-
-pub returns-in-Put : goal.returns-in-Put
-returns-in-Put c =
-    record { represents_some_2 = c.insert4-came.ensures.represents_some_2; result_bound = omega arith; comes = λ st h g. add_put c.args.new.now st (c.insert4-came.ensures.inserted_into (create4 (table c.args.new.now) st) (c.list_table.ensures st h) (created-fit (table c.args.new.now) st g)) c.in-Put.flags c.in-Put.is (length-route c.args.new.now c.requires.value) c.requires.in_bounds c.new_route4.ensures }
-
-pub returns-in-Nothing : goal.returns-in-Nothing
-returns-in-Nothing c =
-    record { represents_some_2 = c.insert4-came.ensures.represents_some_2; result_bound = omega arith; comes = λ st h g. add_nothing c.args.new.now st (c.insert4-came.ensures.inserted_into (create4 (table c.args.new.now) st) (c.list_table.ensures st h) (created-fit (table c.args.new.now) st g)) c.in-Nothing.is }
-
-pub returns-in-Refused : goal.returns-in-Refused
-returns-in-Refused c =
-    record { represents_some_2 = c.insert4-came.ensures.represents_some_2; result_bound = omega arith; comes = λ st h g. add_refused c.args.new.now st (c.insert4-came.ensures.inserted_into (create4 (table c.args.new.now) st) (c.list_table.ensures st h) (created-fit (table c.args.new.now) st g)) c.in-Refused.field-0 c.in-Refused.is }
-
-pub returns-in-Full : goal.returns-in-Full
-returns-in-Full c =
-    record { represents_some_2 = c.insert4-came.ensures.represents_some_2; result_bound = omega arith; comes = λ st h g. add_full c.args.new.now st (c.insert4-came.ensures.inserted_into (create4 (table c.args.new.now) st) (c.list_table.ensures st h) (created-fit (table c.args.new.now) st g)) c.in-Full.is }
+pub returns-in_default : goal.returns-in_default
+returns-in_default c =
+    record {
+      represents_some_2 = c.insert4.ensures.represents_some_2;
+      told = omega arith;
+      comes = λ st h g.
+          let i = c.insert4.ensures.inserted_into (create4 (table c.args.new.now) st) (c.list_table.ensures st h) (created-fit (table c.args.new.now) st g) in
+          add_none c.args.new.now st i
+          (λ flags e. let z : ◌≡◌ {A = Inserted} (Err c.in-Err.refusal) (Ok (Some flags)) = sym c.in-Err.is ∙ e in cc)
+          (λ e. let z : ◌≡◌ {A = Inserted} (Err c.in-Err.refusal) (Err Full) = sym c.in-Err.is ∙ e in c.in_default.not-Full cc)
+          refl (tells-behind (tells-none c.args.change.now) refl refl refl refl);
+    }

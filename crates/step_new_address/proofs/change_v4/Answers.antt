@@ -1,113 +1,45 @@
-use Prim.Native.Nat.{◌+◌, ◌*◌}
-use mathlib.Core.Path.{refl}
-use native.Mathlib.Omega.{arith}
-use lib.ListN.{get_or}
-use mathlib.Core.List.{[]}
-use Rattle.state.specs.Represents.{fit-some, sound-few, sound-long}
-use Rattle.step_new_address.specs.Adding.{rest-room, rows_are}
-use Rattle.step_new_address.specs.Change.{old_row, old-fit, old-long, row_room, changed-fit, change-other, change-sound, change-count, change-done}
-use Rattle.definition.specs.Preservation.Fit.{length-address}
-use Rattle.step_events.specs.Comes.{no-rows}
-use Rattle.refusal.specs.Refusal.{passed_on}
+use Rattle.std.proofs.Common.{arith, refl, sym, ap, subst, ◌∙◌, List, ℕ, [], get_or, set, Ok, Err}
+use Rattle.std.proofs.lemmas.Result.{err_from_is_err_and}
+use Rattle.lists.specs.Lists.{Row}
+use Rattle.lists.specs.At.{all-at}
+use Rattle.layout.specs.Address.{fit_address}
+use Rattle.definition.specs.State.{with_addresses}
+use Rattle.definition.specs.Words.{address_count}
+use Rattle.state.specs.Represents.{Represents}
+use Rattle.definition.specs.Reference.Addresses.{goes, changed_to, change_v4}
+use Rattle.step_events.specs.Comes.{Comes}
+use Rattle.step_events.specs.Emits.{tells-ahead}
+use Rattle.step_new_address.specs.Change.{changed-fit, change-other, change-count, change-done}
 use Rattle.step_new_address.proofs.change_v4.Goals as goal
 
-pub overflow_mul-at : goal.overflow_mul-at
-overflow_mul-at c =
-    omega (arith, sound-few c.requires.represents_fit, sound-long c.requires.represents_fit, c.requires.i_bound)
+pub returns-in_err-moved-clause-comes : goal.returns-in_err-moved-clause-comes
+returns-in_err-moved-clause-comes c =
+    let fit = all-at fit_address c.args.i c.addresses.result.rows.now [] (omega (arith, c.addresses.ensures.count, ap address_count c.words.ensures, c.requires.i_bound)) c.addresses.result.fit in
+    let p = err_from_is_err_and c.from_residual.result c.from_residual.ensures.1 in
+    λ st h f at.
+    let rows = c.addresses.ensures.rows st (subst (λ (w : List ℕ). Represents w st) (sym c.words.ensures) h) in
+    rw (p.1, p.2)
+    (subst (λ (l : List Row). Comes (goes (change_v4 c.args.q.now (get_or l c.args.i []) c.args.clock.0 st)) c.args.change.now c.moved.new.change (Err c.in_err-moved.field-0.0)) rows
+    (change-other c.args.q.now c.args.clock.0 (get_or c.addresses.result.rows.now c.args.i []) c.requires.q_value fit (λ s k g. c.in_err-moved.ensures.adds_from s k g) st h f))
 
-pub overflow_add-at : goal.overflow_add-at
-overflow_add-at c =
-    omega (arith, sound-few c.requires.represents_fit, sound-long c.requires.represents_fit, c.requires.i_bound)
+pub replace_address-requires-clause-i_bound : goal.replace_address-requires-clause-i_bound
+replace_address-requires-clause-i_bound c =
+    let fit = all-at fit_address c.args.i c.addresses.result.rows.now [] (omega (arith, c.addresses.ensures.count, ap address_count c.words.ensures, c.requires.i_bound)) c.addresses.result.fit in
+    let v = c.requires.represents_fit in
+    omega (arith, c.requires.i_bound, change-count c.args.q.now c.args.clock.0 (get_or c.addresses.result.rows.now c.args.i []) c.requires.q_value fit (λ s k g. c.in_ok-moved.ensures.adds_from s k g) v.state v.holds v.fits)
 
-pub overflow_add-at-2 : goal.overflow_add-at-2
-overflow_add-at-2 c =
-    omega (arith, sound-few c.requires.represents_fit, sound-long c.requires.represents_fit, c.requires.i_bound)
+pub replace_address-requires-clause-row_value : goal.replace_address-requires-clause-row_value
+replace_address-requires-clause-row_value c =
+    let fit = all-at fit_address c.args.i c.addresses.result.rows.now [] (omega (arith, c.addresses.ensures.count, ap address_count c.words.ensures, c.requires.i_bound)) c.addresses.result.fit in
+    ap fit_address c.changed_to-row.ensures ∙ changed-fit c.args.q.now c.args.clock.0 (get_or c.addresses.result.rows.now c.args.i []) c.requires.q_value fit
 
-pub offset_bounds-s-at : goal.offset_bounds-s-at
-offset_bounds-s-at c =
-    omega (arith, sound-few c.requires.represents_fit, sound-long c.requires.represents_fit, c.requires.i_bound)
-
-pub slice_bounds-store-count : goal.slice_bounds-store-count
-slice_bounds-store-count c =
-    omega arith
-
-pub slice_bounds-store-start : goal.slice_bounds-store-start
-slice_bounds-store-start c =
-    omega (arith, sound-few c.requires.represents_fit, sound-long c.requires.represents_fit, c.requires.i_bound)
-
-pub slice_bounds-store-end-2 : goal.slice_bounds-store-end-2
-slice_bounds-store-end-2 c =
-    omega (arith, sound-few c.requires.represents_fit, sound-long c.requires.represents_fit, c.requires.i_bound)
-
-pub store-requires : goal.store-requires
-store-requires c =
-    row_room (3 + 20 * c.args.i) c.args.s.now
-
-pub changed_to-requires : goal.changed_to-requires
-changed_to-requires c =
-    record { q_len = c.requires.q_len.0; len = old-long c.args.i c.requires.i_bound _ refl c.store.ensures c.requires.represents_fit; in_bounds = omega arith }
-
-pub moved-requires : goal.moved-requires
-moved-requires c =
-    let fit = old-fit c.args.i c.requires.i_bound _ refl c.store.ensures c.requires.represents_fit in
-    record { represents_fit = c.requires.represents_fit; q_len = c.requires.q_len.0; len = length-address c.store.new.s fit; value = fit; in_bounds = omega (arith, c.requires.in_bounds) }
-
-pub returns-in_err-k-clause-comes : goal.returns-in_err-k-clause-comes
-returns-in_err-k-clause-comes c =
-    let fit = old-fit c.args.i c.requires.i_bound _ refl c.store.ensures c.requires.represents_fit in
-    rw (passed_on c.in_err-k.was c.from_residual.ensures.1)
-    (λ st hs g at. change-other c.args.q.now c.args.clock.0 c.store.new.s c.requires.q_len.1 fit _ refl c.changed_to.ensures c.moved.ensures.adds_from (no-rows c.in_err-k.was) st hs g (get_or st.addresses c.args.i []) (old_row c.args.i c.requires.i_bound _ refl c.store.ensures st hs))
-
-pub replace_address-requires : goal.replace_address-requires
-replace_address-requires c =
-    let fit = old-fit c.args.i c.requires.i_bound _ refl c.store.ensures c.requires.represents_fit in
-    let two = rows_are 2 c.moved.result c.in_ok-k.k c.in_ok-k.was c.moved.ensures.result_bound in
-    let v = change-sound c.args.q.now c.args.clock.0 c.store.new.s c.requires.q_len.1 fit _ refl c.changed_to.ensures c.moved.ensures.adds_from c.in_ok-k.k c.in_ok-k.was c.requires.represents_fit in
-    let n = change-count c.args.q.now c.args.clock.0 c.store.new.s c.requires.q_len.1 fit _ refl c.changed_to.ensures c.moved.ensures.adds_from c.in_ok-k.k c.in_ok-k.was c.requires.represents_fit.state c.requires.represents_fit.holds c.requires.represents_fit.fits in
-    record { represents_some = fit-some v; i_bound = omega (arith, n, c.requires.i_bound); row_value = changed-fit c.args.q.now c.args.clock.0 c.store.new.s c.requires.q_len.1 fit _ refl c.changed_to.ensures }
-
-pub overflow_mul-from : goal.overflow_mul-from
-overflow_mul-from c =
-    let fit = old-fit c.args.i c.requires.i_bound _ refl c.store.ensures c.requires.represents_fit in
-    let two = rows_are 2 c.moved.result c.in_ok-k.k c.in_ok-k.was c.moved.ensures.result_bound in
-    omega (arith, two)
-
-pub offset_bounds-ev-from : goal.offset_bounds-ev-from
-offset_bounds-ev-from c =
-    let fit = old-fit c.args.i c.requires.i_bound _ refl c.store.ensures c.requires.represents_fit in
-    let two = rows_are 2 c.moved.result c.in_ok-k.k c.in_ok-k.was c.moved.ensures.result_bound in
-    omega (arith, two)
-
-pub slice_bounds-new_addr4-count : goal.slice_bounds-new_addr4-count
-slice_bounds-new_addr4-count c =
-    let fit = old-fit c.args.i c.requires.i_bound _ refl c.store.ensures c.requires.represents_fit in
-    let two = rows_are 2 c.moved.result c.in_ok-k.k c.in_ok-k.was c.moved.ensures.result_bound in
-    omega (arith, two, c.requires.in_bounds)
-
-pub slice_bounds-new_addr4-start : goal.slice_bounds-new_addr4-start
-slice_bounds-new_addr4-start c =
-    let fit = old-fit c.args.i c.requires.i_bound _ refl c.store.ensures c.requires.represents_fit in
-    let two = rows_are 2 c.moved.result c.in_ok-k.k c.in_ok-k.was c.moved.ensures.result_bound in
-    omega (arith, two, c.requires.in_bounds)
-
-pub new_addr4-requires : goal.new_addr4-requires
-new_addr4-requires c =
-    let fit = old-fit c.args.i c.requires.i_bound _ refl c.store.ensures c.requires.represents_fit in
-    let two = rows_are 2 c.moved.result c.in_ok-k.k c.in_ok-k.was c.moved.ensures.result_bound in
-    (rest-room c.in_ok-k.k 34 c.moved.new.ev (omega (arith, two, c.requires.in_bounds)), length-address c.changed_to.new.out (changed-fit c.args.q.now c.args.clock.0 c.store.new.s c.requires.q_len.1 fit _ refl c.changed_to.ensures))
-
-pub overflow_add-result : goal.overflow_add-result
-overflow_add-result c =
-    let fit = old-fit c.args.i c.requires.i_bound _ refl c.store.ensures c.requires.represents_fit in
-    let two = rows_are 2 c.moved.result c.in_ok-k.k c.in_ok-k.was c.moved.ensures.result_bound in
-    omega (arith, two)
-
-pub returns : goal.returns
-returns c =
-    let fit = old-fit c.args.i c.requires.i_bound _ refl c.store.ensures c.requires.represents_fit in
-    let two = rows_are 2 c.moved.result c.in_ok-k.k c.in_ok-k.was c.moved.ensures.result_bound in
-    let room = rest-room c.in_ok-k.k 34 c.moved.new.ev (omega (arith, two, c.requires.in_bounds)) in record {
-      result_bound = omega (arith, two);
-      comes = λ st hs g at. change-done c.args.q.now c.args.clock.0 c.store.new.s c.requires.q_len.1 fit _ refl c.changed_to.ensures c.moved.ensures.adds_from c.in_ok-k.k c.in_ok-k.was c.args.i
-          c.replace_address.ensures room c.new_addr4.ensures st hs g at (get_or st.addresses c.args.i []) (old_row c.args.i c.requires.i_bound _ refl c.store.ensures st hs);
-    }
+pub returns-clause-comes : goal.returns-clause-comes
+returns-clause-comes c =
+    let fit = all-at fit_address c.args.i c.addresses.result.rows.now [] (omega (arith, c.addresses.ensures.count, ap address_count c.words.ensures, c.requires.i_bound)) c.addresses.result.fit in
+    λ st h f at.
+    let rows = c.addresses.ensures.rows st (subst (λ (w : List ℕ). Represents w st) (sym c.words.ensures) h) in
+    subst (λ (l : List Row). Comes (goes (change_v4 c.args.q.now (get_or l c.args.i []) c.args.clock.0 st)) c.args.change.now c.new_addr4.new.self (Ok tt)) rows
+    (change-done c.args.q.now c.args.clock.0 (get_or c.addresses.result.rows.now c.args.i []) c.requires.q_value fit (λ s k g. c.in_ok-moved.ensures.adds_from s k g) c.args.i
+    (λ s k. subst (λ (w : List ℕ). Represents w (with_addresses (set s.addresses c.args.i (changed_to c.args.q.now (get_or c.addresses.result.rows.now c.args.i []) c.args.clock.0)) s)) (sym c.new_addr4.ensures.state)
+    (subst (λ (r : Row). Represents c.replace_address.new.s (with_addresses (set s.addresses c.args.i r) s)) c.changed_to-row.ensures (c.replace_address.ensures s k)))
+    (tells-ahead (rw c.changed_to-row.ensures at c.new_addr4.ensures.tells) refl refl refl refl) st h f at)

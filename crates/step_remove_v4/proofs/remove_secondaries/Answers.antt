@@ -1,52 +1,51 @@
-use Rattle.step_remove_v4.specs.One.{gone-start, gone-facts, gone-next, gone-last}
-use Rattle.step_events.specs.Iterations.{going_ready}
+use Rattle.std.proofs.Common.{ap, ◌∙◌, arith, ◌≡◌, ◌+◌, ◌-◌}
 use Rattle.definition.specs.Words.{address_count}
-use Rattle.step_drop_prefsrc.specs.Delete.{ready_valid}
-use Rattle.state.specs.Represents.{sizes-valid}
 use Rattle.definition.specs.Preservation.Shrinking.{potential}
-use native.Mathlib.Omega.{arith}
-use mathlib.Core.Path.{◌≡◌, sym, ◌∙◌}
-use Prim.Native.Nat.{◌+◌, ◌-◌}
+use Rattle.state.specs.Represents.{sizes-valid, holds-long}
+use Rattle.step_events.specs.Iterations.{going_ready}
+use Rattle.step_drop_prefsrc.specs.Delete.{ready_valid}
+use Rattle.step_remove_v4.specs.One.{gone-start, gone-facts, gone-next, gone-last}
 use Rattle.step_remove_v4.proofs.remove_secondaries.Goals as goal
 
 pub address_count-n-requires : goal.address_count-n-requires
-address_count-n-requires c = (sizes-valid (ready_valid c.requires.some_room)).long
+address_count-n-requires c = rw c.words.ensures (sizes-valid (ready_valid c.requires)).long
 
 pub loop-j-init : goal.loop-j-init
-loop-j-init c = (
-  omega arith,
-  omega (arith, c.address_count-n.ensures, (sizes-valid (ready_valid c.requires.some_room)).addresses),
-  gone-facts c.args.a.now c.address_count-n.result 0 (gone-start c.args.a.now c.address_count-n.result c.address_count-n.ensures c.requires.some_room.fits) c.requires.some_room.fits,
-  λ st f. gone-start c.args.a.now c.address_count-n.result c.address_count-n.ensures f,
-)
+loop-j-init c = λ st f. gone-start c.args.a.now c.address_count-n.result (c.address_count-n.ensures ∙ ap address_count c.words.ensures) f
 
 pub address_count-requires : goal.address_count-requires
-address_count-requires c = c.loop-j.invariant.2.0.1
+address_count-requires c =
+    let y = going_ready potential (c.loop-j.invariant c.requires.state c.requires.fits) in
+    rw c.words-in-loop-j.ensures (holds-long y.fits.holds)
 
-pub gone_iteration-k-requires : goal.gone_iteration-k-requires
-gone_iteration-k-requires c =
-    record { some_room = going_ready potential (c.loop-j.invariant.3 c.requires.some_room.state c.requires.some_room.fits); i_bound = omega (arith, c.loop-j-test.true, c.address_count.ensures, c.loop-j.invariant.2.1); a_value = c.requires.a_value }
+pub overflow_add-i : goal.overflow_add-i
+overflow_add-i c =
+    let n = c.address_count-n.ensures ∙ ap address_count c.words.ensures in
+    let m = c.address_count.ensures ∙ ap address_count c.words-in-loop-j.ensures in
+    record { fits = omega (arith, gone-facts c.args.a.now c.address_count-n.result c.loop-j.j (c.loop-j.invariant c.requires.state c.requires.fits), (sizes-valid (ready_valid c.requires)).addresses) }
 
-pub overflow_add-k : goal.overflow_add-k
-overflow_add-k c =
-    let i = c.loop-j.j + c.address_count.result - c.address_count-n.result in
-    let e : i + c.address_count-n.result ≡ c.loop-j.j + address_count c.loop-j.s = omega (arith, c.address_count.ensures, c.loop-j.invariant.2.1.1) in
-    let facts = gone-facts c.args.a.now c.address_count-n.result (c.loop-j.j + 1) (gone-next c.args.a.now c.address_count-n.result c.loop-j.j (c.loop-j.invariant.3 c.requires.some_room.state c.requires.some_room.fits) c.loop-j-test.true i e (λ x f. c.gone_iteration-k.ensures x f)) c.requires.some_room.fits in
-    record { fits = omega (arith, facts.0.3) }
+pub overflow_sub-i : goal.overflow_sub-i
+overflow_sub-i c =
+    let n = c.address_count.ensures ∙ ap address_count c.words-in-loop-j.ensures in
+    omega (arith, (gone-facts c.args.a.now c.address_count-n.result c.loop-j.j (c.loop-j.invariant c.requires.state c.requires.fits)))
+
+pub gone_iteration-requires : goal.gone_iteration-requires
+gone_iteration-requires c =
+    let n = c.address_count.ensures ∙ ap address_count c.words-in-loop-j.ensures in
+    let g = c.loop-j.invariant c.requires.state c.requires.fits in
+    record {
+      some_room = going_ready potential g;
+      i_bound = omega (arith, c.loop-j-test.true, gone-facts c.args.a.now c.address_count-n.result c.loop-j.j g);
+    }
 
 pub loop-j-preserved : goal.loop-j-preserved
 loop-j-preserved c =
+    λ st f.
+    let n = c.address_count.ensures ∙ ap address_count c.words-in-loop-j.ensures in
     let i = c.loop-j.j + c.address_count.result - c.address_count-n.result in
-    let e : i + c.address_count-n.result ≡ c.loop-j.j + address_count c.loop-j.s = omega (arith, c.address_count.ensures, c.loop-j.invariant.2.1.1) in (
-      omega (arith, c.loop-j-test.true),
-      c.loop-j.invariant.1,
-      gone-facts c.args.a.now c.address_count-n.result (c.loop-j.j + 1) (gone-next c.args.a.now c.address_count-n.result c.loop-j.j (c.loop-j.invariant.3 c.requires.some_room.state c.requires.some_room.fits) c.loop-j-test.true i e (λ x f. c.gone_iteration-k.ensures x f)) c.requires.some_room.fits,
-      λ st f. gone-next c.args.a.now c.address_count-n.result c.loop-j.j (c.loop-j.invariant.3 st f) c.loop-j-test.true i e (λ x f. c.gone_iteration-k.ensures x f),
-    )
-
-pub shape_of-s : goal.shape_of-s
-shape_of-s c = c.loop-j.invariant.2.0.1 ∙ sym (sizes-valid (ready_valid c.requires.some_room)).long
+    let g = c.loop-j.invariant st f in
+    let e : i + c.address_count-n.result ≡ c.loop-j.j + address_count c.loop-j.change.state.now = omega (arith, gone-facts c.args.a.now c.address_count-n.result c.loop-j.j g) in
+    gone-next c.args.a.now c.address_count-n.result c.loop-j.j g c.loop-j-test.true i e c.gone_iteration.ensures
 
 pub returns : goal.returns
-returns c =
-    λ st f. gone-last c.args.a.now c.address_count-n.result c.loop-j.j (c.loop-j.invariant.3 st f) c.loop-j-test.false
+returns c = λ st f. gone-last c.args.a.now c.address_count-n.result c.loop-j.j (c.loop-j.invariant st f) c.loop-j-test.false

@@ -1,4 +1,0 @@
-use Rattle.rows_place.proofs.reroutes.Goals as goal
-
-pub returns : goal.returns
-returns c = cc
