@@ -26,6 +26,7 @@ use Rattle.refusal.specs.Refusal.{number_of, Refuses}
 use Rattle.std.specs.Result.{IsErr, IsErrAnd}
 use Rattle.netlink_refusal.specs.declared.Message.{Message}
 use Rattle.netlink_refusal.specs.Parts.{Parts}
+use Rattle.call_read.specs.Answer.{answer_by}
 use Rattle.call_message.specs.declared.Asked.{Asked}
 use Rattle.call_message.specs.Message.{requested, replied, read_call}
 use Rattle.call_message.specs.Answer.{asked_by, request_of}
@@ -115,7 +116,7 @@ body_below m h =
 module _ (room up : ℕ) (m w : List ℕ) where
   pub refused-by : (r : Result Asked Refusal) (e : Refusal) (n : ℕ) → IsErr r × IsErrAnd r (λ x. x ≡ e) → number_of e ≡ n → n ≢ 0
       → read_call room up m ≡ refusing n
-      → Refuses r (read_call room up m).number × ((asked_by r ≡ numbers (read_call room up m)) × (w ≡ put 0 (flat (read_call room up m).rows) w))
+      → Refuses r (read_call room up m).number × ((answer_by asked_by r ≡ numbers (read_call room up m)) × (w ≡ put 0 (flat (read_call room up m).rows) w))
   refused-by (Ok a) e n h f z q = absurd h.1
   refused-by (Err x) e n h f z q =
       let is : number_of x ≡ n = ap number_of h.1 ∙ f in

@@ -5,6 +5,7 @@ ghost use Rattle.std.specs.Prelude.{◌≡◌, ◌≤◌, ◌<◌, length};
 ghost use Rattle.lists.specs.Lists.{flat, put};
 ghost use Rattle.definition.specs.Call.{numbers};
 ghost use Rattle.refusal.specs.Refusal.{Refuses};
+ghost use Rattle.call_read.specs.Answer.{answer_by};
 ghost use Rattle.call_message.specs.Message.{read_call};
 ghost use Rattle.call_message.specs.Answer.{asked_by, request_of};
 
@@ -14,7 +15,7 @@ use netlink_refusal::Message;
 use refusal::{Refusal, unless};
 
 // What a reading answers: the message's type, and the words of the request that it wrote.
-#[derive(Clone, Copy)]
+#[derive(Clone, Copy, Debug, PartialEq, Eq)]
 pub struct Asked {
     pub kind: MessageType,
     pub words: u32,
@@ -48,7 +49,7 @@ fn request(message: Message, up: u32, words: &mut [u32]) -> u32
 // A message into the request that the base judges; `up` goes into the requests that have it.
 pub fn read(message: &[u8], words: &mut [u32], up: u32) -> Result<Asked, Refusal>
     ensures refuses { Refuses result (read_call (length words.old) up message.now).number }
-    ensures says { asked_by result ≡ numbers (read_call (length words.old) up message.now) }
+    ensures says { answer_by asked_by result ≡ numbers (read_call (length words.old) up message.now) }
     ensures words_after { words.new ≡ put 0 (flat (read_call (length words.old) up message.now).rows) words.old }
 {
     unless(DEL_ROUTE4_WORDS <= words.len(), Refusal::WrongLength)?;

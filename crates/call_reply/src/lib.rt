@@ -135,7 +135,7 @@ impl Values for Asked {
         Reply {
             number: 0,
             present: 0,
-            value: self.kind,
+            value: u32::from(self.kind),
             second: self.words,
         }
     }

@@ -18,7 +18,7 @@ const MOST: usize = 1024;
 
 fn say_asked(rt: &impl Print, i: u32, asked: Result<Asked, Refusal>, check: u32) {
     let _ = match asked {
-        Ok(Asked { kind, words }) => println!(rt; "{i}: type {kind}, {words} words, check {check}"),
+        Ok(Asked { kind, words }) => println!(rt; "{i}: type {}, {words} words, check {check}", u32::from(kind)),
         Err(refusal) => println!(rt; "{i}: {}, check {check}", refusal.number()),
     };
 }
