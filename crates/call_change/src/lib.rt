@@ -116,6 +116,14 @@ pub fn del_v4(state: &mut [u32], q: &[u32], events: &mut [u32]) -> Done
     of_done(step_del_v4::del_v4(&mut state[..BASE_WORDS], events, q))
 }
 
+// Words of the length of an array.
+fn sized<const N: usize>(words: &[u32]) -> &[u32; N]
+    requires { length words.now ≡ N }
+    ensures { result.now ≡ words.now }
+{
+    words.as_array().unwrap()
+}
+
 // A route is put in, or replaces one. A refusal by the reference may leave its table listed.
 pub fn add_route4(state: &mut [u32], q: &[u32], events: &mut [u32]) -> Done
     ensures { Answers (add_route4_call q.now (length events.old) state.old) state.new events.old events.new result }
@@ -138,7 +146,7 @@ pub fn add_route4_lent(state: &mut [u32], q: &[u32], room: usize, events: &mut [
     if n != 0 {
         return Done::Refused(n);
     }
-    of_done(step_route_request::add_route4(&mut state[..BASE_WORDS], events, q))
+    of_done(step_route_request::add_route4(&mut state[..BASE_WORDS], events, sized(q)))
 }
 
 // The first route that matches goes.
@@ -163,5 +171,5 @@ pub fn del_route4_lent(state: &mut [u32], q: &[u32], room: usize, events: &mut [
     if n != 0 {
         return Done::Refused(n);
     }
-    of_done(step_route_request::del_route4(&mut state[..BASE_WORDS], events, q))
+    of_done(step_route_request::del_route4(&mut state[..BASE_WORDS], events, sized(q)))
 }

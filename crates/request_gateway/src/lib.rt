@@ -1,7 +1,7 @@
 // How a route that a request asks for is reached: its device and its gateway.
 #![tactic(auto)]
 
-ghost use Rattle.std.specs.Prelude.{◌≡◌, ◌<◌, max, length};
+ghost use Rattle.std.specs.Prelude.{◌≡◌, ◌<◌, max};
 ghost use Rattle.lists.specs.Library.{lent, lent_ok};
 ghost use Rattle.layout.specs.Route.{scope};
 ghost use Rattle.definition.specs.Reference.Lookup.{route, answer, together};
@@ -10,15 +10,14 @@ ghost use Rattle.rows_lookup.specs.Flow.{flow_of};
 ghost use Rattle.rows_lookup.specs.Answer.{answered};
 ghost use Rattle.request_gateway.specs.Rows.{reached, onlink_rows, gateway_rows, gateway4_rows, reach_rows};
 
-use layout::{RouteRow, add_route4, route};
+use layout::{AddRoute4, RouteRow, add_route4, route};
 use refusal::{Refusal, unless};
 use rows::Routes;
 use rows_lookup::Flow;
 
 // On link it must be unicast to the local table, while up, for a route wider than link scope.
 #[tactic(auto, unfolding(crate::specs::Rows::onlink_rows))]
-fn onlink_check(routes: Routes<'_>, q: &[u32], local_listed: bool) -> Result<bool, Refusal>
-    requires { length q.now ≡ 34 }
+fn onlink_check(routes: Routes<'_>, q: &AddRoute4, local_listed: bool) -> Result<bool, Refusal>
     ensures { result ≡ reached (onlink_rows q.now local_listed routes.entry.rows.now) }
 {
     unless(
@@ -41,8 +40,8 @@ fn onlink_check(routes: Routes<'_>, q: &[u32], local_listed: bool) -> Result<boo
 }
 
 // The flow to a gateway: one scope narrower than the route's, link scope at least.
-fn to_gateway(q: &[u32]) -> Flow
-    requires { (length q.now ≡ 34) × (scope q.now < 256) }
+fn to_gateway(q: &AddRoute4) -> Flow
+    requires { scope q.now < 256 }
     ensures { flow_of result ≡ to_gateway q.now }
 {
     Flow {
@@ -71,10 +70,10 @@ fn own_route<'a>(routes: Routes<'a>, t: u32, f: Flow) -> Option<&'a RouteRow>
 #[tactic(auto, unfolding(crate::specs::Rows::gateway_rows))]
 fn gateway_route<'a>(
     routes: Routes<'a>,
-    q: &[u32],
+    q: &AddRoute4,
     default_listed: bool,
 ) -> Result<&'a RouteRow, Refusal>
-    requires { (length q.now ≡ 34) × (scope q.now < 256) }
+    requires { scope q.now < 256 }
     ensures { lent_ok result ≡ answered (gateway_rows q.now default_listed routes.entry.rows.now) }
 {
     let f = to_gateway(q);
@@ -85,8 +84,7 @@ fn gateway_route<'a>(
 }
 
 // By a unicast or local route, while up.
-fn reached_by(r: &RouteRow, q: &[u32]) -> Result<bool, Refusal>
-    requires { length q.now ≡ 34 }
+fn reached_by(r: &RouteRow, q: &AddRoute4) -> Result<bool, Refusal>
     ensures { result ≡ reached (reached_by q.now (route r.now)) }
 {
     let kind = r[route::KIND];
@@ -102,11 +100,11 @@ fn reached_by(r: &RouteRow, q: &[u32]) -> Result<bool, Refusal>
 #[tactic(auto, unfolding(crate::specs::Rows::gateway4_rows))]
 pub fn gateway4(
     routes: Routes<'_>,
-    q: &[u32],
+    q: &AddRoute4,
     local_listed: bool,
     default_listed: bool,
 ) -> Result<bool, Refusal>
-    requires { (length q.now ≡ 34) × (scope q.now < 256) }
+    requires { scope q.now < 256 }
     ensures { result ≡ reached (gateway4_rows q.now local_listed default_listed routes.entry.rows.now) }
 {
     if request_route::onlink_flag(q) {
@@ -119,11 +117,11 @@ pub fn gateway4(
 #[tactic(auto, unfolding(crate::specs::Rows::reach_rows))]
 pub fn reach_check(
     routes: Routes<'_>,
-    q: &[u32],
+    q: &AddRoute4,
     local_listed: bool,
     default_listed: bool,
 ) -> Result<bool, Refusal>
-    requires { (length q.now ≡ 34) × (scope q.now < 256) }
+    requires { scope q.now < 256 }
     ensures { result ≡ reached (reach_rows q.now local_listed default_listed routes.entry.rows.now) }
 {
     let invalid = Refusal::Errno(layout::INVALID);

@@ -1,40 +1,13 @@
 // What a request for a route asks for, by its words alone.
 #![tactic(auto)]
 
-ghost use Rattle.std.specs.Prelude.{◌≡◌, cond, ◌≤◌, ◌<◌, length};
-ghost use Rattle.lists.specs.Lists.{put};
-ghost use Rattle.definition.specs.Reference.Routes.{table_named, bad_prefix, dead_flags, onlink_flag, unsupported, then, refuse, mark, form_check, asked_route};
+ghost use Rattle.std.specs.Prelude.{◌≡◌, cond, ◌≤◌, length, eqb};
+ghost use Rattle.definition.specs.Reference.Routes.{table_named, bad_prefix, dead_flags, onlink_flag, unsupported, form_check, asked_route};
+ghost use Rattle.refusal.specs.Refusal.{unless};
+ghost use Rattle.refusal.specs.declared.Refusal.TheVariants.{Errno};
 
-use layout::{add_route4, route};
-
-// The first number that isn't 0.
-pub fn first_of(a: u32, b: u32) -> u32
-    ensures { result ≡ then a b }
-{
-    if a == 0 {
-        return b;
-    }
-    a
-}
-
-// A number where the test holds, else 0.
-pub fn refuse(b: bool, n: u32) -> u32
-    ensures { result ≡ refuse b n }
-{
-    if b {
-        return n;
-    }
-    0
-}
-
-pub fn mark(b: bool) -> u32
-    ensures { result ≡ mark b }
-{
-    if b {
-        return 1;
-    }
-    0
-}
+use layout::{AddRoute4, ROUTE_WORDS, RouteRow, add_route4, route};
+use refusal::{Refusal, unless};
 
 // Table 0 is 254.
 pub fn table_named(q: &[u32]) -> u32
@@ -52,23 +25,20 @@ pub fn bad_prefix(q: &[u32]) -> bool
     requires { 12 ≤ length q.now }
     ensures { result ≡ bad_prefix q.now }
 {
-    if 32 < q[route::LEN] {
-        return true;
-    }
-    prefix::host_bits4(q[route::DST], q[route::LEN]) != 0
+    32 < q[route::LEN] || prefix::host_bits4(q[route::DST], q[route::LEN]) != 0
 }
 
 // No request may set RTNH_F_DEAD or RTNH_F_LINKDOWN.
-fn dead_flags(q: &[u32]) -> bool
-    requires { length q.now ≡ 34 }
+#[tactic(auto, using(crate::specs::Laws::dead_says))]
+fn dead_flags(q: &AddRoute4) -> bool
     ensures { result ≡ dead_flags q.now }
 {
     (q[add_route4::FLAGS] & 0x01 != 0) | (q[add_route4::FLAGS] & 0x10 != 0)
 }
 
 // RTNH_F_ONLINK.
-pub fn onlink_flag(q: &[u32]) -> bool
-    requires { length q.now ≡ 34 }
+#[tactic(auto, using(crate::specs::Laws::onlink_says))]
+pub fn onlink_flag(q: &AddRoute4) -> bool
     ensures { result ≡ onlink_flag q.now }
 {
     q[add_route4::FLAGS] & 0x04 != 0
@@ -78,37 +48,37 @@ pub fn onlink_flag(q: &[u32]) -> bool
 fn unknown_kind(code: u32) -> u32
     ensures { result ≡ cond (unsupported code) 95 22 }
 {
-    if (code == 4) | (code == 5) | (code == 10) | (code == 11) {
-        return layout::NOT_SUPPORTED;
+    match code {
+        4 | 5 | 10 | 11 => layout::NOT_SUPPORTED,
+        _ => layout::INVALID,
     }
-    layout::INVALID
 }
 
-// Length and host bits, scope and dead flags, metrics, kind: 0 where all is well.
-pub fn form_check(q: &[u32]) -> u32
-    requires { length q.now ≡ 34 }
-    ensures { result ≡ form_check q.now }
+// Length and host bits, scope and dead flags, metrics, kind.
+#[tactic(auto, unfolding(definition::specs::Reference::Routes::form_check))]
+pub fn form_check(q: &AddRoute4) -> Result<(), Refusal>
+    ensures { result ≡ unless (eqb (form_check q.now) 0) (Errno (form_check q.now)) }
 {
+    let invalid = Refusal::Errno(layout::INVALID);
     let narrow = q[route::SCOPE] < kind::least_scope(q[route::KIND]);
-    let known = kind::is_kind(q[route::KIND]);
-    first_of(
-        refuse(bad_prefix(q), layout::INVALID),
-        first_of(
-            refuse(narrow | dead_flags(q), layout::INVALID),
-            first_of(
-                q[add_route4::METRICS_ERROR],
-                refuse(!known, unknown_kind(q[route::KIND])),
-            ),
-        ),
+    let metrics_error = q[add_route4::METRICS_ERROR];
+    unless(!bad_prefix(q), invalid)?;
+    unless(!(narrow | dead_flags(q)), invalid)?;
+    unless(metrics_error == 0, Refusal::Errno(metrics_error))?;
+    unless(
+        kind::is_kind(q[route::KIND]),
+        Refusal::Errno(unknown_kind(q[route::KIND])),
     )
 }
 
 // The row that a request asks for; the kinds that reject have no device.
-pub fn asked_route(q: &[u32], linked: bool, out: &mut [u32])
-    requires { (length q.now ≡ 34) × (32 ≤ length out.old) }
-    ensures { out.new ≡ put 0 (asked_route q.now linked) out.old }
+#[tactic(auto, unfolding(definition::specs::Reference::Routes::asked_route))]
+pub fn asked_route(q: &AddRoute4, linked: bool) -> RouteRow
+    ensures { result ≡ asked_route q.now linked }
 {
-    let head = [
+    let mut row = [0u32; ROUTE_WORDS];
+    let (head, metrics) = row.split_at_mut(route::METRICS);
+    head.copy_from_slice(&[
         table_named(q),
         q[route::DST],
         q[route::LEN],
@@ -121,10 +91,10 @@ pub fn asked_route(q: &[u32], linked: bool, out: &mut [u32])
         q[route::PREFSRC],
         q[route::GATEWAY_PRESENT],
         q[route::GATEWAY],
-        mark(!kind::rejects(q[route::KIND])),
-        mark(onlink_flag(q)),
-        mark(linked),
-    ];
-    words::store(out, 0, &head);
-    words::store(out, route::METRICS, &q[add_route4::METRICS..add_route4::UP]);
+        u32::from(!kind::rejects(q[route::KIND])),
+        u32::from(onlink_flag(q)),
+        u32::from(linked),
+    ]);
+    metrics.copy_from_slice(&q[add_route4::METRICS..add_route4::UP]);
+    row
 }

@@ -1,20 +1,16 @@
 // The row that a request to delete a route names.
 #![tactic(auto)]
 
-ghost use Rattle.std.specs.Prelude.{◌≡◌, true, ◌*◌, ◌≤◌, List, length};
-ghost use Rattle.lists.specs.Lists.{Row};
-ghost use Rattle.lists.specs.Laid.{Laid, Lays};
-ghost use Rattle.lists.specs.Place.{place_of};
-ghost use Rattle.layout.specs.Route.{fit_route};
-ghost use Rattle.layout.specs.Request.{fit_del_route4};
+ghost use Rattle.std.specs.Prelude.{◌≡◌, true, position};
+ghost use Rattle.layout.specs.Request.{pairs, fit_pairs, fit_del_route4};
 ghost use Rattle.definition.specs.Reference.Routes.{selects, has_metrics, table_named};
 ghost use Rattle.request_select.specs.Laws.{same_place, same_fields};
 
-use layout::{ROUTE_WORDS, del_route4, route};
+use layout::{DelRoute4, RouteRow, del_route4, route};
+use rows::Routes;
 
 // The row is in the table that is named, and has the destination, the tos and at least the priority.
-fn same_place(q: &[u32], t: u32, r: &[u32]) -> bool
-    requires { (length q.now ≡ 49) × (length r.now ≡ 32) }
+fn same_place(q: &DelRoute4, t: u32, r: &RouteRow) -> bool
     ensures { result ≡ same_place q.now t r.now }
 {
     (r[route::TABLE] == t)
@@ -25,8 +21,7 @@ fn same_place(q: &[u32], t: u32, r: &[u32]) -> bool
 }
 
 // Each other field matches any where it is 0 or absent, 255 for the scope.
-fn same_fields(q: &[u32], r: &[u32]) -> bool
-    requires { (length q.now ≡ 49) × (length r.now ≡ 32) }
+fn same_fields(q: &DelRoute4, r: &RouteRow) -> bool
     ensures { result ≡ same_fields q.now r.now }
 {
     ((q[route::KIND] == 0) | (r[route::KIND] == q[route::KIND]))
@@ -39,48 +34,43 @@ fn same_fields(q: &[u32], r: &[u32]) -> bool
             | ((r[route::GATEWAY_PRESENT] == 1) & (r[route::GATEWAY] == q[route::GATEWAY])))
 }
 
-// The metrics that the request names, pair by pair.
-fn has_metrics(q: &[u32], r: &[u32]) -> bool
-    requires { (length q.now ≡ 49) × (fit_del_route4 q.now ≡ true) × (length r.now ≡ 32) }
+// The metrics that the request names, each by its index and the value that a route must have there.
+fn pairs(q: &DelRoute4) -> &[[u32; 2]]
+    requires { fit_del_route4 q.now ≡ true }
+    ensures value { result.now ≡ pairs q.now }
+    ensures fits { fit_pairs q.now ≡ true }
+{
+    let (all, _) = q[del_route4::PAIRS..].as_chunks::<2>();
+    &all[..q[del_route4::PAIR_COUNT] as usize]
+}
+
+// A row has them all.
+fn has_metrics(q: &DelRoute4, r: &RouteRow) -> bool
+    requires { fit_del_route4 q.now ≡ true }
     ensures { result ≡ has_metrics q.now r.now }
 {
-    let n = words::wide(q[del_route4::PAIR_COUNT]);
     let mut same = q[del_route4::LIST_PRESENT] == 1;
-    let mut i = 0usize;
-    while i < n {
-        let index = words::wide(q[del_route4::PAIRS + 2 * i]);
-        same = same & (r[route::METRICS + index] == q[del_route4::PAIR_VALUES + 2 * i]);
-        i += 1;
+    for &[index, value] in pairs(q) {
+        same &= r[route::METRICS + index as usize] == value;
     }
     same
 }
 
 // Most rows are of other places, so that is asked first.
-fn selects(q: &[u32], t: u32, r: &[u32]) -> bool
-    requires { (length q.now ≡ 49) × (fit_del_route4 q.now ≡ true) × (length r.now ≡ 32) × (t ≡ table_named q.now) }
+#[tactic(auto, using(crate::specs::Laws::selects_parts))]
+fn selects(q: &DelRoute4, t: u32, r: &RouteRow) -> bool
+    requires fits { fit_del_route4 q.now ≡ true }
+    requires named { t ≡ table_named q.now }
     ensures { result ≡ selects q.now r.now }
 {
-    if !same_place(q, t, r) {
-        return false;
-    }
-    let fields = same_fields(q, r);
-    fields & has_metrics(q, r)
+    same_place(q, t, r) && (same_fields(q, r) & has_metrics(q, r))
 }
 
-// The place of the first row that the request names, the number of rows where there is none.
-pub fn select_route(rows: &[u32], n: usize, q: &[u32]) -> usize
-    requires rows_len { (length rows.now ≡ 32 * n) × Lays 32 fit_route rows.now }
-    requires q_len { (length q.now ≡ 49) × (fit_del_route4 q.now ≡ true) }
-    ensures { (result ≤ n) × ((l : List Row) → Laid 32 fit_route rows.now l → result ≡ place_of (selects q.now) l) }
+// The place of the first row that the request names.
+pub fn select_route(routes: Routes<'_>, q: &DelRoute4) -> Option<usize>
+    requires { fit_del_route4 q.now ≡ true }
+    ensures { result ≡ position (selects q.now) routes.entry.rows.now }
 {
     let t = request_route::table_named(q);
-    let mut i = 0usize;
-    while i < n {
-        let at = ROUTE_WORDS * i;
-        if selects(q, t, &rows[at..at + ROUTE_WORDS]) {
-            return i;
-        }
-        i += 1;
-    }
-    n
+    routes.rows.iter().position(|r| selects(q, t, r))
 }

@@ -9,7 +9,7 @@ use Rattle.std.proofs.Math.Dec.{leb}
 use Rattle.std.proofs.lemmas.Bool.{lt-leb}
 use Rattle.lists.specs.Lists.{Row, flat, put}
 use Rattle.lists.specs.Bools.{test-case}
-use Rattle.lists.specs.Put.{put_whole, put-no-rows}
+use Rattle.lists.specs.Put.{put-no-rows}
 use Rattle.lists.specs.At.{flat-one}
 use Rattle.layout.specs.Route.{fit_route}
 use Rattle.layout.specs.Request.{nlm_flags, fit_add_route4}
@@ -163,9 +163,6 @@ asked-fits q made linked e long fit = asked_route-fit q linked long fit (check-f
 
 pub room-kept : {w x : List ℕ} {st : State} (t : ℕ) (rows : List Row) → Represents w st → Represents x (with_routes rows st) → length (list_table t (tables_of w)) ≤ 32 → length (list_table t (tables_of x)) ≤ 32
 room-kept t rows h k room = rw (tables-at k) (rw (tables-at h) at room)
-
-pub asked_new : (x r init : List ℕ) → x ≡ put 0 r init → fit_route r ≡ true → length init ≡ 32 → x ≡ r
-asked_new x r init e f long = e ∙ put_whole r init (length-route r f ∙ sym long)
 
 pub by-checked : (x : Result Bool Refusal) (linked : Bool) → x ≡ Ok linked → (r : Routes.Reached) → x ≡ reached r → by linked ≡ r
 by-checked x linked e (by b) h = cc

@@ -3,7 +3,7 @@
 use Rattle.std.specs.Prelude.{ℕ, ◌<◌, ◌≡◌, refl, Bool, true, false, cond, not, ◌&&◌, ◌||◌, List, Result, Ok, Err, eqb, Result}
 use Rattle.std.proofs.Math.Path.{sym}
 use Rattle.std.proofs.Common.{ap, ◌∙◌, eq-eqb, ne_eqb, eqb-true, ltb-true}
-use Rattle.std.proofs.Math.Bool.{or-false, and-false}
+use Rattle.std.proofs.Math.Bool.{or-false, and-false, not-not}
 use Rattle.lists.specs.Lists.{Row, among}
 use Rattle.lists.specs.Bools.{test-case, and_iff}
 use Rattle.lists.specs.Split.{among-more}
@@ -20,6 +20,7 @@ use Rattle.state_tables.specs.Listed.{tables_of}
 use Rattle.state_read.specs.Parts.{listed-there}
 use Rattle.request_prefsrc.specs.Rows.{prefsrc_table, prefsrc_rows, prefsrc-rows}
 use Rattle.request_gateway.specs.Rows.{reached, reach_rows, reach-rows}
+use Rattle.refusal.specs.Refusal.{unless}
 use Rattle.refusal.specs.declared.Refusal.{Refusal}
 use Rattle.refusal.specs.declared.Refusal.TheVariants.{Errno}
 
@@ -27,6 +28,10 @@ use Rattle.refusal.specs.declared.Refusal.TheVariants.{Errno}
 abbrev pub prefsrc_check : Row → Routes.Reached → State → Routes.Reached
 prefsrc_check q (unreached n) st = unreached n
 prefsrc_check q (by linked) st = cond (eqb (prefsrc_present q) 1 && not (valid_prefsrc4 q st)) (unreached 22) (by linked)
+
+-- its answer alone
+abbrev pub prefsrc_result : Row → State → Result (Unit {0}) Refusal
+prefsrc_result q st = unless (not (eqb (prefsrc_present q) 1 && not (valid_prefsrc4 q st))) (Errno 22)
 
 -- all checks
 abbrev pub check_all : Row → State → Routes.Reached
@@ -113,41 +118,49 @@ module _ (q : Row) (st : State) (t : ℕ) (named : t ≡ table_named q) where
       rw (← named) (prefsrc-rows q (create4 t st) ∙ rw (← named, own, local))
 
   -- ---- a preferred source
-  module _ (linked : Bool) where
-    pub no-prefsrc : (prefsrc_present q ≡ 1 → ⊥) → Ok linked ≡ reached (prefsrc_check q (by linked) (create4 (table_named q) st))
-    no-prefsrc h = rw (ne_eqb (prefsrc_present q) 1 h)
+  pub no-prefsrc : (prefsrc_present q ≡ 1 → ⊥) → Ok tt ≡ prefsrc_result q (create4 (table_named q) st)
+  no-prefsrc h = rw (ne_eqb (prefsrc_present q) 1 h)
 
-    module _ (h : prefsrc_present q ≡ 1) (v o a : Bool) (e : o ≡ (listed (prefsrc_table t) st || eqb (prefsrc_table t) t))
-        (f : a ≡ (listed local_table st || eqb local_table t)) (g : v ≡ prefsrc_rows q o a st.routes) where
-      valid-is : valid_prefsrc4 q (create4 (table_named q) st) ≡ v
-      valid-is = made-prefsrc o a e f ∙ sym g
-
-      pub good-prefsrc : v ≡ true → Ok linked ≡ reached (prefsrc_check q (by linked) (create4 (table_named q) st))
-      good-prefsrc k = rw (eq-eqb (prefsrc_present q) 1 h, valid-is, k)
-
-      pub bad_prefsrc : v ≡ false → Err (Errno 22) ≡ reached (prefsrc_check q (by linked) (create4 (table_named q) st))
-      bad_prefsrc k = rw (eq-eqb (prefsrc_present q) 1 h, valid-is, k)
+  pub some-prefsrc : prefsrc_present q ≡ 1 → (v o a : Bool) → o ≡ (listed (prefsrc_table t) st || eqb (prefsrc_table t) t) → a ≡ (listed local_table st || eqb local_table t)
+      → v ≡ prefsrc_rows q o a st.routes → (r : Result (Unit {0}) Refusal) → r ≡ unless v (Errno 22) → r ≡ prefsrc_result q (create4 (table_named q) st)
+  some-prefsrc h v o a e f g r k = k ∙ rw (eq-eqb (prefsrc_present q) 1 h, made-prefsrc o a e f, ← g, not-not)
 
   -- ---- all of them
-  module _ (n : ℕ) (form : n ≡ form_check q) where
-    pub check_form : (n ≡ 0 → ⊥) → Err (Errno n) ≡ reached (check_all q (create4 (table_named q) st))
-    check_form h = rw (← form, ne_eqb n 0 h)
+  module _ (f : Result (Unit {0}) Refusal) (form : f ≡ unless (eqb (form_check q) 0) (Errno (form_check q))) where
+    pub check-form : (e : Refusal) → f ≡ Err e → Err e ≡ reached (check_all q (create4 (table_named q) st))
+    check-form e k =
+        test-case (eqb (form_check q) 0) (λ z. let bad : Err e ≡ Ok tt = sym k ∙ form ∙ rw z in cc) (λ z. let same : Err e ≡ Err (Errno (form_check q)) = sym k ∙ form ∙ rw z in let at : e ≡ Errno (form_check q) = cc in rw (z, at))
 
-    module _ (z : n ≡ 0) (a b : Bool) (e : a ≡ (listed local_table st || eqb local_table t)) (f : b ≡ (listed default_table st || eqb default_table t)) where
-      check-goes : check_all q (create4 (table_named q) st) ≡ prefsrc_check q (reach_rows q a b st.routes) (create4 (table_named q) st)
-      check-goes = rw (← form, eq-eqb n 0 z, made-reach a b e f)
+    module _ (u : Unit {0}) (well : f ≡ Ok u) (a b : Bool) (e : a ≡ (listed local_table st || eqb local_table t)) (d : b ≡ (listed default_table st || eqb default_table t))
+        (x : Result Bool Refusal) (g : x ≡ reached (reach_rows q a b st.routes)) where
+      formed : eqb (form_check q) 0 ≡ true
+      formed = test-case (eqb (form_check q) 0) (λ z. z) (λ z. let bad : Ok u ≡ Err (Errno (form_check q)) = sym well ∙ form ∙ rw z in cc)
 
-      module _ (x : Result Bool Refusal) (g : x ≡ reached (reach_rows q a b st.routes)) where
-        pub check-refused : (m : Refusal) → x ≡ Err m → x ≡ reached (check_all q (create4 (table_named q) st))
-        check-refused m k = rw check-goes (go (reach_rows q a b st.routes) g)
-          where
-            go : (r : Routes.Reached) → x ≡ reached r → x ≡ reached (prefsrc_check q r (create4 (table_named q) st))
-            go (by l) h = let bad : Ok l ≡ Err m = cc in cc
-            go (unreached i) h = h
+      on : check_all q (create4 (table_named q) st) ≡ prefsrc_check q (reach_rows q a b st.routes) (create4 (table_named q) st)
+      on = rw (formed, made-reach a b e d)
 
-        pub check-on : (linked : Bool) → x ≡ Ok linked → check_all q (create4 (table_named q) st) ≡ prefsrc_check q (by linked) (create4 (table_named q) st)
-        check-on linked k = check-goes ∙ ap (λ (r : Routes.Reached). prefsrc_check q r (create4 (table_named q) st)) (go (reach_rows q a b st.routes) g)
+      pub check-reach : (m : Refusal) → x ≡ Err m → Err m ≡ reached (check_all q (create4 (table_named q) st))
+      check-reach m k = rw on (go (reach_rows q a b st.routes) g)
+        where
+          go : (r : Routes.Reached) → x ≡ reached r → Err m ≡ reached (prefsrc_check q r (create4 (table_named q) st))
+          go (by l) h = let bad : Ok l ≡ Err m = cc in cc
+          go (unreached i) h = sym k ∙ h
+
+      module _ (linked : Bool) (k : x ≡ Ok linked) (y : Result (Unit {0}) Refusal) (p : y ≡ prefsrc_result q (create4 (table_named q) st)) where
+        found : check_all q (create4 (table_named q) st) ≡ prefsrc_check q (by linked) (create4 (table_named q) st)
+        found = on ∙ ap (λ (r : Routes.Reached). prefsrc_check q r (create4 (table_named q) st)) (go (reach_rows q a b st.routes) g)
           where
             go : (r : Routes.Reached) → x ≡ reached r → r ≡ by linked
             go (by l) h = let same : l ≡ linked = cc in cc
             go (unreached i) h = cc
+
+        refused : Bool
+        refused = eqb (prefsrc_present q) 1 && not (valid_prefsrc4 q (create4 (table_named q) st))
+
+        pub check-prefsrc : (m : Refusal) → y ≡ Err m → Err m ≡ reached (check_all q (create4 (table_named q) st))
+        unfolding refused
+        check-prefsrc m h = rw found (test-case refused (λ z. let same : Err m ≡ Err (Errno 22) = sym h ∙ p ∙ rw z in let at : m ≡ Errno 22 = cc in rw (z, at)) (λ z. let bad : Err m ≡ Ok tt = sym h ∙ p ∙ rw z in cc))
+
+        pub check-passed : (v : Unit {0}) → y ≡ Ok v → Ok linked ≡ reached (check_all q (create4 (table_named q) st))
+        unfolding refused
+        check-passed v h = rw found (test-case refused (λ z. let bad : Ok v ≡ Err (Errno 22) = sym h ∙ p ∙ rw z in cc) (λ z. rw z))

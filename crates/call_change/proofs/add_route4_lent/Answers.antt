@@ -54,7 +54,7 @@ add_route4-requires c =
     in
     let p = passed call.checks c.args.state.now n-is c.if-n-ne0.false in
     let size = sizes add_route4_size c.args.q.now c.args.room p.room in
-    record { represents_fit = sound p; q_len = (size.long, unless-passed (fit_add_route4 c.args.q.now) p.fit); in_bounds = omega (arith, c.requires size.room) }
+    record { represents_fit = sound p; fits = rw c.sized.ensures (unless-passed (fit_add_route4 c.args.q.now) p.fit); in_bounds = omega (arith, c.requires size.room) }
 
 pub returns : goal.returns
 unfolding add_route4_call
@@ -67,4 +67,4 @@ returns c =
     let p = passed call.checks c.args.state.now n-is c.if-n-ne0.false in
     answers-passed call c.args.state.now p
     (whole-answers p (add_route4 c.args.q.now (state_of c.args.state.now)) (added-number insert4 insert_number c.args.q.now (state_of c.args.state.now) (unless-passed (fit_add_route4 c.args.q.now) p.fit))
-    (c.add_route4.ensures (state_of c.args.state.now) p.holds p.good.fits) c.of_done.ensures)
+    (rw c.sized.ensures at (c.add_route4.ensures (state_of c.args.state.now) p.holds p.good.fits)) c.of_done.ensures)

@@ -54,7 +54,7 @@ del_route4-requires c =
     in
     let p = passed call.checks c.args.state.now n-is c.if-n-ne0.false in
     let size = sizes del_route4_size c.args.q.now c.args.room p.room in
-    record { represents_some = fit-some (sound p); q_len = (size.long, unless-passed (fit_del_route4 c.args.q.now) p.fit); in_bounds = omega (arith, c.requires size.room) }
+    record { represents_some = fit-some (sound p); fits = rw c.sized.ensures (unless-passed (fit_del_route4 c.args.q.now) p.fit); in_bounds = omega (arith, c.requires size.room) }
 
 pub returns : goal.returns
 unfolding del_route4_call
@@ -67,4 +67,4 @@ returns c =
     let p = passed call.checks c.args.state.now n-is c.if-n-ne0.false in
     answers-passed call c.args.state.now p
     (whole-answers p (del_route4_request c.args.q.now (state_of c.args.state.now)) (del_route4-number c.args.q.now (state_of c.args.state.now))
-    (c.del_route4.ensures (state_of c.args.state.now) p.holds) c.of_done.ensures)
+    (rw c.sized.ensures at (c.del_route4.ensures (state_of c.args.state.now) p.holds)) c.of_done.ensures)

@@ -1,46 +1,39 @@
 -- `step_route_request::del_route4` meets its contract.
 -- Assumes nothing.
-use Rattle.step_route_request.specs.Delete.{row-long, row-end, del_unlisted, del_bad, del_none, del_row}
-use Rattle.state.specs.Represents.{sizes-valid}
-use native.Mathlib.Omega.{arith}
-use Rattle.state_read.specs.Parts.{ready_routes, of_routes}
+use Rattle.std.proofs.Common.{◌≡◌, Err, None, Some, not, ap, sym, ◌∙◌, arith}
+use Rattle.std.proofs.Math.Bool.{not-not}
+use Rattle.std.proofs.lemmas.Grind.{common_steps}
+use Rattle.refusal.specs.Refusal.{passed-holds, refused_fails}
+use Rattle.refusal.specs.declared.Refusal.TheVariants.{Errno}
+use Rattle.step_route_request.specs.Delete.{del_unlisted, del_bad, del_none, del_row}
 use Rattle.step_route_request.proofs.del_route4.Goals as goal
 
-pub returns-then-not-listed : goal.returns-then-not-listed
-returns-then-not-listed c = λ st h. del_unlisted c.args.q.now h c.args.ev.now c.table_named-t.result c.listed.result c.table_named-t.ensures c.listed.ensures c.if-not-listed.true
+pub returns-in_err-unless : goal.returns-in_err-unless
+returns-in_err-unless c = λ st h.
+    let off = refused_fails c.listed-listed.result _ c.unless.ensures c.in_err-unless.was in
+    let is : c.from_residual.result ≡ Err (Errno 3) = grind (arith, common_steps) in
+    rw is (del_unlisted c.args.q.now h c.args.ev.now c.table_named-t.result c.listed-listed.result c.table_named-t.ensures c.listed-listed.ensures off.0)
 
-pub returns-then-bad_prefix : goal.returns-then-bad_prefix
-returns-then-bad_prefix c = λ st h. del_bad c.args.q.now h c.args.ev.now c.table_named-t.result c.listed.result c.table_named-t.ensures c.listed.ensures c.if-not-listed.false c.bad_prefix.result c.bad_prefix.ensures c.if-bad_prefix.true
+pub returns-in_err-unless-2 : goal.returns-in_err-unless-2
+returns-in_err-unless-2 c = λ st h.
+    let listed = passed-holds c.listed-listed.result _ c.unless.ensures c.in_ok-unless.was in
+    let bad = refused_fails (not c.bad_prefix.result) _ c.unless-2.ensures c.in_err-unless-2.was in
+    let is : c.from_residual-in_err-unless-2.result ≡ Err (Errno 22) = grind (arith, common_steps) in
+    rw is (del_bad c.args.q.now h c.args.ev.now c.table_named-t.result c.listed-listed.result c.table_named-t.ensures c.listed-listed.ensures listed c.bad_prefix.result c.bad_prefix.ensures (sym (not-not c.bad_prefix.result) ∙ ap not bad.0))
 
-pub route_count-n-requires : goal.route_count-n-requires
-route_count-n-requires c = (sizes-valid c.requires.represents_some).long
-
-pub select_route-place-requires : goal.select_route-place-requires
-select_route-place-requires c = record { rows_len = ready_routes _ _ c.requires.represents_some c.routes.ensures c.route_count-n.ensures; q_len = c.requires.q_len }
-
-pub returns-then-n-place : goal.returns-then-n-place
-returns-then-n-place c = λ st h. del_none c.args.q.now h c.args.ev.now c.table_named-t.result c.listed.result c.table_named-t.ensures c.listed.ensures c.if-not-listed.false c.bad_prefix.result c.bad_prefix.ensures c.if-bad_prefix.false c.select_route-place.result (c.select_route-place.ensures.1 st.routes (of_routes _ h c.routes.ensures)) (omega (arith, c.route_count-n.ensures, c.if-n-place.true))
-
-pub overflow_mul-at : goal.overflow_mul-at
-overflow_mul-at c = omega (arith, sizes-valid c.requires.represents_some, c.route_count-n.ensures)
-
-pub overflow_add-at : goal.overflow_add-at
-overflow_add-at c = omega (arith, sizes-valid c.requires.represents_some, c.route_count-n.ensures)
-
-pub overflow_add-at-2 : goal.overflow_add-at-2
-overflow_add-at-2 c = omega (arith, sizes-valid c.requires.represents_some, c.route_count-n.ensures)
-
-pub offset_bounds-s-at : goal.offset_bounds-s-at
-offset_bounds-s-at c = omega (arith, sizes-valid c.requires.represents_some, c.route_count-n.ensures)
-
-pub slice_bounds-del_route4-end : goal.slice_bounds-del_route4-end
-slice_bounds-del_route4-end c = omega (arith, row-end c.requires.represents_some c.select_route-place.result (omega (arith, c.route_count-n.ensures, c.if-n-place.false)))
-
-pub del_route4-requires : goal.del_route4-requires
-del_route4-requires c = (c.requires.in_bounds, row-long c.requires.represents_some c.select_route-place.result (omega (arith, c.route_count-n.ensures, c.if-n-place.false)))
-
-pub remove_route-requires : goal.remove_route-requires
-remove_route-requires c = record { represents_some = c.requires.represents_some; i_bound = (omega (arith, c.route_count-n.ensures, c.if-n-place.false)) }
+pub returns-in_err-place : goal.returns-in_err-place
+returns-in_err-place c = λ st h.
+    let listed = passed-holds c.listed-listed.result _ c.unless.ensures c.in_ok-unless.was in
+    let good = passed-holds (not c.bad_prefix.result) _ c.unless-2.ensures c.in_ok-unless-2.was in
+    let none : c.select_route.result ≡ None = grind (arith, common_steps) in
+    let is : c.from_residual-in_err-place.result ≡ Err (Errno 3) = grind (arith, common_steps) in
+    rw is (del_none c.args.q.now h c.args.ev.now c.table_named-t.result c.listed-listed.result c.table_named-t.ensures c.listed-listed.ensures listed c.bad_prefix.result c.bad_prefix.ensures (sym (not-not c.bad_prefix.result) ∙ ap not good)
+    (rw (c.routes-routes.ensures.rows st h) at (sym c.select_route.ensures ∙ none)))
 
 pub returns : goal.returns
-returns c = λ st h. del_row c.args.q.now h c.args.ev.now c.table_named-t.result c.listed.result c.table_named-t.ensures c.listed.ensures c.if-not-listed.false c.bad_prefix.result c.bad_prefix.ensures c.if-bad_prefix.false c.select_route-place.result (c.select_route-place.ensures.1 st.routes (of_routes _ h c.routes.ensures)) (omega (arith, c.route_count-n.ensures, c.if-n-place.false)) (c.remove_route.ensures st h) c.del_route4.ensures c.requires.in_bounds
+returns c = λ st h.
+    let listed = passed-holds c.listed-listed.result _ c.unless.ensures c.in_ok-unless.was in
+    let good = passed-holds (not c.bad_prefix.result) _ c.unless-2.ensures c.in_ok-unless-2.was in
+    let some : c.select_route.result ≡ Some c.in_ok-place.place = grind (arith, common_steps) in
+    del_row c.args.q.now h c.args.ev.now c.table_named-t.result c.listed-listed.result c.table_named-t.ensures c.listed-listed.ensures listed c.bad_prefix.result c.bad_prefix.ensures (sym (not-not c.bad_prefix.result) ∙ ap not good)
+    c.in_ok-place.place (rw (c.routes-routes.ensures.rows st h) at (sym c.select_route.ensures ∙ some)) (c.remove_route.ensures st h) (rw (c.routes-routes.ensures.rows st h) at c.del_route4.ensures) c.requires.in_bounds
