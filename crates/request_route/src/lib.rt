@@ -78,25 +78,23 @@ pub fn asked_route(q: &AddRoute4, linked: bool) -> RouteRow
 {
     let mut row = [0u32; ROUTE_WORDS];
     let (head, metrics) = row.split_at_mut(route::METRICS);
-    head.copy_from_slice(
-        &[
-            table_named(q),
-            q[route::DST],
-            q[route::LEN],
-            q[route::TOS],
-            q[route::PRIORITY],
-            q[route::KIND],
-            q[route::PROTO],
-            q[route::SCOPE],
-            q[route::PREFSRC_PRESENT],
-            q[route::PREFSRC],
-            q[route::GATEWAY_PRESENT],
-            q[route::GATEWAY],
-            u32::from(!kind::rejects(q[route::KIND])),
-            u32::from(onlink_flag(q)),
-            u32::from(linked),
-        ],
-    );
+    head.copy_from_slice(&[
+        table_named(q),
+        q[route::DST],
+        q[route::LEN],
+        q[route::TOS],
+        q[route::PRIORITY],
+        q[route::KIND],
+        q[route::PROTO],
+        q[route::SCOPE],
+        q[route::PREFSRC_PRESENT],
+        q[route::PREFSRC],
+        q[route::GATEWAY_PRESENT],
+        q[route::GATEWAY],
+        u32::from(!kind::rejects(q[route::KIND])),
+        u32::from(onlink_flag(q)),
+        u32::from(linked),
+    ]);
     metrics.copy_from_slice(&q[add_route4::METRICS..add_route4::UP]);
     row
 }
