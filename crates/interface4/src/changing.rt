@@ -9,7 +9,7 @@ ghost use Rattle.call_reply.specs.Answer.{numbers_in};
 ghost use Rattle.call_dispatch.specs.Numbered.{change_at, one_at};
 ghost use Rattle.interface4.specs.Changing.{Asks};
 
-use crate::{EVENT_BYTES, STATE_BYTES, rows};
+use crate::{EVENT_BYTES, STATE_BYTES, given};
 use call_reply::Reply;
 use layout::{
     ADD_ROUTE4_WORDS, ADD_V4_WORDS, DEL_ROUTE4_WORDS, DEL_V4_WORDS, EVENT_BUFFER, EVENT_WORDS,

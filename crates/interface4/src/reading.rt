@@ -11,7 +11,7 @@ ghost use Rattle.call_dispatch.specs.Numbered.{find_at, ask_at};
 ghost use Rattle.interface4.specs.Answer.{check_reply};
 ghost use Rattle.interface4.specs.Reading.{row_size};
 
-use crate::{ADDRESS_BYTES, LISTING_BYTES, ROUTE_BYTES, STATE_BYTES, on_words, rows};
+use crate::{ADDRESS_BYTES, LISTING_BYTES, ROUTE_BYTES, STATE_BYTES, given, on_words};
 use call_reply::Reply;
 use layout::{ADDRESS_WORDS, LISTING_BUFFER, ROUTE_WORDS, STATE_WORDS};
 
