@@ -26,6 +26,15 @@ called != "" && $0 !~ /R_X86_64_PLT32/ { unknown(called ": a call without a relo
   if (n > frame[name]) frame[name] = n
 }
 /\tsub +\$0x[0-9a-f]+,%rsp/ { taken[name] = 1 }
+# a jump by the function's own table of places stays in the function, and takes nothing
+/R_X86_64_PC32/ {
+  at = $3
+  sub(/^\.rodata\./, "", at)
+  sub(/[-+]0x[0-9a-f]+$/, "", at)
+  if (at == name) table = name
+}
+/\tmovslq +\(%r[a-z0-9]+,%r[a-z0-9]+,4\)/ && table == name { read = NR }
+/\tjmp +\*%/ && read && NR - read <= 4 { read = 0; next }
 /\t(call|jmp) +\*/ { unknown(name ": an indirect call") }
 /\t(and|sub|add|lea|mov) .*,%rsp/ && $0 !~ /\t(sub|add) +\$0x/ { unknown(name ":" $0) }
 

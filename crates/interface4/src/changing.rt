@@ -10,7 +10,7 @@ ghost use Rattle.call_reply.specs.Answer.{numbers_in};
 ghost use Rattle.call_dispatch.specs.Numbered.{Change, Did, up_at, down_at, add_v4_at, del_v4_at, expire_at, add_route4_at, del_route4_at};
 ghost use Rattle.interface4.specs.Changing.{Described, up-described, down-described, add_v4-described, del_v4-described, expire-described, add_route4-described, del_route4-described};
 
-use crate::{EVENT_BYTES, STATE_BYTES, rows};
+use crate::{EVENT_BYTES, STATE_BYTES, given};
 use call_reply::Reply;
 use layout::{
     ADD_ROUTE4_WORDS, ADD_V4_WORDS, DEL_ROUTE4_WORDS, DEL_V4_WORDS, EVENT_BUFFER, EVENT_WORDS,

@@ -6,7 +6,7 @@ ghost use Rattle.call_message.specs.Message.{read_call, read_on_bytes};
 ghost use Rattle.call_reply.specs.Answer.{reply_of};
 ghost use Rattle.interface4.specs.Answer.{sizes_reply};
 
-use crate::rows;
+use crate::given;
 use call_reply::Reply;
 use refusal::Refusal;
 use layout::{DEL_ROUTE4_WORDS, EVENT_ROWS, STATE_WORDS};

@@ -12,7 +12,7 @@ ghost use Rattle.lists.specs.Lists.{Row};
 ghost use Rattle.interface4.specs.Answer.{check_reply};
 ghost use Rattle.interface4.specs.Reading.{row_size, Asks, local4-asks, source4-asks, source-asks, select4-asks};
 
-use crate::{ADDRESS_BYTES, LISTING_BYTES, ROUTE_BYTES, STATE_BYTES, on_words, rows};
+use crate::{ADDRESS_BYTES, LISTING_BYTES, ROUTE_BYTES, STATE_BYTES, given, on_words};
 use call_reply::Reply;
 use refusal::Refusal;
 use layout::{ADDRESS_WORDS, LISTING_BUFFER, ROUTE_WORDS, STATE_WORDS};

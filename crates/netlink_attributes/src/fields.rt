@@ -19,7 +19,8 @@ pub struct Table<'a> {
 }
 
 impl<'a> Table<'a> {
-    // All attributes in one pass.
+    // All attributes in one pass. It isn't inlined: what it needs on the stack is given back before a table is used.
+    #[inline(never)]
     pub fn of(bytes: &'a [u8]) -> Self
         ensures { result.bytes.now ≡ bytes.now }
     {

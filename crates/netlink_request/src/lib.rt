@@ -120,7 +120,8 @@ fn has_unknown(metrics: &Table) -> bool
     Attributes::of(metrics.bytes).any(|a| codes::RTAX_MAX < a.code)
 }
 
-// The metrics' error and the 17 metrics.
+// The metrics' error and the 17 metrics. It and `pairs_asked` aren't inlined, for the stack.
+#[inline(never)]
 fn metrics_asked(metrics: &Table) -> [u32; 18]
     ensures { result ≡ metrics_asked (attributes metrics.now.bytes.now) }
 {
@@ -180,6 +181,7 @@ fn append(metrics: &Table, k: usize, words: &mut [u32], at: usize) -> usize
 }
 
 // Whether there is a list, the number of its pairs and the pairs.
+#[inline(never)]
 fn pairs_asked(metrics: &Table) -> [u32; 36]
     ensures { result ≡ pairs_asked (attributes metrics.now.bytes.now) }
 {
