@@ -27,12 +27,3 @@ unless passes e = cond passes (Ok tt) (Err e)
 pub passed_on : {A : Type 0} {r x : Result A Refusal} {e : Refusal} → r ≡ Err e → IsErrAnd x (λ y. y ≡ e) → x ≡ r
 passed_on {x = Ok a} h f = absurd f
 passed_on {x = Err y} h f = cc
-
--- what a check that passed tells, and one that didn't
-pub passed-holds : (b : Bool) (e : Refusal) {r : Result (Unit {0}) Refusal} {u : Unit {0}} → r ≡ unless b e → r ≡ Ok u → b ≡ true
-passed-holds true e h k = refl
-passed-holds false e h k = cc
-
-pub refused_fails : (b : Bool) (e : Refusal) {m : Refusal} {r : Result (Unit {0}) Refusal} → r ≡ unless b e → r ≡ Err m → (b ≡ false) × (m ≡ e)
-refused_fails true e h k = cc
-refused_fails false e h k = (refl, cc)
