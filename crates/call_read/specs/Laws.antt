@@ -1,16 +1,16 @@
 -- What a call comes to, by its checks and the reference, and what that makes of the answers of those that read.
 -- Assumes nothing.
-use Rattle.std.specs.Prelude.{ℕ, ◌+◌, ◌-◌, ◌*◌, ◌≤◌, ◌<◌, ◌≡◌, refl, Bool, true, false, cond, ◌&&◌, eqb, length, get_or, take, drop}
+use Rattle.std.specs.Prelude.{Ok, Err, ℕ, ◌≡◌, refl, Bool, true, false, cond, ◌&&◌, eqb, length}
 use Rattle.std.proofs.Common.{arith, ap₂, ◌∙◌, ne_eqb, eqb-true}
 use Rattle.std.proofs.Math.Path.{sym, ap}
-use mathlib.Core.List.{List, [], append-nil}
+use mathlib.Core.List.{List, append-nil}
 use Rattle.std.proofs.Math.Option.{Option}
 use Rattle.std.proofs.lemmas.Bool.{eqb-false}
-use Rattle.lists.specs.Lists.{Row, flat, put, span}
+use Rattle.lists.specs.Lists.{Row, flat, put}
 use Rattle.lists.specs.Put.{put-no-rows}
 use Rattle.lists.specs.Bools.{cond-case}
 use Rattle.definition.specs.State.{State}
-use Rattle.definition.specs.Words.{base_size, state_size, base, state_of, formed, route_count, routes_at}
+use Rattle.definition.specs.Words.{base_size, state_size, base, state_of, formed}
 use Rattle.definition.specs.Call.{Reply, refusal, valued, written, optionally, found_row}
 use Rattle.definition.specs.Step.{Result, refuses, Checks, Semantics, checked, reading, perform, finding}
 use Rattle.definition.specs.Reference.Lookup as Lookup
@@ -18,13 +18,14 @@ use Rattle.definition.specs.Reference.Lookup.{lookup_in}
 use Rattle.definition.proofs.Preservation.Numbers.{OfFound, lookup-number}
 use Rattle.definition.specs.Preservation.Encode.{Admissible}
 use Rattle.definition.proofs.Preservation.Step.{base-long, good-held, checked-held, checked-passes, acted, perform-case}
-use Rattle.rows_lookup.specs.declared.Looked as Looked
-use Rattle.rows_lookup.specs.Answer.{found_by as rows-lookup·found_by}
 use Rattle.rows_source.specs.declared.Selected as Selected
 use Rattle.rows_source.specs.declared.Selected.{Selected}
 use Rattle.rows_source.specs.Selected.{local_in}
-use Rattle.state.specs.Represents.{Represents, RepresentsSome, holds-decode, count-routes, sizes-valid}
-use Rattle.state.specs.Change.{route-at}
+use Rattle.state.specs.Represents.{Represents, RepresentsSome, holds-decode}
+use Rattle.refusal.specs.Refusal.{number_of}
+use Rattle.refusal.specs.declared.Refusal.{Refusal}
+use Rattle.refusal.specs.declared.Refusal.TheVariants.{Errno}
+use Rattle.rows_lookup.specs.Answer.{answered}
 use Rattle.call_read.specs.declared.Found as Found
 use Rattle.call_read.specs.declared.Local as Local
 use Rattle.call_read.specs.declared.Chosen as Chosen
@@ -185,28 +186,23 @@ module _ (w row : List ℕ) (request : ℕ) (f : Lookup.Flow) where
       writes_passed (looking row request f) w p
       (record { answer = e ∙ t.answer; says = ap found_by e ∙ t.says; rows = g ∙ ap (λ (l : List Row). put 0 (flat l) row) (found_rows x) })
 
--- the row at a place, as the code lends it
-pub found_at : (w : List ℕ) (st : State) → Represents w st → (i : ℕ) → i < route_count w → take (routes_at + 32 * i + 32 - (routes_at + 32 * i)) (drop (routes_at + 32 * i) w) ≡ get_or st.routes i []
-unfolding span
-found_at w st h i b =
-    let whole : routes_at + 32 * i + 32 - (routes_at + 32 * i) ≡ 32 = omega arith in
-    let there : i < length st.routes = omega (arith, count-routes h) in
-    ap (λ (n : ℕ). take n (drop (routes_at + 32 * i) w)) whole ∙ route-at h i there
-
--- a row found at a place, and a refusal
-module _ (w : List ℕ) (st : State) (h : Represents w st) (f : Lookup.Flow) where
-  pub look-row : (i : ℕ) (row row' p : List ℕ) → i < route_count w → rows-lookup·found_by st.routes (Looked.TheVariants.At i) ≡ lookup_in st f
-      → p ≡ get_or st.routes i [] → row' ≡ put 0 p row → (Found.TheVariants.Row ≡ found_in (lookup_in st f)) × (row' ≡ put 0 (flat (rows_in (lookup_in st f))) row)
+-- what a lookup over rows answers
+module _ (x : Lookup.Found) where
+  pub look-row : (p row row' : List ℕ) → Ok p ≡ answered x → row' ≡ put 0 p row → (Found.TheVariants.Row ≡ found_in x) × (row' ≡ put 0 (flat (rows_in x)) row)
   unfolding flat
-  look-row i row row' p b e q k =
-      (ap found_in e, k ∙ ap (λ (x : List ℕ). put 0 x row) (q ∙ sym (append-nil (get_or st.routes i []))) ∙ ap (λ (x : Lookup.Found). put 0 (flat (rows_in x)) row) e)
+  look-row p row row' e k = go x e
+    where
+      go : (y : Lookup.Found) → Ok p ≡ answered y → (Found.TheVariants.Row ≡ found_in y) × (row' ≡ put 0 (flat (rows_in y)) row)
+      go (Lookup.route r) f =
+          let same : p ≡ r = cc in
+          (refl, k ∙ ap (λ (z : List ℕ). put 0 z row) (same ∙ sym (append-nil r)))
+      go (Lookup.no_route n) f = cc
 
-  pub look-refused : (n : ℕ) (row : List ℕ) → rows-lookup·found_by st.routes (Looked.TheVariants.Refused n) ≡ lookup_in st f
-      → (Found.TheVariants.Refused n ≡ found_in (lookup_in st f)) × (row ≡ put 0 (flat (rows_in (lookup_in st f))) row)
-  look-refused n row e = (ap found_in e, put-no-rows row ∙ ap (λ (x : Lookup.Found). put 0 (flat (rows_in x)) row) e)
-
--- where a route in use ends
-pub at-end : {w : List ℕ} {i : ℕ} → RepresentsSome w → i < route_count w → (routes_at + 32 * i + 32 ≤ length w) × (i < 256)
-at-end v b =
-    let s = sizes-valid v in
-    (omega (arith, s.long, s.routes), omega (arith, s.routes))
+  pub look-refused : (e : Refusal) (row : List ℕ) → Err e ≡ answered x → (Found.TheVariants.Refused (number_of e) ≡ found_in x) × (row ≡ put 0 (flat (rows_in x)) row)
+  look-refused e row f = go x f
+    where
+      go : (y : Lookup.Found) → Err e ≡ answered y → (Found.TheVariants.Refused (number_of e) ≡ found_in y) × (row ≡ put 0 (flat (rows_in y)) row)
+      go (Lookup.route r) g = cc
+      go (Lookup.no_route n) g =
+          let same : e ≡ Errno n = cc in
+          rw same (refl, put-no-rows row)

@@ -11,8 +11,8 @@ ghost use Rattle.definition.specs.Step.{checked, dump4_call, lookup4_call, looku
 ghost use Rattle.state.specs.Represents.{Represents, RepresentsSome};
 ghost use Rattle.call_read.specs.Answer.{Says, Writes, found_by, local_by, chosen_by, sourced_by, found_of, local_of, chosen_of, sourced_of, listed_by, listed_of, found_in, rows_in, chosen_for};
 
-use layout::{BASE_WORDS, LISTING_BUFFER, ROUTE_WORDS, ROUTES_AT, STATE_WORDS};
-use rows_lookup::{Flow, Looked};
+use layout::{BASE_WORDS, LISTING_BUFFER, ROUTE_WORDS, STATE_WORDS};
+use rows_lookup::Flow;
 use rows_source::Selected;
 
 // What a lookup answers; the row stands in the buffer that it was lent.
@@ -64,29 +64,18 @@ pub fn checked(s: &[u32], buffers: bool, handed: bool, request: u32) -> u32
     request
 }
 
-// Route i, copied into the buffer.
-fn copy_route(s: &[u32], i: usize, row: &mut [u32])
-    requires { RepresentsSome s.now × (i < route_count s.now) × (32 ≤ length row.old) }
-    ensures { (st : State) → Represents s.now st → row.new ≡ put 0 (get_or st.routes i []) row.old }
-{
-    let at = ROUTES_AT + ROUTE_WORDS * i;
-    let end = at + ROUTE_WORDS;
-    words::store(row, 0, &s[at..end]);
-}
-
 // The route of a flow, copied into the buffer.
 fn look(s: &[u32], row: &mut [u32], f: Flow) -> Found
     requires { RepresentsSome s.now × (32 ≤ length row.old) }
     ensures value { (st : State) → Represents s.now st → result ≡ found_in (lookup_in st (flow_of f)) }
     ensures row_after { (st : State) → Represents s.now st → row.new ≡ put 0 (flat (rows_in (lookup_in st (flow_of f)))) row.old }
 {
-    let looked = state_read::lookup4_in(s, f);
-    match looked {
-        Looked::At(i) => {
-            copy_route(s, i, row);
+    match state_read::lookup4_in(s, f) {
+        Ok(r) => {
+            words::store(row, 0, r);
             Found::Row
         }
-        Looked::Refused(n) => Found::Refused(n),
+        Err(error) => Found::Refused(error.number()),
     }
 }
 

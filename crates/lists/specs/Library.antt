@@ -1,12 +1,13 @@
 -- What the definitions say of lists, in the library's words.
 -- Assumes nothing.
-use Rattle.std.specs.Prelude.{ℕ, ◌≡◌, ◌<◌, refl, Bool, true, false, cond, ◌||◌, ◌&&◌, List, [], ◌∷◌, filter, Option, Some, None, position, length, nat_lt}
+use Rattle.std.specs.Prelude.{ℕ, ◌≡◌, ◌<◌, refl, Bool, true, false, cond, ◌||◌, ◌&&◌, List, [], ◌∷◌, filter, Option, Some, None, Result, Ok, Err, position, length, nat_lt}
 use Rattle.std.proofs.Common.{ap, sym, one-add, arith}
 use Rattle.std.proofs.lemmas.Bool.{ltb-true, ltb-false}
 use Rattle.std.proofs.Math.Option as Own
 use Rattle.std.proofs.Math.Option.{none, some}
 use Rattle.std.specs.List.{find, list_any, list_all, position_or_len}
 use Rattle.std.proofs.lemmas.List.Recursion.{is_position_or_len}
+use denote.Ref.{Bor}
 use Rattle.lists.specs.Lists.{all, any, keep, first}
 use Rattle.lists.specs.Place.{place_of, place_le}
 
@@ -14,6 +15,16 @@ use Rattle.lists.specs.Place.{place_of, place_le}
 abbrev pub own : {A : Type 0} → Option A → Own.Option A
 own None = none
 own (Some x) = some x
+
+-- the value behind the reference, if there is one
+abbrev pub lent : {A : Type 0} → Option (Bor A) → Own.Option A
+lent None = none
+lent (Some x) = some x.now
+
+-- an answer that lends a value, as one that has it
+abbrev pub lent_ok : {A E : Type 0} → Result (Bor A) E → Result A E
+lent_ok (Ok x) = Ok x.now
+lent_ok (Err e) = Err e
 
 module _ {A : Type 0} (p : A → Bool) where
   pub first_find : (l : List A) → first p l ≡ own (find p l)

@@ -1,24 +1,28 @@
 -- The checks of device and gateway, by the rows and whether 255 and 253 are listed.
 -- Assumes nothing.
-use Rattle.std.specs.Prelude.{ℕ, ◌≡◌, refl, Bool, true, cond, not, ◌||◌, List, eqb, leb, ltb}
-use Rattle.lists.specs.Lists.{Row}
+use Rattle.std.specs.Prelude.{ℕ, ◌≡◌, refl, Bool, true, false, cond, not, ◌&&◌, ◌||◌, List, [], ◌∷◌, Result, Ok, Err, eqb, leb, ltb}
+use Rattle.std.proofs.Common.{sym, ap, ◌∙◌, eq-eqb, ne_eqb}
+use Rattle.std.proofs.Math.Path.{fun_ext}
+use Rattle.std.proofs.Math.Bool.{or_self}
+use Rattle.std.proofs.Math.Option.{none}
+use Rattle.lists.specs.Lists.{Row, keep}
 use Rattle.kind.specs.Kind.{error_of}
 use Rattle.layout.specs.Route.{kind, scope, gateway_present, gateway}
 use Rattle.layout.specs.Request.{oif, up_at_add_route4}
 use Rattle.definition.specs.State.{State}
-use Rattle.definition.specs.Reference.Lookup.{Found, answer, together, lookup_in, addr_type4, listed, type_set, local_table, default_table, unicast_kind, local_kind}
+use Rattle.definition.specs.Reference.Lookup.{Flow, Found, fits, longest, main_table, answer, together, lookup_in, addr_type4, listed, type_set, local_table, default_table, unicast_kind}
 use Rattle.definition.specs.Reference.Addresses.{link_scope, host_scope}
 use Rattle.definition.specs.Reference.Routes as Routes
 use Rattle.definition.specs.Reference.Routes.{by, unreached, table_named, onlink_flag, then, refuse, onlink_check, to_gateway, usable, found_or, gateway_route, reached_by, gateway4, plain, reach_check}
 use Rattle.rows_lookup.specs.AddrType.{type_rows}
 use Rattle.rows_lookup.specs.Answer.{lookup_rows}
-use Rattle.request_gateway.specs.declared.Reached.{Reached}
-use Rattle.request_gateway.specs.declared.Reached.TheVariants.{By, Refused}
+use Rattle.refusal.specs.declared.Refusal.{Refusal}
+use Rattle.refusal.specs.declared.Refusal.TheVariants.{Errno}
 
--- the code's answer, as the definitions have it
-abbrev pub reached_of : Reached → Routes.Reached
-reached_of (By b) = by b
-reached_of (Refused n) = unreached n
+-- a check's answer, as the code has it
+abbrev pub reached : Routes.Reached → Result Bool Refusal
+reached (by b) = Ok b
+reached (unreached n) = Err (Errno n)
 
 abbrev pub settled : ℕ → Bool → Routes.Reached
 settled n b = cond (eqb n 0) (by b) (unreached n)
@@ -37,10 +41,6 @@ unfoldable pub gateway_rows : Row → Bool → List Row → Found
 gateway_rows q defaultListed l =
     let own = answer (together (table_named q)) (to_gateway q) l in
     cond (usable own) (found_or own (lookup_rows defaultListed l (to_gateway q))) (lookup_rows defaultListed l (to_gateway q))
-
-abbrev pub row_reached : ℕ → ℕ → ℕ → Routes.Reached
-row_reached k s up =
-    cond (eqb k unicast_kind || eqb k local_kind) (cond (eqb up 0) (unreached 100) (by (eqb s link_scope))) (unreached 22)
 
 unfoldable pub gateway4_rows : Row → Bool → Bool → List Row → Routes.Reached
 gateway4_rows q localListed defaultListed l =
@@ -61,3 +61,31 @@ reach_rows q localListed defaultListed l =
 pub reach-rows : (q : Row) (st : State) → reach_check q st ≡ reach_rows q (listed local_table st) (listed default_table st) st.routes
 unfolding reach_check gateway4 onlink_check gateway_route addr_type4 lookup_in reach_rows gateway4_rows onlink_rows gateway_rows
 reach-rows q st = refl
+
+-- ---- the set that a named table is read in, as the code has it
+upper_set : (t : ℕ) → (eqb t local_table || eqb t main_table) ≡ true → together t ≡ (λ u. eqb u 255 || eqb u 254)
+unfolding together
+upper_set t e = fun_ext (λ u. rw e)
+
+lower_set : (t : ℕ) → (eqb t local_table || eqb t main_table) ≡ false → t ≡ 253 → together t ≡ (λ u. eqb u 253 || eqb u 253)
+unfolding together
+lower_set t e d = fun_ext (λ u. rw (e, eq-eqb t 253 d) (sym (or_self (eqb u 253))))
+
+no-set : (t : ℕ) → (eqb t local_table || eqb t main_table) ≡ false → (t ≡ 253 → ⊥) → together t ≡ (λ (u : ℕ). false)
+unfolding together
+no-set t e d = fun_ext (λ u. rw (e, ne_eqb t 253 d))
+
+none_kept : (f : Flow) (l : List Row) → keep (λ r. false && fits f r) l ≡ []
+none_kept f [] = refl
+none_kept f (r ∷ l) = none_kept f l
+
+module _ (t : ℕ) (f : Flow) (l : List Row) where
+  pub own_upper : (eqb t local_table || eqb t main_table) ≡ true → answer (together t) f l ≡ answer (λ u. eqb u 255 || eqb u 254) f l
+  own_upper e = ap (λ (s : ℕ → Bool). answer s f l) (upper_set t e)
+
+  pub own_lower : (eqb t local_table || eqb t main_table) ≡ false → t ≡ 253 → answer (together t) f l ≡ answer (λ u. eqb u 253 || eqb u 253) f l
+  own_lower e d = ap (λ (s : ℕ → Bool). answer s f l) (lower_set t e d)
+
+  pub own_none : (eqb t local_table || eqb t main_table) ≡ false → (t ≡ 253 → ⊥) → answer (together t) f l ≡ none
+  unfolding answer longest
+  own_none e d = ap (λ (s : ℕ → Bool). answer s f l) (no-set t e d) ∙ ap longest (none_kept f l)

@@ -1,11 +1,9 @@
 -- The best row so far, as a pass over the rows keeps it: one row more at the end.
 use Rattle.std.specs.Prelude.{ℕ, ◌+◌, ◌≤◌, ◌<◌, ◌≡◌, Bool, true, false, cond, ◌&&◌, List, [], ◌∷◌, ◌++◌, leb, ltb, length, get_or, take}
-use Rattle.std.proofs.Common.{le_refl, add-one, arith, ap, ◌∙◌, append-nil, take-suc, take_all, ltb-true, ltb-false}
-use Rattle.std.proofs.Math.Path.{refl, sym}
+use Rattle.std.proofs.Common.{add-one, arith, ap, ◌∙◌, append-nil, take-suc, take_all, ltb-true, ltb-false}
+use Rattle.std.proofs.Math.Path.{refl}
 use Rattle.std.proofs.Math.Option.{Option, none, some}
 use Rattle.std.proofs.Math.Dec.{leb-zero}
-use Rattle.std.proofs.Math.ListN.{get_elem?}
-use Rattle.lists.specs.Place.{nothing-from, something_at}
 use Rattle.lists.specs.Lists.{Row, keep}
 use Rattle.layout.specs.Route.{len}
 use Rattle.definition.specs.Reference.Lookup.{longer, longest}
@@ -71,32 +69,26 @@ module _ (p : Row → Bool) where
           ap longest (keep-more (take i l) (get_or l i d) true e) ∙ longest-more (keep p (take i l)) (get_or l i d) ∙ bar-test (longest (keep p (take i l))) (get_or l i d)
       go false e = ap longest (keep-more (take i l) (get_or l i d) false e ∙ append-nil (keep p (take i l)))
 
-  -- the best of the first i rows stands at a place, and a better one has to reach the bar
-  pub record Best (l : List Row) (i best least : ℕ) : Type 0 where
-    pub row : longest (keep p (take i l)) ≡ get_elem? l best
-    pub reach : least ≡ bar (get_elem? l best)
+  -- the best of the first i rows is the one kept, and a better one has to reach the bar
+  pub record Best (l : List Row) (i : ℕ) (best : Option Row) (least : ℕ) : Type 0 where
+    pub row : longest (keep p (take i l)) ≡ best
+    pub reach : least ≡ bar best
 
-  pub best-start : (l : List Row) → Best l 0 (length l) 0
+  pub best-start : (l : List Row) → Best l 0 none 0
   unfolding longest
-  best-start l =
-      let past : get_elem? l (length l) ≡ none = nothing-from l (length l) (le_refl (length l)) in
-      record { row = sym past; reach = rw past refl }
+  best-start l = record { row = refl; reach = refl }
 
-  module _ (l : List Row) (i best least : ℕ) (h : Best l i best least) (b : i < length l) (d : Row) where
-    after : (t : Bool) → (p (get_or l i d) && leb least (len (get_or l i d))) ≡ t → longest (keep p (take (i + 1) l)) ≡ chosen t (get_elem? l best) (get_or l i d)
+  module _ (l : List Row) (i : ℕ) (best : Option Row) (least : ℕ) (h : Best l i best least) (b : i < length l) (d : Row) where
+    after : (t : Bool) → (p (get_or l i d) && leb least (len (get_or l i d))) ≡ t → longest (keep p (take (i + 1) l)) ≡ chosen t best (get_or l i d)
     after t e =
         best-more l i d b
         ∙ rw (h.row, ← h.reach, e)
 
-    pub best_taken : (p (get_or l i d) && leb least (len (get_or l i d))) ≡ true → Best l (i + 1) i (len (get_or l i d) + 1)
-    best_taken e =
-        record {
-          row = after true e ∙ sym (something_at l i d b);
-          reach = rw (something_at l i d b) refl;
-        }
+    pub best_taken : (p (get_or l i d) && leb least (len (get_or l i d))) ≡ true → Best l (i + 1) (some (get_or l i d)) (len (get_or l i d) + 1)
+    best_taken e = record { row = after true e; reach = refl }
 
     pub best-stays : (p (get_or l i d) && leb least (len (get_or l i d))) ≡ false → Best l (i + 1) best least
     best-stays e = record { row = after false e; reach = h.reach }
 
-  pub best-end : (l : List Row) (i best least : ℕ) → length l ≤ i → Best l i best least → longest (keep p l) ≡ get_elem? l best
+  pub best-end : (l : List Row) (i : ℕ) (best : Option Row) (least : ℕ) → length l ≤ i → Best l i best least → longest (keep p l) ≡ best
   best-end l i best least b h = rw (take_all i l b) at h.row

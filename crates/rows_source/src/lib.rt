@@ -9,7 +9,8 @@ ghost use Rattle.layout.specs.Route.{fit_route};
 ghost use Rattle.definition.specs.Reference.Source.{eligible, reaches, select4, source4};
 ghost use Rattle.rows_source.specs.Selected.{wanted, local_in, source_rows};
 
-use layout::{ADDRESS_WORDS, ROUTE_WORDS, address, route};
+use layout::{ADDRESS_WORDS, address, route};
+use rows_lookup::Flow;
 
 // An address that was chosen, or none.
 #[derive(Clone, Copy)]
@@ -98,26 +99,11 @@ pub fn source(
     requires { (length addresses.now ≡ 20 * n) × Lays 20 fit_address addresses.now × (length routes.now ≡ 32 * m) × Lays 32 fit_route routes.now }
     ensures { (l : List Row) → Laid 20 fit_address addresses.now l → (k : List Row) → Laid 32 fit_route routes.now k → result ≡ source_rows default_listed l k ip }
 {
-    let found = rows_lookup::lookup4_in(
-        routes,
-        m,
-        default_listed,
-        rows_lookup::Flow {
-            ip: ip,
-            tos: 0,
-            scope: 0,
-            oif: 0,
+    match rows_lookup::lookup4_in(rows::rows_of(routes), default_listed, Flow::to(ip)) {
+        Ok(row) => match source4(addresses, n, row, ip) {
+            Selected::Local(a) => a,
+            Selected::Nothing => LOOPBACK,
         },
-    );
-    match found {
-        rows_lookup::Looked::At(place) => {
-            let at = ROUTE_WORDS * place;
-            let chosen = source4(addresses, n, &routes[at..at + ROUTE_WORDS], ip);
-            match chosen {
-                Selected::Local(a) => a,
-                Selected::Nothing => LOOPBACK,
-            }
-        }
-        rows_lookup::Looked::Refused(_) => LOOPBACK,
+        Err(_) => LOOPBACK,
     }
 }

@@ -3,19 +3,23 @@
 
 ghost use Rattle.std.specs.Prelude.{◌≡◌, ◌+◌, ◌*◌, ◌≤◌, length, true};
 ghost use Rattle.rows_lookup.specs.Flow.{flow_of};
-ghost use Rattle.rows_lookup.specs.Answer.{found_by, placed};
+ghost use Rattle.rows_lookup.specs.Answer.{answered};
 ghost use Rattle.definition.specs.State.{State};
-ghost use Rattle.definition.specs.Words.{route_count, decode, well_formed, base_size};
+ghost use Rattle.definition.specs.Words.{decode, well_formed, base_size};
 ghost use Rattle.rows_source.specs.Selected.{local_in, wanted};
 ghost use Rattle.definition.specs.Reference.Lookup.{lookup_in, local4};
 ghost use Rattle.definition.specs.Reference.Source.{select4, source4, source, dump4};
 ghost use Rattle.state.specs.Represents.{Represents, RepresentsSome};
 ghost use Rattle.state_read.specs.Parts.{address_part, route_part};
+ghost use Rattle.lists.specs.Library.{lent_ok};
 ghost use Rattle.lists.specs.Lists.{flat, put};
 ghost use Rattle.definition.specs.Step.{listing_room};
 
-use layout::{ADDRESS_WORDS, ADDRESSES_AT, ROUTE_WORDS, ROUTES_AT, TABLE_COUNT, TABLES_AT};
-use rows_lookup::{Flow, Looked};
+use layout::{
+    ADDRESS_WORDS, ADDRESSES_AT, ROUTE_WORDS, ROUTES_AT, RouteRow, TABLE_COUNT, TABLES_AT,
+};
+use refusal::Refusal;
+use rows_lookup::Flow;
 use rows_source::Selected;
 
 // The words of the routes in use.
@@ -39,12 +43,12 @@ pub fn addresses(s: &[u32]) -> &[u32]
 }
 
 // The route of a flow.
-pub fn lookup4_in(s: &[u32], f: Flow) -> Looked
+pub fn lookup4_in(s: &[u32], f: Flow) -> Result<&RouteRow, Refusal>
     requires { RepresentsSome s.now }
-    ensures { placed (route_count s.now) result × ((st : State) → Represents s.now st → found_by st.routes result ≡ lookup_in st (flow_of f)) }
+    ensures { (st : State) → Represents s.now st → lent_ok result ≡ answered (lookup_in st (flow_of f)) }
 {
     let listed = state_tables::listed(s, layout::TABLE_DEFAULT);
-    rows_lookup::lookup4_in(routes(s), state::route_count(s), listed, f)
+    rows_lookup::lookup4_in(state::routes(s), listed, f)
 }
 
 // Whether an address is the loopback's.
@@ -53,7 +57,7 @@ pub fn local4(s: &[u32], ip: u32) -> bool
     ensures { (st : State) → Represents s.now st → result ≡ local4 st ip }
 {
     let listed = state_tables::listed(s, layout::TABLE_LOCAL);
-    rows_lookup::local4(routes(s), state::route_count(s), listed, ip)
+    rows_lookup::local4(state::routes(s), listed, ip)
 }
 
 // The address chosen for a destination (any where it isn't present) and a scope.

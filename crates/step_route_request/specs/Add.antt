@@ -1,7 +1,7 @@
 -- The ways out of an addition.
 -- Assumes nothing.
-use Rattle.std.specs.Prelude.{ℕ, ◌≤◌, ◌<◌, Bool, ◌&&◌, Ok, Err, eqb, length}
-use Rattle.std.proofs.Math.Path.{◌≡◌, sym, ap}
+use Rattle.std.specs.Prelude.{ℕ, ◌≤◌, ◌<◌, Bool, ◌&&◌, Result, Ok, Err, eqb, length}
+use Rattle.std.proofs.Math.Path.{◌≡◌, refl, sym, ap}
 use Rattle.std.proofs.Common.{◌∙◌, arith, eqb-true}
 use Rattle.std.proofs.Math.Bool.{true, false, and-false}
 use mathlib.Core.List.{List, [], ◌∷◌}
@@ -29,14 +29,12 @@ use Rattle.state_tables.specs.Listed.{tables_of}
 use Rattle.step_insert.specs.Plan.{answer_of, rows_after, InsertedInto}
 use Rattle.step_insert.specs.declared.Inserted.{Inserted}
 use Rattle.step_insert.specs.declared.Inserted.TheVariants.{Put, Nothing, Refused, Full}
-use Rattle.request_gateway.specs.Rows.{reached_of}
-use Rattle.request_gateway.specs.declared.Reached.{Reached}
-use Rattle.request_gateway.specs.declared.Reached.TheVariants.{By}
+use Rattle.request_gateway.specs.Rows.{reached}
+use Rattle.refusal.specs.declared.Refusal.{Refusal}
 use Rattle.step_events.specs.Row.{new_route-long}
 use Rattle.step_events.specs.Comes.{Came, ComesWhole, whole-full}
 use Rattle.step_route_request.specs.Ways.{request-refused, request-none, request-emitted}
 use Rattle.step_route_request.specs.Check.{check_all, goes_on, add_goes}
-use Rattle.refusal.specs.declared.Refusal.TheVariants as Refusal
 
 -- ---- the events of an insertion
 abbrev pub full_of : Inserted → Bool
@@ -169,8 +167,9 @@ room-kept t rows h k room = rw (tables-at k) (rw (tables-at h) at room)
 pub asked_new : (x r init : List ℕ) → x ≡ put 0 r init → fit_route r ≡ true → length init ≡ 32 → x ≡ r
 asked_new x r init e f long = e ∙ put_whole r init (length-route r f ∙ sym long)
 
-pub by-checked : (x : Reached) (linked : Bool) → x ≡ By linked → (r : Routes.Reached) → reached_of x ≡ r → by linked ≡ r
-by-checked x linked e r h = sym (ap reached_of e) ∙ h
+pub by-checked : (x : Result Bool Refusal) (linked : Bool) → x ≡ Ok linked → (r : Routes.Reached) → x ≡ reached r → by linked ≡ r
+by-checked x linked e (by b) h = cc
+by-checked x linked e (Routes.unreached n) h = cc
 
 -- ---- the ways out, as the code has them
 module _ (q : Row) (linked : Bool) (t : ℕ) (st : State) {w : List ℕ} (ev x : List ℕ) (i : Inserted) (new : x ≡ asked_route q linked) (k : InsertedInto x (nlm_flags q) st w i) where
@@ -187,16 +186,20 @@ module _ (q : Row) (linked : Bool) (t : ℕ) (st : State) {w : List ℕ} (ev x :
   way_on fit room f h g =
       added (asked_route q linked) t st ev (length-route (asked_route q linked) fit) room (insert4 (asked_route q linked) (nlm_flags q) st.routes) i into.answer f (rw new at h) (rw new at g)
 
-module _ (q : Row) (t : ℕ) (st : State) {w : List ℕ} (ev : List ℕ) (x : Reached) (named : t ≡ table_named q) (e : reached_of x ≡ check_all q (create4 (table_named q) st)) where
-  pub way_refused : (n : ℕ) → x ≡ Reached.Refused n → Represents w (create4 t st) → ComesWhole st (add_route4 q st) w ev ev (Err (Refusal.Errno n))
-  way_refused n f h =
-      let is : check_all q (create4 (table_named q) st) ≡ Routes.unreached n = sym e ∙ ap reached_of f in
-      rw (add_goes q st, is) (request-refused st ev (create4 (table_named q) st) (rw named at h) n)
+module _ (q : Row) (t : ℕ) (st : State) {w : List ℕ} (ev : List ℕ) (x : Result Bool Refusal) (named : t ≡ table_named q) (e : x ≡ reached (check_all q (create4 (table_named q) st))) where
+  pub way_refused : (n : Refusal) → x ≡ Err n → Represents w (create4 t st) → ComesWhole st (add_route4 q st) w ev ev (Err n)
+  way_refused n f h = go (check_all q (create4 (table_named q) st)) refl e
+    where
+      go : (r : Routes.Reached) → check_all q (create4 (table_named q) st) ≡ r → x ≡ reached r → ComesWhole st (add_route4 q st) w ev ev (Err n)
+      go (by b) is k = let bad : Ok b ≡ Err n = cc in cc
+      go (Routes.unreached m) is k =
+          let same : n ≡ Refusal.Errno m = cc in
+          rw (same, add_goes q st, is) (request-refused st ev (create4 (table_named q) st) (rw named at h) m)
 
-  pub way_added : {ev' : List ℕ} {r : Came} (linked : Bool) → x ≡ By linked
+  pub way_added : {ev' : List ℕ} {r : Came} (linked : Bool) → x ≡ Ok linked
       → ComesWhole st (inserted_as (asked_route q linked) (insert4 (asked_route q linked) (nlm_flags q) st.routes) (create4 t st)) w ev ev' r
       → ComesWhole st (add_route4 q st) w ev ev' r
   unfolding create4
   way_added linked f h =
-      let is : check_all q (create4 (table_named q) st) ≡ by linked = sym e ∙ ap reached_of f in
+      let is : check_all q (create4 (table_named q) st) ≡ by linked = sym (by-checked x linked f (check_all q (create4 (table_named q) st)) e) in
       rw (add_goes q st, is) (rw named at h)

@@ -1,6 +1,6 @@
 -- The checks before an insertion, on the state with the table listed, by what is listed before that.
 -- Assumes nothing.
-use Rattle.std.specs.Prelude.{ℕ, ◌<◌, ◌≡◌, refl, Bool, true, false, cond, not, ◌&&◌, ◌||◌, List, eqb}
+use Rattle.std.specs.Prelude.{ℕ, ◌<◌, ◌≡◌, refl, Bool, true, false, cond, not, ◌&&◌, ◌||◌, List, Result, Ok, Err, eqb, Result}
 use Rattle.std.proofs.Math.Path.{sym}
 use Rattle.std.proofs.Common.{ap, ◌∙◌, eq-eqb, ne_eqb, eqb-true, ltb-true}
 use Rattle.std.proofs.Math.Bool.{or-false, and-false}
@@ -19,9 +19,9 @@ use Rattle.state.specs.Represents.{Represents}
 use Rattle.state_tables.specs.Listed.{tables_of}
 use Rattle.state_read.specs.Parts.{listed-there}
 use Rattle.request_prefsrc.specs.Rows.{prefsrc_table, prefsrc_rows, prefsrc-rows}
-use Rattle.request_gateway.specs.Rows.{reached_of, reach_rows, reach-rows}
-use Rattle.request_gateway.specs.declared.Reached.{Reached}
-use Rattle.request_gateway.specs.declared.Reached.TheVariants.{By, Refused}
+use Rattle.request_gateway.specs.Rows.{reached, reach_rows, reach-rows}
+use Rattle.refusal.specs.declared.Refusal.{Refusal}
+use Rattle.refusal.specs.declared.Refusal.TheVariants.{Errno}
 
 -- a preferred source behind the check of device and gateway
 abbrev pub prefsrc_check : Row → Routes.Reached → State → Routes.Reached
@@ -114,7 +114,7 @@ module _ (q : Row) (st : State) (t : ℕ) (named : t ≡ table_named q) where
 
   -- ---- a preferred source
   module _ (linked : Bool) where
-    pub no-prefsrc : (prefsrc_present q ≡ 1 → ⊥) → by linked ≡ prefsrc_check q (by linked) (create4 (table_named q) st)
+    pub no-prefsrc : (prefsrc_present q ≡ 1 → ⊥) → Ok linked ≡ reached (prefsrc_check q (by linked) (create4 (table_named q) st))
     no-prefsrc h = rw (ne_eqb (prefsrc_present q) 1 h)
 
     module _ (h : prefsrc_present q ≡ 1) (v o a : Bool) (e : o ≡ (listed (prefsrc_table t) st || eqb (prefsrc_table t) t))
@@ -122,24 +122,32 @@ module _ (q : Row) (st : State) (t : ℕ) (named : t ≡ table_named q) where
       valid-is : valid_prefsrc4 q (create4 (table_named q) st) ≡ v
       valid-is = made-prefsrc o a e f ∙ sym g
 
-      pub good-prefsrc : v ≡ true → by linked ≡ prefsrc_check q (by linked) (create4 (table_named q) st)
+      pub good-prefsrc : v ≡ true → Ok linked ≡ reached (prefsrc_check q (by linked) (create4 (table_named q) st))
       good-prefsrc k = rw (eq-eqb (prefsrc_present q) 1 h, valid-is, k)
 
-      pub bad_prefsrc : v ≡ false → unreached 22 ≡ prefsrc_check q (by linked) (create4 (table_named q) st)
+      pub bad_prefsrc : v ≡ false → Err (Errno 22) ≡ reached (prefsrc_check q (by linked) (create4 (table_named q) st))
       bad_prefsrc k = rw (eq-eqb (prefsrc_present q) 1 h, valid-is, k)
 
   -- ---- all of them
   module _ (n : ℕ) (form : n ≡ form_check q) where
-    pub check_form : (n ≡ 0 → ⊥) → unreached n ≡ check_all q (create4 (table_named q) st)
+    pub check_form : (n ≡ 0 → ⊥) → Err (Errno n) ≡ reached (check_all q (create4 (table_named q) st))
     check_form h = rw (← form, ne_eqb n 0 h)
 
-    module _ (z : n ≡ 0) (a b : Bool) (e : a ≡ (listed local_table st || eqb local_table t)) (f : b ≡ (listed default_table st || eqb default_table t))
-        (x : Reached) (g : reached_of x ≡ reach_rows q a b st.routes) where
-      reached-is : reach_check q (create4 (table_named q) st) ≡ reached_of x
-      reached-is = made-reach a b e f ∙ sym g
+    module _ (z : n ≡ 0) (a b : Bool) (e : a ≡ (listed local_table st || eqb local_table t)) (f : b ≡ (listed default_table st || eqb default_table t)) where
+      check-goes : check_all q (create4 (table_named q) st) ≡ prefsrc_check q (reach_rows q a b st.routes) (create4 (table_named q) st)
+      check-goes = rw (← form, eq-eqb n 0 z, made-reach a b e f)
 
-      pub check-refused : (m : ℕ) → x ≡ Refused m → unreached m ≡ check_all q (create4 (table_named q) st)
-      check-refused m k = rw (← form, eq-eqb n 0 z, reached-is, k)
+      module _ (x : Result Bool Refusal) (g : x ≡ reached (reach_rows q a b st.routes)) where
+        pub check-refused : (m : Refusal) → x ≡ Err m → x ≡ reached (check_all q (create4 (table_named q) st))
+        check-refused m k = rw check-goes (go (reach_rows q a b st.routes) g)
+          where
+            go : (r : Routes.Reached) → x ≡ reached r → x ≡ reached (prefsrc_check q r (create4 (table_named q) st))
+            go (by l) h = let bad : Ok l ≡ Err m = cc in cc
+            go (unreached i) h = h
 
-      pub check-on : (linked : Bool) → x ≡ By linked → (r : Routes.Reached) → r ≡ prefsrc_check q (by linked) (create4 (table_named q) st) → r ≡ check_all q (create4 (table_named q) st)
-      check-on linked k r h = rw (← form, eq-eqb n 0 z, reached-is, k) h
+        pub check-on : (linked : Bool) → x ≡ Ok linked → check_all q (create4 (table_named q) st) ≡ prefsrc_check q (by linked) (create4 (table_named q) st)
+        check-on linked k = check-goes ∙ ap (λ (r : Routes.Reached). prefsrc_check q r (create4 (table_named q) st)) (go (reach_rows q a b st.routes) g)
+          where
+            go : (r : Routes.Reached) → x ≡ reached r → r ≡ by linked
+            go (by l) h = let same : l ≡ linked = cc in cc
+            go (unreached i) h = cc

@@ -9,7 +9,7 @@ ghost use Rattle.definition.specs.Reference.Lookup.{listed};
 ghost use Rattle.definition.specs.Reference.Insert.{list_table, create4, insert4};
 ghost use Rattle.state.specs.Represents.{Represents, RepresentsSome, RepresentsFit};
 ghost use Rattle.state_tables.specs.Listed.{tables_of};
-ghost use Rattle.request_gateway.specs.Rows.{reached_of};
+ghost use Rattle.request_gateway.specs.Rows.{reached};
 ghost use Rattle.layout.specs.Route.{fit_route};
 ghost use Rattle.definition.specs.Words.{fit_state};
 ghost use Rattle.step_events.specs.Comes.{ComesWhole};
@@ -18,7 +18,6 @@ ghost use Rattle.step_route_request.specs.Check.{prefsrc_check, check_all};
 
 use layout::{ROUTE_WORDS, ROUTES_AT, TABLE_LIMIT, add_route4, route};
 use refusal::Refusal;
-use request_gateway::Reached;
 use step_insert::Inserted;
 
 // The first row that the request names goes. No table is listed.
@@ -47,42 +46,39 @@ pub fn del_route4(s: &mut [u32], ev: &mut [u32], q: &[u32]) -> Result<usize, Ref
 }
 
 // The preferred source, once the table is listed.
-fn prefsrc_check(s: &[u32], q: &[u32], t: u32, local: bool, linked: bool) -> Reached
+fn prefsrc_check(s: &[u32], q: &[u32], t: u32, local: bool, linked: bool) -> Result<bool, Refusal>
     requires represents_some { RepresentsSome s.now }
     requires q_len { (length q.now ≡ 34) × (t ≡ table_named q.now) }
-    ensures { (st : State) → Represents s.now st → local ≡ (listed 255 st || eqb 255 t) → reached_of result ≡ prefsrc_check q.now (by linked) (create4 (table_named q.now) st) }
+    ensures { (st : State) → Represents s.now st → local ≡ (listed 255 st || eqb 255 t) → result ≡ reached (prefsrc_check q.now (by linked) (create4 (table_named q.now) st)) }
 {
     if q[route::PREFSRC_PRESENT] != 1 {
-        return Reached::By(linked);
+        return Ok(linked);
     }
     let own = request_prefsrc::prefsrc_table(t);
     let own_listed = state_tables::listed(s, own) | (own == t);
-    let n = state::route_count(s);
-    if request_prefsrc::valid_prefsrc4(state_read::routes(s), n, q, own_listed, local) {
-        return Reached::By(linked);
+    let routes = state::routes(s);
+    if request_prefsrc::valid_prefsrc4(routes, q, own_listed, local) {
+        return Ok(linked);
     }
-    Reached::Refused(layout::INVALID)
+    Err(Refusal::Errno(layout::INVALID))
 }
 
 // Every check before the insertion, as it comes out once the table is listed: nothing is written yet.
-fn check(s: &[u32], q: &[u32]) -> Reached
+fn check(s: &[u32], q: &[u32]) -> Result<bool, Refusal>
     requires represents_some { RepresentsSome s.now }
     requires q_len { (length q.now ≡ 34) × (fit_add_route4 q.now ≡ true) }
-    ensures { (st : State) → Represents s.now st → reached_of result ≡ check_all q.now (create4 (table_named q.now) st) }
+    ensures { (st : State) → Represents s.now st → result ≡ reached (check_all q.now (create4 (table_named q.now) st)) }
 {
     let number = request_route::form_check(q);
     if number != 0 {
-        return Reached::Refused(number);
+        return Err(Refusal::Errno(number));
     }
     let t = request_route::table_named(q);
     let local = state_tables::listed(s, layout::TABLE_LOCAL) | (layout::TABLE_LOCAL == t);
     let default = state_tables::listed(s, layout::TABLE_DEFAULT) | (layout::TABLE_DEFAULT == t);
-    let n = state::route_count(s);
-    let reached = request_gateway::reach_check(state_read::routes(s), n, q, local, default);
-    match reached {
-        Reached::Refused(error) => Reached::Refused(error),
-        Reached::By(linked) => prefsrc_check(s, q, t, local, linked),
-    }
+    let routes = state::routes(s);
+    let linked = request_gateway::reach_check(routes, q, local, default)?;
+    prefsrc_check(s, q, t, local, linked)
 }
 
 fn full(i: Inserted) -> bool
@@ -147,12 +143,11 @@ pub fn add_route4(s: &mut [u32], ev: &mut [u32], q: &[u32]) -> Result<usize, Ref
     if TABLE_LIMIT < state_tables::tables_after(s, t) {
         return Err(Refusal::Full);
     }
-    let checked = check(s, q);
-    match checked {
-        Reached::Refused(error) => {
+    match check(s, q) {
+        Err(error) => {
             state_tables::list_table(s, t);
-            Err(Refusal::Errno(error))
+            Err(error)
         }
-        Reached::By(linked) => add_checked(s, ev, q, t, linked),
+        Ok(linked) => add_checked(s, ev, q, t, linked),
     }
 }

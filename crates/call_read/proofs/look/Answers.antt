@@ -1,26 +1,18 @@
-use mathlib.Core.Path.{refl, sym, ap, subst, ◌∙◌}
-use mathlib.Core.List.{[]}
-use lib.ListN.{get_or}
-use Rattle.lists.specs.Lists.{put}
-use Rattle.rows_lookup.specs.Flow.{flow_of}
-use Rattle.rows_lookup.specs.Answer.{found_by, placed}
-use Rattle.definition.specs.Words.{route_count}
+use Rattle.std.proofs.Common.{refl, sym, ap, ◌∙◌}
+use Rattle.lists.specs.Library.{lent_ok}
 use Rattle.call_read.specs.Laws.{look-row, look-refused}
 use Rattle.call_read.proofs.look.Goals as goal
 
-pub copy_route-requires : goal.copy_route-requires
-copy_route-requires c =
-    (c.requires.0, subst (placed (route_count c.args.s.now)) c.in-At.is c.lookup4_in-looked.ensures.0, c.requires.1)
-
-pub returns-in-At : goal.returns-in-At
-returns-in-At c =
-    let b = subst (placed (route_count c.args.s.now)) c.in-At.is c.lookup4_in-looked.ensures.0 in record {
-      value = λ st h. (look-row c.args.s.now st h (flow_of c.args.f) c.in-At.i c.args.row.now (put 0 (get_or st.routes c.in-At.i []) c.args.row.now) (get_or st.routes c.in-At.i []) b
-          (ap (found_by st.routes) (sym c.in-At.is) ∙ c.lookup4_in-looked.ensures.1 st h) refl refl).0;
-      row_after = λ st h. (look-row c.args.s.now st h (flow_of c.args.f) c.in-At.i c.args.row.now _ (get_or st.routes c.in-At.i []) b
-          (ap (found_by st.routes) (sym c.in-At.is) ∙ c.lookup4_in-looked.ensures.1 st h) refl (c.copy_route.ensures st h)).1;
+pub returns-in-Ok : goal.returns-in-Ok
+returns-in-Ok c =
+    record {
+      value = λ st h. (look-row _ c.in-Ok.r.now c.args.row.now _ (ap lent_ok (sym c.in-Ok.is) ∙ c.lookup4_in.ensures st h) refl).0;
+      row_after = λ st h. (look-row _ c.in-Ok.r.now c.args.row.now _ (ap lent_ok (sym c.in-Ok.is) ∙ c.lookup4_in.ensures st h) c.store.ensures).1;
     }
 
-pub returns-in-Refused : goal.returns-in-Refused
-returns-in-Refused c =
-    record { value = λ st h. (look-refused c.args.s.now st h (flow_of c.args.f) c.in-Refused.n c.args.row.now (ap (found_by st.routes) (sym c.in-Refused.is) ∙ c.lookup4_in-looked.ensures.1 st h)).0; row_after = λ st h. (look-refused c.args.s.now st h (flow_of c.args.f) c.in-Refused.n c.args.row.now (ap (found_by st.routes) (sym c.in-Refused.is) ∙ c.lookup4_in-looked.ensures.1 st h)).1 }
+pub returns-in-Err : goal.returns-in-Err
+returns-in-Err c = rw c.number.ensures
+    (record {
+      value = λ st h. (look-refused _ c.in-Err.error c.args.row.now (ap lent_ok (sym c.in-Err.is) ∙ c.lookup4_in.ensures st h)).0;
+      row_after = λ st h. (look-refused _ c.in-Err.error c.args.row.now (ap lent_ok (sym c.in-Err.is) ∙ c.lookup4_in.ensures st h)).1;
+    })

@@ -1,6 +1,5 @@
 -- `state_read::list` meets its contract: the routes and tables in use are lent to the listing over rows.
 -- Assumes nothing.
-use Prim.Native.Nat.{◌-◌}
 use mathlib.Core.Path.{ap, ◌∙◌}
 use mathlib.Core.List.{List}
 use native.Mathlib.Omega.{arith}

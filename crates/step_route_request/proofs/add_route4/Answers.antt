@@ -12,10 +12,10 @@ returns-then-tables_after-gt-TABLE_LIMIT c = λ st h g. table-full c.args.q.now 
 
 pub add_checked-requires : goal.add_checked-requires
 add_checked-requires c = let made = create4 (table_named c.args.q.now) c.requires.represents_fit.state in
-    record { represents_fit = c.requires.represents_fit; s_len_bound = omega (arith, c.tables_after.ensures, c.if-tables_after-gt-TABLE_LIMIT.false); q_len = (c.requires.q_len.0, asked-fits c.args.q.now made c.in-By.linked (by-checked c.check-checked.result c.in-By.linked c.in-By.is (check_all c.args.q.now made) (c.check-checked.ensures c.requires.represents_fit.state c.requires.represents_fit.holds)) c.requires.q_len.0 c.requires.q_len.1); in_bounds = c.requires.in_bounds }
+    record { represents_fit = c.requires.represents_fit; s_len_bound = omega (arith, c.tables_after.ensures, c.if-tables_after-gt-TABLE_LIMIT.false); q_len = (c.requires.q_len.0, asked-fits c.args.q.now made c.in-Ok.linked (by-checked c.check.result c.in-Ok.linked c.in-Ok.is (check_all c.args.q.now made) (c.check.ensures c.requires.represents_fit.state c.requires.represents_fit.holds)) c.requires.q_len.0 c.requires.q_len.1); in_bounds = c.requires.in_bounds }
 
-pub returns-in-Refused : goal.returns-in-Refused
-returns-in-Refused c = λ st h g. way_refused c.args.q.now c.table_named-t.result st c.args.ev.now c.check-checked.result c.table_named-t.ensures (c.check-checked.ensures st h) c.in-Refused.error c.in-Refused.is (c.list_table.ensures st h)
+pub returns-in-Err : goal.returns-in-Err
+returns-in-Err c = λ st h g. (way_refused c.args.q.now c.table_named-t.result st c.args.ev.now c.check.result c.table_named-t.ensures (c.check.ensures st h) c.in-Err.error c.in-Err.is (c.list_table.ensures st h))
 
-pub returns-in-By : goal.returns-in-By
-returns-in-By c = λ st h g. way_added c.args.q.now c.table_named-t.result st c.args.ev.now c.check-checked.result c.table_named-t.ensures (c.check-checked.ensures st h) c.in-By.linked c.in-By.is (c.add_checked.ensures st h g)
+pub returns-in-Ok : goal.returns-in-Ok
+returns-in-Ok c = λ st h g. way_added c.args.q.now c.table_named-t.result st c.args.ev.now c.check.result c.table_named-t.ensures (c.check.ensures st h) c.in-Ok.linked c.in-Ok.is (c.add_checked.ensures st h g)
