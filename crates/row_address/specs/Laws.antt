@@ -1,7 +1,7 @@
 -- What the record's methods say is what the reference says of the row.
 -- Assumes nothing.
 use Rattle.std.specs.Prelude.{◌≡◌, refl, Bool, ◌||◌, ◌&&◌, ℕ, zero, suc, eqb, length, Ok}
-use Rattle.std.proofs.Common.{ap, ◌∙◌, arith, ne_eqb}
+use Rattle.std.proofs.Common.{arith, ne_eqb}
 use Rattle.std.proofs.Math.Bool.{true, false}
 use Rattle.std.proofs.lemmas.Bool.{lt-leb}
 use Rattle.lists.specs.Lists.{Row}

@@ -1,9 +1,7 @@
 -- `row_address::left` meets its contract: the reference's values for a row that fits, else 201.
 -- Assumes nothing.
-use Rattle.std.proofs.Common.{◌≡◌, sym, ap, ◌∙◌, true, false, Result, Ok, Err}
-use Rattle.refusal.specs.declared.Refusal.{Refusal}
+use Rattle.std.proofs.Common.{◌≡◌, sym, ap, ◌∙◌, true, false, Ok, Err}
 use Rattle.refusal.specs.declared.Refusal.TheVariants.{Malformed}
-use Rattle.life.specs.declared.Left.{Left}
 use Rattle.layout.specs.Address.{fit_address}
 use Rattle.definition.specs.Preservation.Fit.{length-address}
 use Rattle.row_address.specs.Row.{left_reply, reply_of}
