@@ -1,18 +1,7 @@
-use mathlib.Core.Path.{ap, ◌∙◌}
-use native.Mathlib.Omega.{arith}
-use mathlib.Core.List.{List}
-use Prim.Native.Nat.{ℕ}
-use Rattle.lists.specs.Lists.{put}
-use Rattle.row_update.specs.Rows.{asked-row, set_life_lem}
+use Rattle.lists.specs.Lists.{zeros}
+use Rattle.definition.specs.Reference.Addresses.{asked}
 use Rattle.row_update.proofs.asked.Goals as goal
 
-pub rewritten-requires : goal.rewritten-requires
-rewritten-requires c =
-    record { in_bounds = c.requires.in_bounds; in_bounds_2 = omega (arith, c.requires.q_len) }
-
 pub returns : goal.returns
-returns c =
-    c.rewritten.ensures
-    ∙ ap (λ (v : List ℕ). put 0 v c.args.out.now)
-    (asked-row c.args.q.now c.args.clock.0 c.as_primary.result c.life_flags-flags.result c.set-new.result c.requires.q_len c.as_primary.ensures c.life_flags-flags.ensures
-    (set_life_lem c.set-new.result _ _ c.args.clock.0 _ _ c.set-new.ensures c.lifetimes-2.ensures c.begun.ensures))
+unfolding asked zeros
+returns c = rw (c.from.ensures, c.set_life-row.ensures, c.lifetimes-2.ensures, c.as_primary.ensures, c.copy_from_slice.ensures.after)
