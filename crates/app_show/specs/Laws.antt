@@ -1,15 +1,17 @@
 -- The listing of well-formed words, as the functions over rows and text have it.
 -- Assumes nothing.
-use Rattle.std.specs.Prelude.{ℕ, ◌+◌, ◌*◌, ◌≤◌, ◌≡◌, true, false, List, [], eqb, length, take, drop}
+use Rattle.std.specs.Prelude.{ℕ, ◌+◌, ◌*◌, ◌/◌, ◌≤◌, ◌≡◌, true, false, List, [], eqb, length, take, drop}
 use Rattle.std.proofs.Common.{sym, ap, ◌∙◌, append-nil, arith, take_at, length-take-le, eq-eqb, ne_eqb}
 use Rattle.lists.specs.Lists.{Row, flat, put, chop}
 use Rattle.lists.specs.Bools.{cond-true, cond-false}
-use Rattle.lists.specs.Rows.{sized, length-flat, length-put, chop-flat}
+use Rattle.lists.specs.Rows.{sized, length-flat, chop-flat}
 use Rattle.definition.specs.Words.{base_size, state_size, decode, well_formed, state_of, formed}
 use Rattle.definition.specs.Reference.Source.{dump4}
 use Rattle.definition.specs.Preservation.Encode.{good-decode}
 use Rattle.definition.proofs.Preservation.Reading.{dump4-listing}
 use Rattle.endian.specs.Endian.{words_of}
+use Rattle.rows.specs.Rows.{chunks-chop}
+use Rattle.std.specs.Simd.{first_chunks}
 use Rattle.text.specs.Print.{render, refused_line}
 use Rattle.app_show.specs.Show.{shown_words, shown}
 
@@ -46,8 +48,8 @@ listed-rows rows buffer l n s e f =
     let front : take (32 * n) buffer ≡ flat rows = ap (take (32 * n)) f ∙ take_at (flat rows) (drop (0 + length (flat rows)) l) (32 * n) long in
     rw (front, e) (rw append-nil at (chop-flat 32 rows [] s))
 
--- a run put at the start counts bytes of what it was put in
-pub counts-put : (vs l m : List ℕ) (r : ℕ) → r ≡ length vs → m ≡ put 0 vs l → r ≤ length l → (r ≤ length m) × (r ≡ length (take r m))
-counts-put vs l m r e f h =
-    let long : length m ≡ length l = ap length f ∙ length-put 0 vs l (omega arith) in
-    (omega arith, sym (length-take-le r m (omega arith)))
+pub listed-chunks : (rows : List Row) (buffer l w : List ℕ) (n : ℕ) → sized 32 rows ≡ true → n ≡ length rows → buffer ≡ put 0 (flat rows) l
+    → w ≡ take (32 * n) buffer → 32 * n ≤ length buffer → first_chunks 32 (length w / 32) w ≡ rows
+listed-chunks rows buffer l w n s e f g h =
+    let many : length w / 32 ≡ n = rw (g, length-take-le) (omega arith) in
+    rw (many, g) (chunks-chop 32 n (take (32 * n) buffer) ∙ listed-rows rows buffer l n s e f)

@@ -1,43 +1,69 @@
 // What the printing program prints: a state's listing, or why the bytes are refused. And the program itself, on any input.
 #![tactic(auto)]
 
-ghost use Rattle.std.specs.Prelude.{◌≡◌, true, ◌≤◌, length, take};
+ghost use Rattle.std.specs.Prelude.{◌≡◌, true, ◌+◌, ◌≤◌, length, take};
 ghost use Rattle.lists.specs.Lists.{put};
 ghost use Rattle.definition.specs.Words.{base_size, state_size, decode, well_formed};
 ghost use Rattle.definition.specs.Reference.Source.{dump4};
 ghost use Rattle.text.specs.Print.{render};
+ghost use Rattle.text.specs.Wrote.{Appends};
 ghost use Rattle.app_show.specs.Show.{shown, shown_words};
 
-use layout::{BASE_WORDS, LISTING_BUFFER, ROUTE_WORDS, STATE_WORDS};
+use layout::{BASE_WORDS, LISTING_BUFFER, ROUTE_WORDS, RouteRow, STATE_WORDS};
+use refusal::Refusal;
 use std::io::Read;
+use text::Text;
 
 // The bytes of a state.
 const STATE_BYTES: usize = 4 * STATE_WORDS;
 
+// The rows of the listing of well-formed words, in lent words.
+fn listed<'a>(s: &[u32], listing: &'a mut [u32; LISTING_BUFFER]) -> &'a [RouteRow]
+    requires { (length s.now ≡ base_size) × (well_formed s.now ≡ true) }
+    ensures few { length result.now ≤ 256 }
+    ensures rows { result.now ≡ dump4 (decode s.now) }
+{
+    let n = state_read::list(s, listing);
+    let (words, _) = listing.split_at(ROUTE_WORDS * n);
+    let (rows, _) = words.as_chunks::<ROUTE_WORDS>();
+    rows
+}
+
 // The listing of well-formed words.
-fn show_listing(s: &[u32], out: &mut [u8]) -> usize
-    requires { (length s.now ≡ base_size) × (well_formed s.now ≡ true) × (19220 ≤ length out.old) }
-    ensures upper_bound { result ≤ 19220 }
-    ensures value { result ≡ length (render (dump4 (decode s.now))) }
-    ensures out_after { out.new ≡ put 0 (render (dump4 (decode s.now))) out.old }
+fn show_listing(s: &[u32], text: &mut Text<'_>)
+    requires words { (length s.now ≡ base_size) × (well_formed s.now ≡ true) }
+    requires room { text.old.len + 19220 ≤ length text.old.out.now }
+    ensures { Appends text.old (render (dump4 (decode s.now))) text.new }
 {
     let mut listing = [0u32; LISTING_BUFFER];
-    let n = state_read::list(s, &mut listing);
-    let e = ROUTE_WORDS * n;
-    text::render(out, &listing[..e], n)
+    text.render(listed(s, &mut listing));
 }
 
 // What is printed of words as many as a state's.
-fn show_words(s: &[u32], out: &mut [u8]) -> usize
-    requires { (length s.now ≡ state_size) × (19220 ≤ length out.old) }
-    ensures upper_bound { result ≤ 19220 }
-    ensures value { result ≡ length (shown_words s.now) }
-    ensures out_after { out.new ≡ put 0 (shown_words s.now) out.old }
+fn show_words(s: &[u32], text: &mut Text<'_>)
+    requires words { length s.now ≡ state_size }
+    requires room { text.old.len + 19220 ≤ length text.old.out.now }
+    ensures { Appends text.old (shown_words s.now) text.new }
 {
     if state_well_formed::well_formed(&s[..BASE_WORDS]) {
-        return show_listing(&s[..BASE_WORDS], out);
+        show_listing(&s[..BASE_WORDS], text);
+    } else {
+        text.refused_line(Refusal::Malformed.number());
     }
-    text::refused_line(out, 0, 201)
+}
+
+// What is printed of any bytes.
+fn show_bytes(bytes: &[u8], text: &mut Text<'_>)
+    requires { text.old.len + 19220 ≤ length text.old.out.now }
+    ensures { Appends text.old (shown bytes.now) text.new }
+{
+    if bytes.len() != STATE_BYTES {
+        text.refused_line(Refusal::WrongLength.number());
+        return;
+    }
+    let mut s = [0u32; STATE_WORDS];
+    endian::words_of(bytes, &mut s);
+    show_words(&s, text);
 }
 
 // What is printed of any bytes, at the start of out; how many bytes it is, is returned.
@@ -46,12 +72,9 @@ pub fn show(bytes: &[u8], out: &mut [u8; 19220]) -> usize
     ensures value { result ≡ length (shown bytes.now) }
     ensures out_after { out.new ≡ put 0 (shown bytes.now) out.old }
 {
-    if bytes.len() != STATE_BYTES {
-        return text::refused_line(out, 0, 200);
-    }
-    let mut s = [0u32; STATE_WORDS];
-    endian::words_of(bytes, &mut s);
-    show_words(&s, out)
+    let mut text = Text::new(out);
+    show_bytes(bytes, &mut text);
+    text.len
 }
 
 fn write(rt: &(impl Print + Eprint), text: &[u8]) {

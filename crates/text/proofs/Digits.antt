@@ -1,14 +1,10 @@
 -- Laws of digits: the equation that they are, how many there are, and that they are a number's last ones.
 -- Assumes nothing.
-use Rattle.std.specs.Prelude.{ℕ, zero, suc, ◌+◌, ◌*◌, ◌/◌, ◌^◌, ◌≤◌, ◌<◌, ◌≡◌, refl, Bool, true, false, List, [], ◌∷◌, ◌++◌, ltb, length, get_or, take}
-use Rattle.std.proofs.Common.{sym, ap, ◌∙◌, not-suc-le-zero, pow-suc, add-one, arith, length-append, get_or-take, take_at, take-take, ltb-true, ltb-false, lt-ltb, le-ltb}
-use Rattle.std.proofs.lemmas.List.{get_or_at}
+use Rattle.std.specs.Prelude.{ℕ, zero, suc, ◌+◌, ◌*◌, ◌/◌, ◌^◌, ◌≤◌, ◌<◌, ◌≡◌, refl, Bool, true, false, List, [], ◌∷◌, ◌++◌, ltb, length}
+use Rattle.std.proofs.Common.{sym, ap, ◌∙◌, not-suc-le-zero, mod-eq_of_lt, pow-suc, arith, length-append, ltb-true, ltb-false, lt-ltb, le-ltb}
 use Rattle.text.specs.Print.{digit, digits_in, digits}
-use Rattle.text.specs.Digits.{lasts}
-
-pub length-lasts : (k n : ℕ) → length (lasts k n) ≡ k
-length-lasts zero n = refl
-length-lasts (suc k) n = rw (length-append, length-lasts k (n / 10), add-one)
+use Rattle.std.specs.Fmt.{decimal}
+use Rattle.std.proofs.lemmas.Fmt.{AppendsLastDigit, decimal_from_appends, length-decimal-le_succ}
 
 module _ (k n : ℕ) where
   less : n < 10 → digits_in (suc k) n ≡ digit n ∷ []
@@ -65,21 +61,14 @@ most (suc k) n h =
 pub count_word : (n : ℕ) → n < 4294967296 → length (digits n) ≤ 10
 count_word n h = most 9 n (omega arith)
 
--- ---- from the end
-pub digits-lasts : (n : ℕ) → lasts (length (digits n)) n ≡ digits n
+-- ---- they are the library's
+pub digits-decimal : (n : ℕ) → n < 4294967296 → digits n ≡ decimal n
 unfolding digits
-digits-lasts n = go (suc n) n (omega arith)
+digits-decimal n h =
+    decimal_from_appends digits_in steps (suc n) n (omega arith) (omega (arith, length-decimal-le_succ n (omega arith)))
   where
-    go : (k n : ℕ) → n < k → lasts (length (digits_in k n)) n ≡ digits_in k n
-    go zero n h = absurd (not-suc-le-zero h)
-    go (suc k) n h =
-        tens n (λ s. rw (less k n s))
-        (λ b. rw (more k n b, length-append, add-one, go k (n / 10) (omega arith)))
-
--- the digit that is written at the place i, and what is left to write before it
-pub last-digit : (i n : ℕ) (l : List ℕ) → take (i + 1) l ≡ lasts (i + 1) n → (get_or l i 0 ≡ digit n) × (take i l ≡ lasts i (n / 10))
-last-digit i n l e =
-    let f : take (i + 1) l ≡ lasts i (n / 10) ++ (digit n ∷ []) = e ∙ rw add-one in (
-      sym (get_or-take (i + 1) l i 0 (omega arith)) ∙ ap (λ (x : List ℕ). get_or x i 0) f ∙ get_or_at (lasts i (n / 10)) (digit n) [] 0 i (length-lasts i (n / 10)),
-      sym (take-take i (i + 1) l (omega arith)) ∙ ap (take i) f ∙ take_at (lasts i (n / 10)) (digit n ∷ []) i (length-lasts i (n / 10)),
-    )
+    steps : AppendsLastDigit digits_in
+    steps = record {
+      one = λ k m g. less k m g ∙ rw (mod-eq_of_lt g);
+      more = more;
+    }

@@ -1,4 +1,2 @@
 pub mod Print
-pub mod Digits
 pub mod Wrote
-pub mod Lines

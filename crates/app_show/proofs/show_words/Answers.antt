@@ -1,37 +1,28 @@
--- `app_show::show_words` meets its contract: by the form of the first words.
--- Assumes nothing.
-use Prim.Native.Nat.{ℕ}
-use mathlib.Core.Path.{sym, ap, ◌∙◌}
-use mathlib.Core.List.{List}
-use native.Mathlib.Nat.{zero-add}
-use native.Mathlib.Omega.{arith}
-use lib.ListN.{length}
-use Rattle.lists.specs.Lists.{put}
+-- By the form of the first words.
+use Rattle.std.proofs.Common.{sym, ap, ◌∙◌}
 use Rattle.definition.proofs.Preservation.Step.{base-long}
+use Rattle.text.specs.Print.{refused_line}
+use Rattle.text.specs.Wrote.{same}
+use Rattle.app_show.specs.Show.{shown_words}
 use Rattle.app_show.specs.Laws.{shown-well, shown_ill}
 use Rattle.app_show.proofs.show_words.Goals as goal
 
 pub slice_bounds-well_formed-end : goal.slice_bounds-well_formed-end
-slice_bounds-well_formed-end c =
-    sym (base-long c.args.s.now c.requires.0)
+slice_bounds-well_formed-end c = sym (base-long c.args.s.now c.requires.words)
 
 pub well_formed-requires : goal.well_formed-requires
-well_formed-requires c =
-    base-long c.args.s.now c.requires.0
+well_formed-requires c = base-long c.args.s.now c.requires.words
 
 pub slice_bounds-show_listing-end : goal.slice_bounds-show_listing-end
-slice_bounds-show_listing-end c =
-    sym (base-long c.args.s.now c.requires.0)
+slice_bounds-show_listing-end c = sym (base-long c.args.s.now c.requires.words)
 
-pub show_listing-requires : goal.show_listing-requires
-show_listing-requires c =
-    (base-long c.args.s.now c.requires.0, sym c.well_formed-2.ensures ∙ c.if-well_formed.true, c.requires.1)
+pub show_listing-requires-clause-words : goal.show_listing-requires-clause-words
+show_listing-requires-clause-words c = (base-long c.args.s.now c.requires.words, sym c.well_formed-2.ensures ∙ c.if-well_formed.true)
 
 pub returns-then-well_formed : goal.returns-then-well_formed
 returns-then-well_formed c =
-    let e = sym (shown-well c.args.s.now (sym c.well_formed-2.ensures ∙ c.if-well_formed.true)) in
-    record { upper_bound = c.show_listing.ensures.upper_bound; value = c.show_listing.ensures.value ∙ ap (λ (x : List ℕ). length x) e; out_after = c.show_listing.ensures.out_after ∙ ap (λ (x : List ℕ). put 0 x c.args.out.now) e }
+    same (shown_words c.args.s.now) (sym (shown-well c.args.s.now (sym c.well_formed-2.ensures ∙ c.if-well_formed.true))) c.show_listing.ensures
 
-pub returns : goal.returns
-returns c =
-    let e = sym (shown_ill c.args.s.now (sym c.well_formed-2.ensures ∙ c.if-well_formed.false)) in record { upper_bound = omega (arith, c.refused_line.ensures.upper_bound); value = c.refused_line.ensures.value ∙ zero-add _ ∙ ap (λ (x : List ℕ). length x) e; out_after = c.refused_line.ensures.out_after ∙ ap (λ (x : List ℕ). put 0 x c.args.out.now) e }
+pub returns-else-well_formed : goal.returns-else-well_formed
+returns-else-well_formed c =
+    same (shown_words c.args.s.now) (ap refused_line c.number.ensures ∙ sym (shown_ill c.args.s.now (sym c.well_formed-2.ensures ∙ c.if-well_formed.false))) c.refused_line.ensures.text
