@@ -13,7 +13,7 @@ use call_change::Done;
 use call_message::Asked;
 use call_read::{Chosen, Found, Listed, Local, Sourced};
 use refusal::Refusal;
-use row_address::LeftReply;
+use life::Left;
 
 // The number is 0, or the refusal's number and then the rest is 0.
 #[repr(C)]
@@ -96,16 +96,16 @@ pub fn sourced(a: Sourced) -> Reply
     }
 }
 
-pub fn remaining(l: LeftReply) -> Reply
+pub fn remaining(l: Result<Left, Refusal>) -> Reply
     ensures { result ≡ reply_of (row-address·reply_of l) }
 {
     match l {
-        LeftReply::Refused(n) => refused(n),
-        LeftReply::Left { preferred, valid } => Reply {
+        Err(refusal) => refused(refusal.number()),
+        Ok(left) => Reply {
             number: 0,
             present: 0,
-            value: preferred,
-            second: valid,
+            value: left.preferred.0,
+            second: left.valid.0,
         },
     }
 }

@@ -2,15 +2,13 @@
 -- Assumes nothing.
 use Rattle.std.specs.Prelude.{ℕ, ◌+◌, ◌*◌, ◌≤◌, ◌<◌, ◌≡◌, Bool, true, false, cond, List, [], length, take, drop}
 use Rattle.std.proofs.Common.{arith, sym, ap, ◌∙◌, lit<, drop_of_length-le, take_all}
-use Rattle.lists.specs.Lists.{Row, any, put}
+use Rattle.lists.specs.Lists.{Row, any}
 use Rattle.lists.specs.At.{insert_at}
 use Rattle.lists.specs.Laid.{Laid, laid-part}
 use Rattle.lists.specs.Pass.{part, laid-rows}
-use Rattle.lists.specs.Put.{put_whole}
 use Rattle.layout.specs.Address.{secondary, fit_address}
 use Rattle.layout.specs.Request.{fit_add_v4}
 use Rattle.definition.specs.Reference.Addresses.{yields, place4, same_subnet, asked, as_secondary}
-use Rattle.definition.specs.Preservation.Fit.{length-address}
 use Rattle.definition.specs.Preservation.Rows.{asked-fit, as_secondary-fit}
 use Rattle.rows_place.specs.Behind.{behind_of, behind_le, behind-at, behind_more}
 
@@ -57,20 +55,16 @@ module _ (q : Row) (now : ℕ) (long : length q ≡ 18) (f : fit_add_v4 q ≡ tr
   fit-asked : fit_address (asked q now) ≡ true
   fit-asked = asked-fit q now long f
 
-  module _ (o : List ℕ) (e : length o ≡ 20) {x : List ℕ} (h : x ≡ put 0 (asked q now) o) where
-    pub row-asked : x ≡ asked q now
-    row-asked = h ∙ put_whole (asked q now) o (omega (arith, length-address (asked q now) fit-asked))
-
+  module _ {x : List ℕ} (h : x ≡ asked q now) where
     pub fit-row-asked : fit_address x ≡ true
-    fit-row-asked = ap fit_address row-asked ∙ fit-asked
+    fit-row-asked = ap fit_address h ∙ fit-asked
 
     pub row_fresh : (l : List Row) (b : Bool) → b ≡ any (λ old. same_subnet old q) l → b ≡ false → x ≡ fresh_row l q now
-    row_fresh l b s c = row-asked ∙ ap (λ (b : Bool). cond b (as_secondary (asked q now)) (asked q now)) (sym c ∙ s)
+    row_fresh l b s c = h ∙ ap (λ (b : Bool). cond b (as_secondary (asked q now)) (asked q now)) (sym c ∙ s)
 
-    module _ (o' : List ℕ) (e' : length o' ≡ 20) {y : List ℕ} (g : y ≡ put 0 (as_secondary x) o') where
+    module _ {y : List ℕ} (g : y ≡ as_secondary x) where
       second : y ≡ as_secondary (asked q now)
-      second =
-          g ∙ put_whole (as_secondary x) o' (omega (arith, length-address (as_secondary x) (as_secondary-fit x fit-row-asked))) ∙ ap as_secondary row-asked
+      second = g ∙ ap as_secondary h
 
       pub fit-row-second : fit_address y ≡ true
       fit-row-second = ap fit_address second ∙ as_secondary-fit (asked q now) fit-asked

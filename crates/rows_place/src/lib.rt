@@ -106,14 +106,13 @@ pub fn fresh(addresses: &[u32], n: usize, q: &[u32], clock: Nanoseconds, out: &m
     ensures out_after { fit_address out.new ≡ true }
     ensures out_after_2 { (l : List Row) → Laid 20 fit_address addresses.now l → out.new ≡ fresh_row l q.now clock.0 }
 {
+    let row = row_update::asked(q.as_array().unwrap(), clock);
     let second = in_subnet(addresses, n, q);
     if !second {
-        row_update::asked(q, clock, out);
+        out.copy_from_slice(&row);
         return;
     }
-    let mut primary = [0u32; ADDRESS_WORDS];
-    row_update::asked(q, clock, &mut primary);
-    row_update::as_secondary(&primary, out);
+    out.copy_from_slice(&row_update::as_secondary(&row));
 }
 
 // Whether a request moves an address's prefix route: to another priority, while the loopback is up.

@@ -29,7 +29,7 @@ use Rattle.step_events.specs.Iterations.{like_refl, like_sym, like_trans, also_l
 use Rattle.step_drop_prefsrc.specs.Delete.{step_eq}
 use Rattle.step_drop_routes.specs.Iterations.{step-facts}
 use Rattle.lists.specs.Front.{any_here}
-use Rattle.step_remove_v4.specs.One.{address_row, lent-address, put-row}
+use Rattle.step_remove_v4.specs.One.{address_row, lent-address}
 use Rattle.step_expire.specs.Iteration.{expire_turn, next_place}
 use Rattle.step_expire.proofs.Iterations.{Quiet, expire-iteration, expire-none, live-lighter, iteration_fewer}
 
@@ -61,9 +61,6 @@ next-less i n left j b m l q =
     (λ e. let z : j ≡ i + 1 = q ∙ rw e in let h : n ≤ left = ltb-false left n e in omega arith)
 
 -- ---- a row that is marked
-pub marked_row : (a row z : List ℕ) → fit_address a ≡ true → row ≡ put 0 (deprecate a) z → length z ≡ 20 → row ≡ deprecate a
-marked_row a row z f e l = e ∙ put-row (deprecate a) z (length-address (deprecate a) (deprecate-fit a f)) l
-
 pub marked-fits : (a row : List ℕ) → fit_address a ≡ true → row ≡ deprecate a → (length row ≡ 20) × (fit_address row ≡ true)
 marked-fits a row f e = (ap length e ∙ length-address (deprecate a) (deprecate-fit a f), ap fit_address e ∙ deprecate-fit a f)
 

@@ -13,12 +13,11 @@ ghost use Rattle.state.specs.Represents.{Represents, RepresentsSome};
 ghost use Rattle.step_events.specs.EmitsWithin.{RoomFor, SomeRoom, EmitsWithin};
 ghost use Rattle.step_expire.specs.Iteration.{expire_turn, next_place};
 
-use layout::{ADDRESS_WORDS, ADDRESSES_AT, EVENT_WORDS, address};
+use layout::{ADDRESS_WORDS, ADDRESSES_AT, AddressRow, EVENT_WORDS, address};
 use life::Nanoseconds;
 
 // Its valid lifetime is reached; a permanent address never runs out.
-fn due(a: &[u32], allowance: Nanoseconds, clock: Nanoseconds) -> bool
-    requires { length a.now ≡ 20 }
+fn due(a: &AddressRow, allowance: Nanoseconds, clock: Nanoseconds) -> bool
     ensures { result ≡ due allowance.0 clock.0 a.now }
 {
     let lasting = a[address::FLAGS] & row_address::PERMANENT != 0;
@@ -29,8 +28,7 @@ fn due(a: &[u32], allowance: Nanoseconds, clock: Nanoseconds) -> bool
 }
 
 // Its preferred lifetime is reached, and that isn't marked yet.
-fn deprecates(a: &[u32], allowance: Nanoseconds, clock: Nanoseconds) -> bool
-    requires { length a.now ≡ 20 }
+fn deprecates(a: &AddressRow, allowance: Nanoseconds, clock: Nanoseconds) -> bool
     ensures { result ≡ deprecates allowance.0 clock.0 a.now }
 {
     let lasting = a[address::FLAGS] & row_address::PERMANENT != 0;
@@ -42,14 +40,13 @@ fn deprecates(a: &[u32], allowance: Nanoseconds, clock: Nanoseconds) -> bool
 }
 
 // The address at i becomes the row a, marked, and is emitted.
-fn mark(s: &mut [u32], ev: &mut [u32], i: usize, a: &[u32])
+fn mark(s: &mut [u32], ev: &mut [u32], i: usize, a: &AddressRow)
     requires represents_some { RepresentsSome s.old }
     requires i_bound { (i < address_count s.old) × (34 ≤ length ev.old) × (fit_address a.now ≡ true) }
     ensures ev_after { ev.new ≡ put 0 (new_addr4 (deprecate a.now)) ev.old }
     ensures represents { (st : State) → Represents s.old st → Represents s.new (with_addresses (set st.addresses i (deprecate a.now)) st) }
 {
-    let mut row = [0u32; ADDRESS_WORDS];
-    row_update::deprecate(a, &mut row);
+    let row = row_update::deprecate(a);
     step_events::new_addr4(ev, &row);
     state::replace_address(s, i, &row);
 }

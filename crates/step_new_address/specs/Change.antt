@@ -87,10 +87,7 @@ module _ (q old : Row) where
       (λ e. refl)
 
 -- ---- the address itself
-module _ (q : Row) (clock : ℕ) (old : Row) (g : fit_add_v4 q ≡ true) (fit : fit_address old ≡ true) (o : List ℕ) (e : length o ≡ 20) {row : Row} (h : row ≡ put 0 (changed_to q old clock) o) where
-  pub changed_row : row ≡ changed_to q old clock
-  changed_row = h ∙ put_whole (changed_to q old clock) o (omega (arith, length-address (changed_to q old clock) (changed_to-fit q old clock g fit)))
-
+module _ (q : Row) (clock : ℕ) (old : Row) (g : fit_add_v4 q ≡ true) (fit : fit_address old ≡ true) {row : Row} (changed_row : row ≡ changed_to q old clock) where
   pub changed-fit : fit_address row ≡ true
   changed-fit = ap fit_address changed_row ∙ changed_to-fit q old clock g fit
 

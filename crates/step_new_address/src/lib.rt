@@ -116,8 +116,7 @@ pub fn change_v4(
     let at = ADDRESSES_AT + ADDRESS_WORDS * i;
     let mut old = [0u32; ADDRESS_WORDS];
     words::store(&mut old, 0, &s[at..at + ADDRESS_WORDS]);
-    let mut row = [0u32; ADDRESS_WORDS];
-    row_update::changed_to(q, &old, clock, &mut row);
+    let row = row_update::changed_to(q.as_array().unwrap(), &old, clock);
     let k = moved(s, ev, q, &old)?;
     state::replace_address(s, i, &row);
     let from = EVENT_WORDS * k;

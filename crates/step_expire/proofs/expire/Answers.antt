@@ -5,7 +5,6 @@ use Rattle.step_events.specs.Iterations.{going_ready, going-fits}
 use Rattle.state.specs.Represents.{sizes-valid}
 use Rattle.definition.specs.Preservation.Shrinking.{potential}
 use native.Mathlib.Omega.{arith}
-use Prim.Native.Nat.{◌-◌}
 use mathlib.Core.Path.{sym, ◌∙◌}
 use Rattle.step_expire.proofs.expire.Goals as goal
 

@@ -3,7 +3,6 @@ use Rattle.step_remove_v4.specs.One.{address_row, address-end, put-row, row-pres
 use Rattle.step_drop_prefsrc.specs.Delete.{ready_valid}
 use Rattle.layout.specs.Address.{fit_address}
 use native.Mathlib.Omega.{arith}
-use Prim.Native.Nat.{◌-◌}
 use mathlib.Core.Path.{refl, sym, ap, ◌∙◌}
 use Rattle.step_expire.proofs.iteration.Goals as goal
 
