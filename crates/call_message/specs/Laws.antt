@@ -1,33 +1,34 @@
 -- What a message comes to as an answer, and that its headers lie within it.
 -- Assumes nothing.
-use Rattle.std.specs.Prelude.{ℕ, suc, ◌-◌, ◌≤◌, ◌<◌, ◌≡◌, eqb, leb, length, get_or, take, drop}
+use Rattle.std.specs.Prelude.{ℕ, ◌-◌, ◌≤◌, ◌<◌, ◌≡◌, ◌≢◌, true, false, Result, Ok, Err, eqb, leb, length, get_or, take, drop}
 use Rattle.std.proofs.Math.Path.{refl, ap}
-use Rattle.std.proofs.Common.{sym, ◌∙◌, arith, length-take, get_or-take, length-take-le}
+use Rattle.std.proofs.Common.{◌∙◌, arith, length-take, get_or-take}
 use mathlib.Core.List.{List, [], ◌∷◌}
 use Rattle.std.proofs.Math.ListN.{length-append}
-use borrow.Author.Tests.{eq-eqb, ne_eqb, le-leb, leb-true}
-use Rattle.lists.specs.Lists.{Row, flat, put, zeros}
+use borrow.Author.Tests.{eq-eqb, ne_eqb}
+use Rattle.lists.specs.Lists.{Row, flat, put}
 use Rattle.lists.specs.Put.{put-no-rows}
 use Rattle.lists.specs.At.{flat-one}
-use Rattle.lists.specs.Rows.{length-pad}
-use Rattle.lists.specs.Bools.{fails, cond-case}
-use Rattle.netlink.specs.Codes.{rtm_new_addr, rtm_del_addr, rtm_new_route, rtm_del_route}
+use Rattle.lists.specs.Bools.{cond-case}
+use Rattle.netlink.specs.Codes.{rtm_new_addr, rtm_del_addr, rtm_new_route}
 use Rattle.netlink.specs.Exactly.{Shaped}
 use Rattle.netlink.proofs.Exactly.{four-types}
 use Rattle.netlink.specs.Attributes.{Attribute, attributes}
 use Rattle.layout.specs.Request.{del_route4_size}
 use Rattle.netlink.specs.Codes.{rtm_new_addr, rtm_del_addr, rtm_new_route}
 use Rattle.netlink.specs.Reader.{Answer, message_length, message_type, attributes_at, body, new_addr, del_addr, new_route, del_route, request, refusal, read}
-use Rattle.netlink.specs.Reader.{types, unknown_metric, metrics_in, metrics_asked, pairs_asked}
-use Rattle.netlink_request.specs.Laws.{length-asked}
-use Rattle.netlink_request.specs.Metrics.{pairs_of, pairs-short}
-use Rattle.definition.specs.Call.{Reply}
+use Rattle.netlink.specs.Reader.{metrics_in, metrics_asked}
+use Rattle.netlink_request.specs.Laws.{length-asked, length-pairs}
+use Rattle.definition.specs.Call.{Reply, numbers}
 use Rattle.definition.specs.Call.{refusal as refusing}
-use Rattle.call_read.specs.Answer.{Writes}
+use Rattle.refusal.specs.declared.Refusal.{Refusal}
+use Rattle.refusal.specs.Refusal.{number_of, Refuses}
+use Rattle.std.specs.Result.{IsErr, IsErrAnd}
+use Rattle.netlink_refusal.specs.declared.Message.{Message}
+use Rattle.netlink_refusal.specs.Parts.{Parts}
 use Rattle.call_message.specs.declared.Asked.{Asked}
-use Rattle.call_message.specs.declared.Asked.TheVariants.{Refused, Request}
-use Rattle.call_message.specs.Message.{replied, read_call}
-use Rattle.call_message.specs.Answer.{asked_by, asked_of}
+use Rattle.call_message.specs.Message.{requested, replied, read_call}
+use Rattle.call_message.specs.Answer.{asked_by, request_of}
 
 -- ---- the headers lie within the message
 module _ (up n : ℕ) (m : List ℕ) (l : List Attribute) where
@@ -67,13 +68,6 @@ module _ (up n : ℕ) (m : List ℕ) (l : List Attribute) where
         rw (same 17 (omega arith), same 19 (omega arith), same 20 (omega arith), same 21 (omega arith), same 22 (omega arith), same 23 (omega arith))
 
 -- ---- the words of each request
-length_pairs : (l : List Attribute) → length (pairs_asked l) ≡ 36
-unfolding pairs_asked zeros
-length_pairs l =
-    cond-case (λ (w : List ℕ). length w ≡ 36) (unknown_metric l)
-    (λ e. refl)
-    (λ e. ap (λ (n : ℕ). suc (suc n)) (length-pad 34 (pairs_of l types) (pairs-short l types)))
-
 module _ (up : ℕ) (m : List ℕ) (l : List Attribute) where
   pub length_new_addr : length (new_addr up m l) ≡ 18
   unfolding new_addr
@@ -89,92 +83,56 @@ module _ (up : ℕ) (m : List ℕ) (l : List Attribute) where
 
   pub length_del_route : length (del_route m l) ≡ 49
   unfolding del_route
-  length_del_route = omega (arith, length_pairs (metrics_in l))
+  length_del_route = omega (arith, length-pairs (metrics_in l))
 
 -- ---- the request of a message
 abbrev pub request_in : ℕ → List ℕ → Row
 request_in up m = request up m (message_type m) (attributes (body m))
 
-abbrev Answers : ℕ → List ℕ → ℕ → ℕ → List ℕ → List ℕ → Type 0
-Answers up m kind words w w' = (Request kind words ≡ Request (message_type m) (length (request_in up m))) × (w' ≡ put 0 (request_in up m) w)
+-- the request of a message's own bytes, which its headers lie within
+pub of_bytes : (up : ℕ) (m : List ℕ) → Shaped m → (l : List Attribute)
+    → request up (take (message_length m) m) (message_type m) l ≡ request up m (message_type m) l
+unfolding request
+of_bytes up m s l =
+    let n = message_length m in
+    let t = message_type m in
+    four-types t s.one_of-four
+    (λ e. let within : 24 ≤ n = omega (arith, s.covers, ap attributes_at e) in rw e (new_addr-within up n m l within))
+    (λ e. let within : 24 ≤ n = omega (arith, s.covers, ap attributes_at e) in rw e (del_addr-within up n m l within))
+    (λ e. let within : 28 ≤ n = omega (arith, s.covers, ap attributes_at e) in rw e (new_route-within up n m l within))
+    (λ e. let within : 28 ≤ n = omega (arith, s.covers, ap attributes_at e) in rw e (del_route-within up n m l within))
 
--- the attributes of a message's n bytes, from a place on
-abbrev body_at : ℕ → List ℕ → ℕ → List Attribute
-body_at n m at = attributes (take (n - at) (drop at m))
+pub parts-are : (up : ℕ) (m : List ℕ) (p : Message) → Shaped m → Parts m p → request_of up p ≡ request_in up m
+parts-are up m p s h =
+    (λ i. request up (h.bytes_are i) (h.kind_is i) (attributes (h.body_is i))) ∙ of_bytes up m s (attributes (body m))
 
-module _ (up : ℕ) (m : List ℕ) (t n : ℕ) (e : t ≡ message_type m) (f : n ≡ message_length m) (w w' : List ℕ) where
-  by-type : (k : ℕ) → t ≡ k → request_in up m ≡ request up m k (body_at n m (attributes_at k))
-  by-type k g =
-      let p : message_type m ≡ k = sym e ∙ g in
-      λ i. request up m (p i) (attributes (take (sym f i - attributes_at (p i)) (drop (attributes_at (p i)) m)))
-
-  answered : (k c : ℕ) (q : Row) → t ≡ k → request_in up m ≡ q → length q ≡ c → w' ≡ put 0 q w → Answers up m k c w w'
-  answered k c q g r h z =
-      let long : c ≡ length (request_in up m) = sym (ap length r ∙ h) in
-      ((λ i. Request ((sym g ∙ e) i) (long i)), z ∙ ap (λ (x : List ℕ). put 0 x w) (sym r))
-
-  pub new_addr-answered : t ≡ rtm_new_addr → 24 ≤ n → w' ≡ put 0 (new_addr up (take n m) (body_at n m 24)) w → Answers up m 20 18 w w'
-  unfolding request
-  new_addr-answered g h z =
-      answered 20 18 (new_addr up m (body_at n m 24)) g (by-type 20 g) (length_new_addr up m (body_at n m 24))
-      (z ∙ ap (λ (x : List ℕ). put 0 x w) (new_addr-within up n m (body_at n m 24) h))
-
-  pub del_addr-answered : t ≡ rtm_del_addr → 24 ≤ n → w' ≡ put 0 (del_addr (take n m) (body_at n m 24)) w → Answers up m 21 11 w w'
-  unfolding request
-  del_addr-answered g h z =
-      answered 21 11 (del_addr m (body_at n m 24)) g (by-type 21 g) (length_del_addr up m (body_at n m 24))
-      (z ∙ ap (λ (x : List ℕ). put 0 x w) (del_addr-within up n m (body_at n m 24) h))
-
-  pub new_route-answered : t ≡ rtm_new_route → 28 ≤ n → w' ≡ put 0 (new_route up (take n m) (body_at n m 28)) w → Answers up m 24 34 w w'
-  unfolding request
-  new_route-answered g h z =
-      answered 24 34 (new_route up m (body_at n m 28)) g (by-type 24 g) (length_new_route up m (body_at n m 28))
-      (z ∙ ap (λ (x : List ℕ). put 0 x w) (new_route-within up n m (body_at n m 28) h))
-
-  pub del_route-answered : t ≡ rtm_del_route → 28 ≤ n → w' ≡ put 0 (del_route (take n m) (body_at n m 28)) w → Answers up m 25 49 w w'
-  unfolding request
-  del_route-answered g h z =
-      answered 25 49 (del_route m (body_at n m 28)) g (by-type 25 g) (length_del_route up m (body_at n m 28))
-      (z ∙ ap (λ (x : List ℕ). put 0 x w) (del_route-within up n m (body_at n m 28) h))
-
--- ---- lengths
--- the length covers the headers of the type
-pub covers : (m : List ℕ) (t n k : ℕ) → Shaped m → t ≡ message_type m → n ≡ message_length m → t ≡ k → attributes_at k ≤ n
-covers m t n k s e f g =
-    let at : attributes_at (message_type m) ≡ attributes_at k = ap attributes_at (sym e ∙ g) in
-    omega (arith, s.covers)
-
--- as many bytes as are lent
-pub lent : (m : List ℕ) (n : ℕ) → Shaped m → n ≡ message_length m → n ≡ length (take n m)
-lent m n s e = sym (length-take-le n m (omega (arith, s.ends)))
-
--- the one type that is left
-pub last-type : (m : List ℕ) (t : ℕ) → Shaped m → t ≡ message_type m → (t ≡ rtm_new_addr → ⊥) → (t ≡ rtm_del_addr → ⊥) → (t ≡ rtm_new_route → ⊥) → t ≡ rtm_del_route
-last-type m t s e f g h =
-    four-types (message_type m) s.one_of-four (λ p. absurd (f (e ∙ p))) (λ p. absurd (g (e ∙ p))) (λ p. absurd (h (e ∙ p))) (λ p. e ∙ p)
-
-pub body_below : (m : List ℕ) (n at : ℕ) → ((i : ℕ) → get_or m i 0 < 256) → n ≡ message_length m → length (take (n - at) (drop at m)) < 4294967296
-body_below m n at h e = omega (arith, h 0, h 1, h 2, h 3, length-take (n - at) (drop at m))
+pub body_below : (m : List ℕ) → ((i : ℕ) → get_or m i 0 < 256) → length (body m) < 4294967296
+body_below m h =
+    let at = attributes_at (message_type m) in
+    omega (arith, h 0, h 1, h 2, h 3, length-take (message_length m - at) (drop at m))
 
 -- ---- the answers
-module _ (room up : ℕ) (m b : List ℕ) where
-  refused-by : (n : ℕ) → (n ≡ 0 → ⊥) → read_call room up m ≡ refusing n → Writes asked_by asked_of (read_call room up m) b b (Refused n)
-  refused-by n h e = rw e (record { answer = rw (ne_eqb n 0 h); says = refl; rows = put-no-rows b })
+module _ (room up : ℕ) (m w : List ℕ) where
+  pub refused-by : (r : Result Asked Refusal) (e : Refusal) (n : ℕ) → IsErr r × IsErrAnd r (λ x. x ≡ e) → number_of e ≡ n → n ≢ 0
+      → read_call room up m ≡ refusing n
+      → Refuses r (read_call room up m).number × ((asked_by r ≡ numbers (read_call room up m)) × (w ≡ put 0 (flat (read_call room up m).rows) w))
+  refused-by (Ok a) e n h f z q = absurd h.1
+  refused-by (Err x) e n h f z q =
+      let is : number_of x ≡ n = ap number_of h.1 ∙ f in
+      rw q ((is, z), ((λ i. record { number = is i; present = 0; value = 0; second = 0 }), put-no-rows w))
 
-  pub no_room : room < 49 → Writes asked_by asked_of (read_call room up m) b b (Refused 200)
+  pub no_room : leb 49 room ≡ false → read_call room up m ≡ refusing 200
   unfolding read_call
-  no_room h = refused-by 200 (λ z. omega arith) (rw (fails (leb 49 room) (λ e. omega (arith, leb-true 49 room e))))
+  no_room h = rw h
 
-  module _ (h : 49 ≤ room) where
-    pub not-read : (n : ℕ) → n ≡ refusal m → (n ≡ 0 → ⊥) → Writes asked_by asked_of (read_call room up m) b b (Refused n)
+  module _ (h : leb 49 room ≡ true) where
+    pub not-read : refusal m ≢ 0 → read_call room up m ≡ refusing (refusal m)
     unfolding read_call read
-    not-read n e z = refused-by n z (rw (le-leb 49 room h, ← e, ne_eqb n 0 z))
+    not-read z = let some_number : eqb (refusal m) 0 ≡ false = ne_eqb (refusal m) 0 z in rw (h, some_number)
 
-    pub is_read : {b' : List ℕ} {r : Asked} → refusal m ≡ 0 → r ≡ Request (message_type m) (length (request_in up m)) → b' ≡ put 0 (request_in up m) b
-        → Writes asked_by asked_of (read_call room up m) b b' r
+    pub is_read : refusal m ≡ 0 → read_call room up m ≡ requested (message_type m) (request_in up m)
     unfolding read_call read
-    is_read {b'} {r} z e f =
-        rw (le-leb 49 room h, eq-eqb (refusal m) 0 z, e) (record { answer = refl; says = refl; rows = f ∙ ap (λ (q : List ℕ). put 0 q b) (sym (flat-one (request_in up m))) })
+    is_read z = rw (h, eq-eqb (refusal m) 0 z)
 
 -- ---- the words written are as many as the reply says, and at most 49
 request-short : (up : ℕ) (m : List ℕ) (t : ℕ) (l : List Attribute) → length (request up m t l) ≤ 49

@@ -1,89 +1,61 @@
 // The call that reads a message off a socket into a request, on lent bytes and words. What is refused writes nothing.
 #![tactic(auto)]
 
-ghost use Rattle.std.specs.Prelude.{◌≡◌, ◌≤◌, length};
-ghost use Rattle.lists.specs.Lists.{put};
-ghost use Rattle.netlink.specs.Exactly.{Shaped};
-ghost use Rattle.netlink.specs.Reader.{message_type};
-ghost use Rattle.call_read.specs.Answer.{Writes};
+ghost use Rattle.std.specs.Prelude.{◌≡◌, ◌≤◌, ◌<◌, length};
+ghost use Rattle.lists.specs.Lists.{flat, put};
+ghost use Rattle.definition.specs.Call.{numbers};
+ghost use Rattle.refusal.specs.Refusal.{Refuses};
 ghost use Rattle.call_message.specs.Message.{read_call};
-ghost use Rattle.call_message.specs.Answer.{asked_by, asked_of};
-ghost use Rattle.call_message.specs.Laws.{request_in};
+ghost use Rattle.call_message.specs.Answer.{asked_by, request_of};
 
-use layout::{ADD_ROUTE4_WORDS, ADD_V4_WORDS, DEL_ROUTE4_WORDS, DEL_V4_WORDS};
-use netlink::codes;
+use layout::DEL_ROUTE4_WORDS;
+use netlink::MessageType;
+use netlink_refusal::Message;
+use refusal::{Refusal, unless};
 
-// What a reading answers: a refusal's number, or the message's type and the words of the request that it wrote.
+// What a reading answers: the message's type, and the words of the request that it wrote.
 #[derive(Clone, Copy)]
-pub enum Asked {
-    Refused(u32),
-    Request { kind: u32, words: u32 },
+pub struct Asked {
+    pub kind: MessageType,
+    pub words: u32,
 }
 
-// The request of a message that isn't refused. Only its own bytes are handed on.
-fn requested(message: &[u8], request: &mut [u32], up: u32) -> Asked
-    requires { Shaped message.now × (49 ≤ length request.old) }
-    ensures value { result ≡ Asked.Request (message_type message.now) (length (request_in up message.now)) }
-    ensures request_after { request.new ≡ put 0 (request_in up message.now) request.old }
+// A request at the front of the lent words; how many it has.
+fn write(request: &[u32], words: &mut [u32]) -> u32
+    requires { (length request.now ≤ length words.old) × (length request.now < 4294967296) }
+    ensures value { result ≡ length request.now }
+    ensures words_after { words.new ≡ put 0 request.now words.old }
 {
-    let end = netlink_refusal::message_length(message);
-    let t = netlink_refusal::message_type(message);
-    if t == codes::RTM_NEWADDR {
-        netlink_request::new_addr(
-            &message[..end],
-            &message[codes::ADDRESS_ATTRIBUTES_AT..end],
-            up,
-            request,
-        );
-        return Asked::Request {
-            kind: codes::RTM_NEWADDR as u32,
-            words: ADD_V4_WORDS as u32,
-        };
-    }
-    if t == codes::RTM_DELADDR {
-        netlink_request::del_addr(
-            &message[..end],
-            &message[codes::ADDRESS_ATTRIBUTES_AT..end],
-            request,
-        );
-        return Asked::Request {
-            kind: codes::RTM_DELADDR as u32,
-            words: DEL_V4_WORDS as u32,
-        };
-    }
-    if t == codes::RTM_NEWROUTE {
-        netlink_request::new_route(
-            &message[..end],
-            &message[codes::ROUTE_ATTRIBUTES_AT..end],
-            up,
-            request,
-        );
-        return Asked::Request {
-            kind: codes::RTM_NEWROUTE as u32,
-            words: ADD_ROUTE4_WORDS as u32,
-        };
-    }
-    netlink_request::del_route(
-        &message[..end],
-        &message[codes::ROUTE_ATTRIBUTES_AT..end],
-        request,
-    );
-    Asked::Request {
-        kind: codes::RTM_DELROUTE as u32,
-        words: DEL_ROUTE4_WORDS as u32,
+    words::store(words, 0, request);
+    request.len() as u32
+}
+
+// That of a message.
+#[tactic(auto, unfolding(netlink::specs::Reader::request))]
+fn request(message: Message, up: u32, words: &mut [u32]) -> u32
+    requires { (length message.body.now < 4294967296) × (49 ≤ length words.old) }
+    ensures value { result ≡ length (request_of up message.entry) }
+    ensures words_after { words.new ≡ put 0 (request_of up message.entry) words.old }
+{
+    match message.kind {
+        MessageType::NewAddr => write(&netlink_request::new_addr(message, up), words),
+        MessageType::DelAddr => write(&netlink_request::del_addr(message), words),
+        MessageType::NewRoute => write(&netlink_request::new_route(message, up), words),
+        MessageType::DelRoute => write(&netlink_request::del_route(message), words),
     }
 }
 
 // A message into the request that the base judges; `up` goes into the requests that have it.
-pub fn read(message: &[u8], request: &mut [u32], up: u32) -> Asked
-    ensures { Writes asked_by asked_of (read_call (length request.old) up message.now) request.old request.new result }
+pub fn read(message: &[u8], words: &mut [u32], up: u32) -> Result<Asked, Refusal>
+    ensures refuses { Refuses result (read_call (length words.old) up message.now).number }
+    ensures says { asked_by result ≡ numbers (read_call (length words.old) up message.now) }
+    ensures words_after { words.new ≡ put 0 (flat (read_call (length words.old) up message.now).rows) words.old }
 {
-    if request.len() < DEL_ROUTE4_WORDS {
-        return Asked::Refused(200);
-    }
-    let n = netlink_refusal::refusal(message);
-    if n != 0 {
-        return Asked::Refused(n);
-    }
-    requested(message, request, up)
+    unless(DEL_ROUTE4_WORDS <= words.len(), Refusal::WrongLength)?;
+    let checked = netlink_refusal::check(message)?;
+    let count = request(checked, up, words);
+    Ok(Asked {
+        kind: checked.kind,
+        words: count,
+    })
 }

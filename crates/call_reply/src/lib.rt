@@ -141,16 +141,16 @@ pub fn prefix(a: Result<u32, Refusal>) -> Reply
     }
 }
 
-pub fn asked(a: Asked) -> Reply
+pub fn asked(a: Result<Asked, Refusal>) -> Reply
     ensures { result ≡ reply_from (asked_by a) }
 {
     match a {
-        Asked::Refused(n) => refused(n),
-        Asked::Request { kind, words } => Reply {
+        Err(e) => refused(e.number()),
+        Ok(a) => Reply {
             number: 0,
             present: 0,
-            value: kind,
-            second: words,
+            value: u32::from(a.kind),
+            second: a.words,
         },
     }
 }

@@ -66,7 +66,7 @@ fn change(
     let answer = call_dispatch::change(code, &mut s, &q[0..size], clock, &mut e);
     let kept = still(code, answer.number, answer.value);
     give_back(kept, &s, state);
-    rows::give_rows(&e, EVENT_WORDS, answer.value, events);
+    given::give_rows(&e, EVENT_WORDS, answer.value, events);
     answer
 }
 
@@ -90,7 +90,7 @@ fn change_one(code: u32, state: &mut [u8], request: &[u8], size: usize, events: 
     let answer = call_dispatch::change_one(code, &mut s, &q[0..size], EVENT_BUFFER, &mut row);
     let kept = still(code, answer.number, answer.value);
     give_back(kept, &s, state);
-    rows::give_rows(&row, EVENT_WORDS, answer.value, events);
+    given::give_rows(&row, EVENT_WORDS, answer.value, events);
     answer
 }
 

@@ -5,11 +5,11 @@
 use layout::{ADDRESS_WORDS, EVENT_BUFFER, LISTING_BUFFER, ROUTE_WORDS, STATE_WORDS};
 
 mod changing;
+mod given;
 mod masks;
 mod messages;
 mod on_words;
 mod reading;
-mod rows;
 
 const STATE_BYTES: usize = 4 * STATE_WORDS;
 

@@ -27,7 +27,7 @@ pub extern "C" fn interface4_dump4(state: &[u8], listing: &mut [u8]) -> Reply
     endian::words_of(state, &mut s);
     let mut l = [0u32; LISTING_BUFFER];
     let answer = call_dispatch::list(&s, &mut l);
-    rows::give_rows(&l, ROUTE_WORDS, answer.value, listing);
+    given::give_rows(&l, ROUTE_WORDS, answer.value, listing);
     answer
 }
 
@@ -43,7 +43,7 @@ fn find(code: u32, state: &[u8], a: u32, b: u32, c: u32, row: &mut [u8]) -> Repl
     endian::words_of(state, &mut s);
     let mut l = [0u32; ROUTE_WORDS];
     let answer = call_dispatch::find(code, &s, a, b, c, &mut l);
-    rows::give_rows(&l, ROUTE_WORDS, (answer.number == 0) as u32, row);
+    given::give_rows(&l, ROUTE_WORDS, (answer.number == 0) as u32, row);
     answer
 }
 

@@ -5,6 +5,7 @@
 ghost use Rattle.std.specs.Prelude.{◌≤◌, length};
 
 use call_message::Asked;
+use refusal::Refusal;
 use std::io::Read;
 
 // The words of the buffer of which a part is lent, and what each of them holds.
@@ -22,25 +23,25 @@ fn say(rt: &impl Print, text: &str) {
     let _ = print!(rt; "{text}");
 }
 
-fn say_asked(rt: &impl Print, asked: Asked) {
+fn say_asked(rt: &impl Print, asked: Result<Asked, Refusal>) {
     match asked {
-        Asked::Refused(n) => {
-            let _ = print!(rt; "{n}");
+        Err(e) => {
+            let _ = print!(rt; "{}", e.number());
         }
-        Asked::Request { kind, words } => {
-            let _ = print!(rt; "type {kind}, {words} words");
+        Ok(asked) => {
+            let _ = print!(rt; "type {}, {} words", u32::from(asked.kind), asked.words);
         }
     }
 }
 
-fn say_line(rt: &impl Print, i: u32, asked: Asked, check: u32) {
+fn say_line(rt: &impl Print, i: u32, asked: Result<Asked, Refusal>, check: u32) {
     let _ = print!(rt; "{i}: ");
     say_asked(rt, asked);
     let _ = print!(rt; ", check {check}\n");
 }
 
 // The reading with so many words of the request lent.
-fn read_lent(message: &[u8], request: &mut [u32], lent: usize, up: u32) -> Asked
+fn read_lent(message: &[u8], request: &mut [u32], lent: usize, up: u32) -> Result<Asked, Refusal>
     requires { lent ≤ length request.old }
 {
     call_message::read(message, &mut request[..lent], up)

@@ -4,3 +4,4 @@ pub mod Reader
 pub mod Laws
 pub mod Exactly
 pub mod Cases
+pub mod Types

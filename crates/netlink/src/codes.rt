@@ -1,13 +1,13 @@
 // As netlink(7), rtnetlink(7) and the Linux headers have them (specs/Codes).
 
 // The header's types.
-pub const RTM_NEWADDR: usize = 20;
+pub const RTM_NEWADDR: u16 = 20;
 
-pub const RTM_DELADDR: usize = 21;
+pub const RTM_DELADDR: u16 = 21;
 
-pub const RTM_NEWROUTE: usize = 24;
+pub const RTM_NEWROUTE: u16 = 24;
 
-pub const RTM_DELROUTE: usize = 25;
+pub const RTM_DELROUTE: u16 = 25;
 
 pub const AF_INET: u8 = 2;
 
@@ -57,10 +57,3 @@ pub const RTA_TABLE: usize = 15;
 
 // The greatest type of a metric.
 pub const RTAX_MAX: usize = 17;
-
-// What refuses a message: a length; another type or family; the size of an attribute, or a new address without its local one.
-pub const BAD_LENGTH: u32 = 204;
-
-pub const OTHER_TYPE: u32 = 205;
-
-pub const WRONG_SIZE: u32 = 206;

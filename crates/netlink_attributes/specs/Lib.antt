@@ -1,3 +1,7 @@
 pub mod Steps
 pub mod StepLaws
-pub mod TableLaws
+pub mod ChainLaws
+pub mod Slots
+pub mod SlotLaws
+pub mod LabelLaws
+pub mod ShortLaws

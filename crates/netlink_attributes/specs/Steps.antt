@@ -1,34 +1,26 @@
 -- What the functions of the attributes answer.
-use Rattle.std.specs.Prelude.{ℕ, ◌+◌, ◌-◌, ◌≤◌, ◌<◌, min, ◌≡◌, Bool, true, false, cond, ◌&&◌, List, map, eqb, length, get_or, take, drop}
-use Rattle.std.proofs.Math.Option.{Option, none, some}
+use Rattle.std.specs.Prelude.{ℕ, ◌≡◌, Bool, ◌&&◌, List, Option, None, Some}
 use Rattle.lists.specs.Lists.{all}
-use Rattle.netlink_attributes.specs.declared.First as F
-use Rattle.netlink_attributes.specs.declared.First.TheVariants as Is
+use Rattle.netlink.specs.Attributes.{more, parsed, attributes, right}
+use Rattle.netlink.specs.Attributes as Reader
+use Rattle.netlink.specs.Laws.{end}
 use Rattle.netlink.specs.Reader.{nested_right}
-use Rattle.netlink.specs.Attributes.{Attribute, u16, padded, whole, first, attributes, right, last}
+use Rattle.netlink_attributes.specs.declared.Attribute.{Attribute}
+use Rattle.netlink_attributes.specs.declared.Attributes.{Attributes}
 
-abbrev pub pick_first : Bool → F.First → F.First → F.First
-pick_first true a b = a
-pick_first false a b = b
+-- an attribute that was read, as the definitions have it
+abbrev pub shown : Attribute → Reader.Attribute
+shown a = record { code = a.code; payload = a.payload.now }
 
-unfoldable pub first_of : List ℕ → F.First
-first_of l = pick_first (whole l) (Is.Attribute (first l).code (u16 l 0 - 4) (min (padded (u16 l 0)) (length l))) Is.Nothing
+-- the attributes that are still to come
+abbrev pub ahead : Attributes → List Reader.Attribute
+ahead s = attributes s.left.now
+
+-- the first attribute is given, or none begins and nothing moves
+abbrev pub Gives : Attributes → Option Attribute → Attributes → Type 0
+Gives s None t = (parsed s.left.now ≡ end s.left.now) × (t.left.now ≡ s.left.now)
+Gives s (Some a) t = parsed s.left.now ≡ more (shown a) (parsed t.left.now)
 
 -- every length is right, in the metrics too
 abbrev pub right_nested : List ℕ → Bool
 right_nested l = right l && all nested_right (attributes l)
-
--- ---- all in one pass: codes above 17 count as 18
-abbrev pub lowered : Attribute → Attribute
-lowered a = record { code = min a.code 18; payload = a.payload }
-
-abbrev pub slots : List ℕ → List Attribute
-slots l = map lowered (attributes l)
-
-abbrev pub placed : List ℕ → ℕ → ℕ → Option (List ℕ)
-placed l start size = cond (eqb start 0) none (some (take size (drop start l)))
-
--- each place has the last payload of its code, and lies within the bytes
-pub record Placed (l starts sizes : List ℕ) : Type 0 where
-  pub is : (k : ℕ) → k < 19 → placed l (get_or starts k 0) (get_or sizes k 0) ≡ last k (slots l)
-  pub inside : (k : ℕ) → get_or starts k 0 + get_or sizes k 0 ≤ length l

@@ -1,3 +1,3 @@
 pub mod Laws
-pub mod Shape
-pub mod RefusalLaws
+pub mod Parts
+pub mod ShapeLaws

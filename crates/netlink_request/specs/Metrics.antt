@@ -1,55 +1,15 @@
 -- The metrics, one after the other: as words by their types, and as pairs.
 -- Assumes nothing.
-use Rattle.std.specs.Prelude.{ℕ, zero, suc, ◌+◌, ◌-◌, ◌*◌, ◌/◌, ◌≤◌, ◌<◌, min, ◌≡◌, refl, Bool, true, false, cond, ◌||◌, List, [], ◌∷◌, ◌++◌, map, eqb, ltb, length, get_or, set, take, drop, replicate}
-use Rattle.std.proofs.Common.{sym, ap, ◌∙◌, append-nil, zero-add, arith, length-append, length-take, take_all, take-suc, eqb-true, eq-eqb, ne_eqb, ltb-true, lt-ltb}
+use Rattle.std.specs.Prelude.{ℕ, zero, suc, ◌+◌, ◌-◌, ◌*◌, ◌/◌, ◌≤◌, ◌<◌, ◌≡◌, refl, Bool, true, false, cond, List, [], ◌∷◌, ◌++◌, map, length, get_or, set, take, drop, replicate}
+use Rattle.std.proofs.Common.{sym, ap, ◌∙◌, append-nil, zero-add, arith, length-append, length-take, take_all, take-suc}
 use Rattle.std.proofs.Math.Option.{Option, none, some}
 use Rattle.std.proofs.Math.Seq.{drop-nil}
 use Rattle.lists.specs.Lists.{each, keep, put, zeros, pad}
-use Rattle.lists.specs.Bools.{same_test}
 use Rattle.lists.specs.Keep.{each_append}
 use Rattle.lists.specs.Rows.{length-put}
 use Rattle.lists.specs.Put.{put-none, put-behind, put-take, put_whole}
-use Rattle.netlink.specs.Attributes.{Attribute, attributes, last_after, last}
+use Rattle.netlink.specs.Attributes.{Attribute, last}
 use Rattle.netlink.specs.Reader.{given, types, metric, unknown_metric, metrics_asked, pair, pairs_asked}
-use Rattle.netlink_attributes.specs.Steps.{lowered, placed, Placed}
-
--- ---- the place that all types above 17 share
-above : (c : ℕ) → eqb (min c 18) 18 ≡ ltb 17 c
-above c =
-    same_test (eqb (min c 18) 18) (ltb 17 c)
-    (λ e. lt-ltb 17 c (omega (arith, eqb-true (min c 18) 18 e)))
-    (λ e. eq-eqb (min c 18) 18 (omega (arith, ltb-true 17 c e)))
-
-shared : (l : List Attribute) (o : Option (List ℕ)) → given (last_after 18 o (map lowered l)) ≡ given o || unknown_metric l
-unfolding last_after
-shared [] o = none_more (given o)
-  where
-    none_more : (b : Bool) → b ≡ b || false
-    none_more true = refl
-    none_more false = refl
-shared (a ∷ l) o =
-    shared l (cond (eqb (min a.code 18) 18) (some a.payload) o)
-    ∙ ap (λ (b : Bool). given (cond b (some a.payload) o) || unknown_metric l) (above a.code)
-    ∙ one (ltb 17 a.code) (given o) (unknown_metric l) refl
-  where
-    one : (b g u : Bool) → given o ≡ g → given (cond b (some a.payload) o) || u ≡ g || (b || u)
-    one true true u e = refl
-    one true false u e = refl
-    one false g u e = ap (λ (x : Bool). x || u) e
-
-module _ (l starts sizes : List ℕ) (p : Placed l starts sizes) where
-  unknown-is : given (placed l (get_or starts 18 0) (get_or sizes 18 0)) ≡ unknown_metric (attributes l)
-  unknown-is = ap given (p.is 18 (omega arith)) ∙ shared (attributes l) none
-
-  pub known : get_or starts 18 0 ≡ 0 → unknown_metric (attributes l) ≡ false
-  known e =
-      sym unknown-is
-      ∙ ap (λ (b : Bool). given (cond b none (some (take (get_or sizes 18 0) (drop (get_or starts 18 0) l))))) (eq-eqb (get_or starts 18 0) 0 e)
-
-  pub unknown : (get_or starts 18 0 ≡ 0 → ⊥) → unknown_metric (attributes l) ≡ true
-  unknown e =
-      sym unknown-is
-      ∙ ap (λ (b : Bool). given (cond b none (some (take (get_or sizes 18 0) (drop (get_or starts 18 0) l))))) (ne_eqb (get_or starts 18 0) 0 e)
 
 -- ---- the types rise by one
 rising : ℕ → ℕ → List ℕ
@@ -103,10 +63,6 @@ words-ended l w₀ w k n h e u =
 pub words-refused : (l : List Attribute) → unknown_metric l ≡ true → set (replicate 18 0) 0 22 ≡ metrics_asked l
 unfolding metrics_asked zeros
 words-refused l u = sym (ap (λ (b : Bool). cond b (22 ∷ zeros 17) (0 ∷ map (metric l) types)) u)
-
-pub words-none : replicate 18 0 ≡ metrics_asked []
-unfolding metrics_asked last_after
-words-none = refl
 
 -- ---- the pairs
 abbrev pub pairs_of : List Attribute → List ℕ → List ℕ
@@ -203,7 +159,3 @@ pairs-ended l w at k h e f u =
 pub pairs-refused : (l : List Attribute) → unknown_metric l ≡ true → replicate 36 0 ≡ pairs_asked l
 unfolding pairs_asked zeros
 pairs-refused l u = sym (ap (λ (b : Bool). cond b (zeros 36) (1 ∷ length (keep (is_given l) types) ∷ pad 34 (pairs_of l types))) u)
-
-pub pairs-none : set (replicate 36 0) 0 1 ≡ pairs_asked []
-unfolding pairs_asked last_after pad zeros
-pairs-none = refl

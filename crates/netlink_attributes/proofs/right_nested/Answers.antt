@@ -1,62 +1,17 @@
-use mathlib.Core.Path.{refl, sym, ◌∙◌}
-use native.Mathlib.Omega.{arith}
-use Rattle.netlink_attributes.specs.StepLaws.{At, found, over, nested-more, nested-end}
+use Rattle.std.proofs.Common.{rules, sym, ap, ◌∙◌, ◌&&◌, Bool, List, ℕ}
+use Rattle.std.proofs.lemmas.Iterator.Search.{all_from_yields_List}
+use borrow.Author.Tests.{tests}
+use Rattle.lists.specs.Lists.{all}
+use Rattle.netlink.specs.Attributes.{attributes}
+use Rattle.netlink.specs.Reader.{nested_right}
+use Rattle.netlink_attributes.specs.Steps.{ahead}
+use Rattle.netlink_attributes.specs.ChainLaws.{gives}
+use Rattle.lists.specs.Library.{all_list}
 use Rattle.netlink_attributes.proofs.right_nested.Goals as goal
 
-pub loop-code-init : goal.loop-code-init
-loop-code-init c = rw c.start-cursor.ensures (omega arith, refl)
-
-pub returns-in_default : goal.returns-in_default
-returns-in_default c =
-    sym (c.loop-code.invariant.1 ∙ nested-end c.args.l.now c.loop-code.cursor.at (over c.args.l.now c.loop-code.cursor.at c.attribute.result c.attribute.ensures c.in_default.is))
-
-pub overflow_add-from : goal.overflow_add-from
-overflow_add-from c =
-    let stands : At c.args.l.now c.loop-code.cursor.at
-    c.in-Attribute.code c.in-Attribute.size c.in-Attribute.next = found c.args.l.now c.loop-code.cursor.at _ _ _ c.attribute.result c.loop-code.invariant.0 c.attribute.ensures c.in-Attribute.is in
-    omega (arith, stands.payload-inside)
-
-pub overflow_add-to : goal.overflow_add-to
-overflow_add-to c =
-    let stands : At c.args.l.now c.loop-code.cursor.at
-    c.in-Attribute.code c.in-Attribute.size c.in-Attribute.next = found c.args.l.now c.loop-code.cursor.at _ _ _ c.attribute.result c.loop-code.invariant.0 c.attribute.ensures c.in-Attribute.is in
-    omega (arith, stands.payload-inside)
-
-pub slice_bounds-nested-count : goal.slice_bounds-nested-count
-slice_bounds-nested-count c =
-    let stands : At c.args.l.now c.loop-code.cursor.at
-    c.in-Attribute.code c.in-Attribute.size c.in-Attribute.next = found c.args.l.now c.loop-code.cursor.at _ _ _ c.attribute.result c.loop-code.invariant.0 c.attribute.ensures c.in-Attribute.is in
-    omega (arith, stands.payload-inside)
-
-pub slice_bounds-nested-end : goal.slice_bounds-nested-end
-slice_bounds-nested-end c =
-    let stands : At c.args.l.now c.loop-code.cursor.at
-    c.in-Attribute.code c.in-Attribute.size c.in-Attribute.next = found c.args.l.now c.loop-code.cursor.at _ _ _ c.attribute.result c.loop-code.invariant.0 c.attribute.ensures c.in-Attribute.is in
-    omega (arith, stands.payload-inside)
-
-pub returns-then-not-nested : goal.returns-then-not-nested
-returns-then-not-nested c =
-    let stands : At c.args.l.now c.loop-code.cursor.at
-    c.in-Attribute.code c.in-Attribute.size c.in-Attribute.next = found c.args.l.now c.loop-code.cursor.at _ _ _ c.attribute.result c.loop-code.invariant.0 c.attribute.ensures c.in-Attribute.is in
-    sym (c.loop-code.invariant.1 ∙ nested-more _ _ _ _ _ _ stands c.nested.ensures ∙ rw c.if-not-nested.true)
-
-pub past-cursor-requires : goal.past-cursor-requires
-past-cursor-requires c =
-    let stands : At c.args.l.now c.loop-code.cursor.at
-    c.in-Attribute.code c.in-Attribute.size c.in-Attribute.next = found c.args.l.now c.loop-code.cursor.at _ _ _ c.attribute.result c.loop-code.invariant.0 c.attribute.ensures c.in-Attribute.is in
-    omega (arith, stands.inside)
-
-pub loop-code-smaller : goal.loop-code-smaller
-loop-code-smaller c =
-    let stands : At c.args.l.now c.loop-code.cursor.at
-    c.in-Attribute.code c.in-Attribute.size c.in-Attribute.next = found c.args.l.now c.loop-code.cursor.at _ _ _ c.attribute.result c.loop-code.invariant.0 c.attribute.ensures c.in-Attribute.is in
-    omega (arith, stands.inside, stands.ahead)
-
-pub loop-code-preserved : goal.loop-code-preserved
-loop-code-preserved c =
-    let stands : At c.args.l.now c.loop-code.cursor.at
-    c.in-Attribute.code c.in-Attribute.size c.in-Attribute.next = found c.args.l.now c.loop-code.cursor.at _ _ _ c.attribute.result c.loop-code.invariant.0 c.attribute.ensures c.in-Attribute.is in
-    rw c.past-cursor.ensures (
-      stands.inside,
-      c.loop-code.invariant.1 ∙ nested-more _ _ _ _ _ _ stands c.nested.ensures ∙ rw c.if-not-nested.false,
-    )
+pub returns-then-right : goal.returns-then-right
+returns-then-right c =
+    all_from_yields_List nested_right _ _ c.all.result c.all.ensures.ran (gives c.of.result) (λ x b q k. search (rules, tests))
+    ∙ sym (all_list nested_right (ahead c.of.result))
+    ∙ ap (λ (l : List ℕ). all nested_right (attributes l)) c.of.ensures
+    ∙ ap (λ (b : Bool). b && all nested_right (attributes c.args.bytes.now)) (sym c.if-right.true ∙ c.right.ensures)

@@ -1,25 +1,5 @@
-use Prim.Native.Nat.{◌-◌}
-use mathlib.Core.Path.{ap, ◌∙◌}
-use mathlib.Core.List.{◌∷◌, []}
-use native.Mathlib.Omega.{arith}
-use Rattle.lists.specs.Lists.{put}
 use Rattle.lists.specs.Put.{put-none}
-use Rattle.netlink_request.specs.Laws.{missing, present}
 use Rattle.netlink_request.proofs.append.Goals as goal
 
-pub returns-then-start-eq0 : goal.returns-then-start-eq0
-returns-then-start-eq0 c =
-    rw (missing c.args.l.now c.args.starts.now c.args.sizes.now c.requires.0 c.args.k c.requires.2 c.if-start-eq0.true) record { value = omega arith; words_after = put-none c.args.at c.args.words.now }
-
-pub overflow_add-end : goal.overflow_add-end
-overflow_add-end c =
-    omega (arith, c.requires.0.inside c.args.k)
-
-pub slice_bounds-word-end : goal.slice_bounds-word-end
-slice_bounds-word-end c =
-    omega (arith, c.requires.0.inside c.args.k)
-
-pub returns : goal.returns
-returns c =
-    rw (present c.args.l.now c.args.starts.now c.args.sizes.now c.requires.0 c.args.k c.requires.2 c.if-start-eq0.false)
-    record { value = omega arith; words_after = c.store.ensures ∙ ap (λ v. put c.args.at ((c.args.k - 1) ∷ v ∷ []) c.args.words.now) c.word-value.ensures }
+pub returns-in_default-clause-words_after : goal.returns-in_default-clause-words_after
+returns-in_default-clause-words_after c = rw (← c.in_default.ensures) (put-none c.args.at c.args.words.now)

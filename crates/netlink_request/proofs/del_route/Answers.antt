@@ -1,13 +1,12 @@
-use mathlib.Core.Path.{ap, ◌∙◌}
-use mathlib.Core.List.{List}
-use Prim.Native.Nat.{ℕ}
-use Rattle.lists.specs.Lists.{put}
+use Rattle.std.proofs.Common.{ap, ◌∙◌, List, ℕ}
 use Rattle.netlink.specs.Attributes.{attributes}
+use Rattle.netlink.specs.Reader.{metrics_in, route_words}
 use Rattle.netlink_request.specs.Laws.{del_route-laid}
 use Rattle.netlink_request.proofs.del_route.Goals as goal
 
 pub returns : goal.returns
 returns c =
-    c.lay.ensures
-    ∙ ap (λ (x : List ℕ). put 0 x c.args.request.now)
-    (del_route-laid c.args.m.now (attributes c.args.l.now) c.route_front-front.ensures c.route_back-way.ensures c.pairs_asked-back.ensures)
+    let m = c.args.message.bytes.now in
+    del_route-laid m (attributes c.args.message.body.now) _ c.lay.ensures
+    (c.route_words-route.ensures ∙ ap (λ (l : List ℕ). route_words m (attributes l)) c.of-fields.ensures) c.pairs_asked-pairs.ensures
+    (c.nested.ensures ∙ ap (λ (l : List ℕ). metrics_in (attributes l)) c.of-fields.ensures)

@@ -11,4 +11,4 @@ returns c =
     let third = second + length c.args.b.now in
     c.store-3.ensures
     ∙ ap (put third c.args.c.now) (c.store-2.ensures ∙ ap (put second c.args.b.now) c.store.ensures)
-    ∙ laid c.args.a.now c.args.b.now c.args.c.now c.args.request.now c.requires
+    ∙ laid c.args.a.now c.args.b.now c.args.c.now c.args.row.now c.requires

@@ -1,20 +1,21 @@
-use native.Mathlib.Omega.{arith}
-use Rattle.netlink_request.specs.Laws.{missing, present}
-use Rattle.netlink_request.specs.Metrics.{words-none}
+use Rattle.std.proofs.Common.{arith, refl, sym, ◌∙◌, length-set}
+use Rattle.netlink.specs.Attributes.{attributes}
+use Rattle.netlink_request.specs.Metrics.{words-begun, words_more, words-ended, words-refused}
 use Rattle.netlink_request.proofs.metrics_asked.Goals as goal
 
-pub returns-then-start-eq0 : goal.returns-then-start-eq0
-returns-then-start-eq0 c =
-    rw (missing c.args.l.now c.args.starts.now c.args.sizes.now c.requires 8 (omega arith) c.if-start-eq0.true) words-none
+pub returns-then-has_unknown : goal.returns-then-has_unknown
+returns-then-has_unknown c = words-refused (attributes c.args.metrics.now.bytes.now) (sym c.has_unknown.ensures ∙ c.if-has_unknown.true)
 
-pub overflow_add-end : goal.overflow_add-end
-overflow_add-end c =
-    omega (arith, c.requires.inside 8)
+pub loop-k-init : goal.loop-k-init
+loop-k-init c = record { long = refl; so_far = words-begun (attributes c.args.metrics.now.bytes.now) }
 
-pub slice_bounds-metrics-end : goal.slice_bounds-metrics-end
-slice_bounds-metrics-end c =
-    omega (arith, c.requires.inside 8)
+pub loop-k-preserved : goal.loop-k-preserved
+loop-k-preserved c =
+    record {
+      long = rw length-set c.loop-k.invariant.long;
+      so_far = words_more (attributes c.args.metrics.now.bytes.now) _ c.loop-k.words c.loop-k.k c.number.result refl (omega arith) (omega arith) c.loop-k.invariant.so_far c.number.ensures;
+    }
 
 pub returns : goal.returns
 returns c =
-    rw (present c.args.l.now c.args.starts.now c.args.sizes.now c.requires 8 (omega arith) c.if-start-eq0.false) c.metrics.ensures
+    words-ended (attributes c.args.metrics.now.bytes.now) _ _ c.loop-k.k refl (omega arith) c.loop-k.invariant.so_far (sym c.has_unknown.ensures ∙ c.if-has_unknown.false)

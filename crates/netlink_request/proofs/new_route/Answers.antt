@@ -1,13 +1,12 @@
-use mathlib.Core.Path.{ap, ◌∙◌}
-use mathlib.Core.List.{List}
-use Prim.Native.Nat.{ℕ}
-use Rattle.lists.specs.Lists.{put}
+use Rattle.std.proofs.Common.{ap, ◌∙◌, List, ℕ}
 use Rattle.netlink.specs.Attributes.{attributes}
+use Rattle.netlink.specs.Reader.{metrics_in, route_words}
 use Rattle.netlink_request.specs.Laws.{new_route-laid}
 use Rattle.netlink_request.proofs.new_route.Goals as goal
 
 pub returns : goal.returns
 returns c =
-    c.lay.ensures
-    ∙ ap (λ (x : List ℕ). put 0 x c.args.request.now)
-    (new_route-laid c.args.up c.args.m.now (attributes c.args.l.now) c.route_front-front.ensures c.route_back-way.ensures c.new_route_back-back.ensures)
+    let m = c.args.message.bytes.now in
+    new_route-laid c.args.up m (attributes c.args.message.body.now) _ c.lay.ensures
+    (c.route_words-route.ensures ∙ ap (λ (l : List ℕ). route_words m (attributes l)) c.of-fields.ensures) c.word.ensures c.half.ensures c.metrics_asked-metrics.ensures
+    (c.nested.ensures ∙ ap (λ (l : List ℕ). metrics_in (attributes l)) c.of-fields.ensures)

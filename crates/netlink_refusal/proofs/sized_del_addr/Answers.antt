@@ -1,4 +1,0 @@
-use Rattle.netlink_refusal.proofs.sized_del_addr.Goals as goal
-
-pub returns : goal.returns
-returns c = cc
