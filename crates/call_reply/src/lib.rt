@@ -12,8 +12,8 @@ ghost use Rattle.call_reply.specs.Answer.{reply_from, reply_of, prefix_by};
 use call_change::Done;
 use call_message::Asked;
 use call_read::{Chosen, Found, Listed, Local, Sourced};
-use refusal::Refusal;
 use life::Left;
+use refusal::Refusal;
 
 // The number is 0, or the refusal's number and then the rest is 0.
 #[repr(C)]
