@@ -12,6 +12,7 @@ use layout::{
     ADD_ROUTE4_WORDS, ADD_V4_WORDS, DEL_ROUTE4_WORDS, DEL_V4_WORDS, add_route4, add_v4, address,
     del_route4, del_v4, route,
 };
+use row_address::Label;
 
 // A check's number where it fails, 0 where it passes.
 fn unless(passes: bool, n: u32) -> u32
@@ -68,13 +69,16 @@ pub fn fit_add_v4(q: &[u32]) -> u32
         & row_address::fit_optional(q[address::BROADCAST_PRESENT], q[address::BROADCAST])
         & (q[address::SCOPE] < 256)
         & (q[address::PROTO] < 256)
-        & row_address::fit_label(
-            q[address::LABEL_LENGTH],
-            q[address::LABEL],
-            q[address::LABEL_1],
-            q[address::LABEL_2],
-            q[address::LABEL_3],
-        )
+        & Label {
+            len: q[address::LABEL_LENGTH],
+            words: [
+                q[address::LABEL],
+                q[address::LABEL_1],
+                q[address::LABEL_2],
+                q[address::LABEL_3],
+            ],
+        }
+        .fits()
         & (q[add_v4::REPLACE] <= 1)
         & (q[add_v4::UP] <= 1);
     let lasts = (q[add_v4::VALID] != 0) & (q[add_v4::PREFERRED] <= q[add_v4::VALID]);
@@ -91,13 +95,16 @@ pub fn fit_del_v4(q: &[u32]) -> u32
         & row_address::fit_optional(q[del_v4::LOCAL_PRESENT], q[del_v4::LOCAL])
         & row_address::fit_optional(q[del_v4::ADDRESS_PRESENT], q[del_v4::ADDRESS])
         & row_address::fit_optional(q[del_v4::LABEL_PRESENT], q[del_v4::LABEL_LENGTH])
-        & row_address::fit_label(
-            q[del_v4::LABEL_LENGTH],
-            q[del_v4::LABEL],
-            q[del_v4::LABEL_1],
-            q[del_v4::LABEL_2],
-            q[del_v4::LABEL_3],
-        );
+        & Label {
+            len: q[del_v4::LABEL_LENGTH],
+            words: [
+                q[del_v4::LABEL],
+                q[del_v4::LABEL_1],
+                q[del_v4::LABEL_2],
+                q[del_v4::LABEL_3],
+            ],
+        }
+        .fits();
     unless(fit, 202)
 }
 

@@ -7,4 +7,4 @@ use Rattle.request_fit.proofs.fit_add_v4.Goals as goal
 pub returns : goal.returns
 unfolding fit_add_v4
 returns c =
-    λ h. c.add_v4_refusal.ensures ∙ rw (c.fit_optional.ensures, c.fit_label.ensures)
+    λ h. c.add_v4_refusal.ensures ∙ rw (c.fit_optional.ensures, c.fits.ensures)

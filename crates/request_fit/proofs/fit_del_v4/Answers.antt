@@ -9,4 +9,4 @@ unfolding fit_del_v4
 returns c =
     λ h.
     c.unless.ensures
-    ∙ rw (c.fit_optional.ensures, c.fit_optional-2.ensures, c.fit_optional-3.ensures, c.fit_label.ensures)
+    ∙ rw (c.fit_optional.ensures, c.fit_optional-2.ensures, c.fit_optional-3.ensures, c.fits.ensures)
