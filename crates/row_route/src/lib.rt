@@ -1,7 +1,7 @@
 // A route row: its record, whether it is fit, and its place in the order of routes.
 #![tactic(auto)]
 
-ghost use Rattle.std.specs.Prelude.{◌≡◌, ◌≤◌, eqb, length, true};
+ghost use Rattle.std.specs.Prelude.{◌≡◌, ◌≤◌, eqb, true};
 ghost use Rattle.prefix.specs.Mask.{host_bits};
 ghost use Rattle.layout.specs.Route.{fit_route, before};
 ghost use Rattle.row_route.specs.Route4.{route4_of, row_of};
@@ -114,8 +114,7 @@ pub fn fit_route(r: &[u32]) -> bool
 }
 
 // The place of a is before that of b. Most rows differ in their destinations, so these are asked first.
-pub fn before(a: &[u32], b: &[u32]) -> bool
-    requires { (length a.now ≡ 32) × (length b.now ≡ 32) }
+pub fn before(a: &RouteRow, b: &RouteRow) -> bool
     ensures { result ≡ before a.now b.now }
 {
     if a[route::DST] != b[route::DST] {

@@ -109,9 +109,8 @@ pub struct Alike {
 }
 
 // Among the rows of a run, which are all that it is lent.
-pub fn alike4(rows: &[u32], n: usize, new: &[u32]) -> Alike
+pub fn alike4(rows: &[u32], n: usize, new: &RouteRow) -> Alike
     requires rows_len { (length rows.now ≡ 32 * n) × Lays 32 fit_route rows.now }
-    requires len { length new.now ≡ 32 }
     ensures run { (l : List Row) → Laid 32 fit_route rows.now l → ordered l ≡ true → Run new.now l result.start result.end result.there }
     ensures start_le_end { (result.start ≤ result.end) × (result.end ≤ n) }
 {
@@ -120,7 +119,7 @@ pub fn alike4(rows: &[u32], n: usize, new: &[u32]) -> Alike
     let mut i = 0usize;
     while i < n {
         let at = ROUTE_WORDS * i;
-        let r = &rows[at..at + ROUTE_WORDS];
+        let r: &RouteRow = rows[at..at + ROUTE_WORDS].as_array().unwrap();
         if row_route::before(new, r) {
             return Alike {
                 start: start,
@@ -204,9 +203,8 @@ fn among(flags: u32, start: usize, end: usize, there: bool, first: bool) -> Plan
 }
 
 // Behind the search only rows of the run are read.
-fn plan4(rows: &[u32], n: usize, new: &[u32], flags: u32) -> Plan
+fn plan4(rows: &[u32], n: usize, new: &RouteRow, flags: u32) -> Plan
     requires rows_len { (length rows.now ≡ 32 * n) × Lays 32 fit_route rows.now }
-    requires len { length new.now ≡ 32 }
     ensures placed { placed n result }
     ensures result_value { (l : List Row) → Laid 32 fit_route rows.now l → ordered l ≡ true → planned new.now l result ≡ insert4 new.now flags l }
 {
