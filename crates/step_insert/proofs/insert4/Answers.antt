@@ -1,6 +1,5 @@
 use Rattle.step_insert.specs.Plan.{in_order, add_place, replace_place, into-full, into-put, into_replaced, into-kept, into-refused}
 use Rattle.state.specs.Represents.{sizes-valid, count-routes}
-use Rattle.definition.specs.Preservation.Fit.{length-route}
 use native.Mathlib.Omega.{arith}
 use Rattle.state_read.specs.Parts.{ready_routes, of_routes}
 use Rattle.step_insert.proofs.insert4.Goals as goal
@@ -11,7 +10,7 @@ route_count-n-requires c =
 
 pub plan4-plan-requires : goal.plan4-plan-requires
 plan4-plan-requires c =
-    record { rows_len = ready_routes _ _ c.requires.represents_some c.routes.ensures c.route_count-n.ensures; len = length-route c.args.new.now c.requires.value }
+    record { rows_len = ready_routes _ _ c.requires.represents_some c.routes.ensures c.route_count-n.ensures }
 
 pub returns-then-n-eq-ROUTE_LIMIT : goal.returns-then-n-eq-ROUTE_LIMIT
 returns-then-n-eq-ROUTE_LIMIT c =
