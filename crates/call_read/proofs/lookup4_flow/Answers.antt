@@ -1,5 +1,5 @@
 -- `call_read::lookup4_flow` meets its contract.
-use Rattle.std.proofs.Common.{sym, refl, length, leb-true, ltb}
+use Rattle.std.proofs.Common.{sym, length, leb-true, ltb}
 use Rattle.definition.specs.Words.{state_of}
 use Rattle.definition.specs.Reference.Lookup.{Flow, lookup4_flow}
 use Rattle.definition.specs.Step.{unless, lookup4_flow_call}
