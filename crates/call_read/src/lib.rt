@@ -16,12 +16,6 @@ use layout::{BASE_WORDS, LISTING_BUFFER, ROUTE_WORDS, STATE_WORDS};
 use refusal::Refusal;
 use rows_lookup::Flow;
 
-pub fn asked(n: u32) -> Result<(), Refusal>
-    ensures { Refuses result n }
-{
-    refusal::unless(n == 0, Refusal::Errno(n))
-}
-
 // What every call asks, in order: the lengths of what it is lent, the state with a row handed over, the request.
 pub fn checked<T: Drop>(
     s: &[u32],
@@ -89,7 +83,7 @@ pub fn lookup4_flow(
         state,
         ROUTE_WORDS <= row.len(),
         true,
-        asked(request_fit::fit_flow(tos)),
+        request_fit::fit_flow(tos),
     )?;
     look(
         &state[..BASE_WORDS],
@@ -141,7 +135,7 @@ pub fn select4(
         state,
         true,
         true,
-        asked(request_fit::fit_select(dst_present, dst, scope)),
+        request_fit::fit_select(dst_present, dst, scope),
     )?;
     let dst = (dst_present == 1).then_some(dst);
     Ok(state_read::select4(&state[..BASE_WORDS], dst, scope))
