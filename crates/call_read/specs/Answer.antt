@@ -7,8 +7,6 @@ use Rattle.refusal.specs.Refusal.{number_of, Refuses}
 use Rattle.definition.specs.Call.{Reply}
 pub use Rattle.definition.specs.Call.{Numbers, numbers}
 use Rattle.definition.specs.Reference.Lookup.{Found, route, no_route}
-use Rattle.rows_source.specs.declared.Selected as Selected
-use Rattle.rows_source.specs.declared.Selected.{Selected}
 
 -- ---- the numbers of a value, and of an answer
 abbrev pub valuing : ℕ → Numbers
@@ -55,7 +53,3 @@ found_number (no_route n) = n
 abbrev pub rows_in : Found → List Row
 rows_in (route r) = r ∷ []
 rows_in (no_route n) = []
-
-abbrev pub chosen : Selected → Option ℕ
-chosen (Selected.TheVariants.Local a) = Some a
-chosen Selected.TheVariants.Nothing = None

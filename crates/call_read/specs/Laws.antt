@@ -1,39 +1,37 @@
 -- What a call comes to, by its checks and the reference, and what that makes of the answers of those that read.
 -- Assumes nothing.
-use Rattle.std.specs.Prelude.{Ok, Err, ◌≢◌, ℕ, ◌+◌, ◌-◌, ◌*◌, ◌≤◌, ◌<◌, ◌≡◌, refl, Bool, true, false, cond, ◌&&◌, eqb, length, get_or, take, drop}
+use Rattle.std.specs.Prelude.{Ok, Err, ◌≢◌, ℕ, ◌≡◌, refl, Bool, true, false, cond, ◌&&◌, eqb, length}
 use Rattle.std.specs.Prelude.{IsErrAnd}
 use Rattle.std.specs.Prelude.{Result as Answer}
-use Rattle.std.specs.Prelude.{Option as Chosen}
+use Rattle.std.specs.Prelude.{Some, None, Option as Chosen}
 use Rattle.std.proofs.lemmas.Result.{err_from_is_err_and}
 use denote.Ref.{Bor}
 use Rattle.std.proofs.Common.{subst, arith, ◌∙◌, eqb-true}
 use Rattle.std.proofs.Math.Path.{sym, ap}
-use mathlib.Core.List.{List, [], append-nil}
+use mathlib.Core.List.{List, append-nil}
 use Rattle.std.proofs.Math.Option.{Option}
 use Rattle.std.proofs.lemmas.Bool.{eqb-false}
-use Rattle.lists.specs.Lists.{Row, flat, put, span}
+use Rattle.std.specs.Bool.{then_some}
+use Rattle.lists.specs.Lists.{Row, flat, put}
 use Rattle.lists.specs.Put.{put-no-rows}
 use Rattle.lists.specs.Bools.{cond-case, and_left}
 use Rattle.refusal.specs.declared.Refusal.{Refusal}
 use Rattle.refusal.specs.declared.Refusal.TheVariants.{Errno}
 use Rattle.refusal.specs.Refusal.{number_of, Refuses, unless}
 use Rattle.definition.specs.State.{State}
-use Rattle.definition.specs.Words.{base_size, state_size, base, state_of, formed, route_count, routes_at}
+use Rattle.definition.specs.Words.{base_size, state_size, base, state_of, formed}
 use Rattle.definition.specs.Call.{Reply, refusal, valued, written, optionally, found_row}
 use Rattle.definition.specs.Step.{Result, refuses, Checks, Semantics, checked, reading, perform, finding}
+use Rattle.definition.specs.Reference.Source.{present}
 use Rattle.definition.specs.Reference.Lookup as Lookup
 use Rattle.definition.specs.Reference.Lookup.{lookup_in}
 use Rattle.definition.proofs.Preservation.Numbers.{OfFound, lookup-number}
 use Rattle.definition.specs.Preservation.Encode.{Admissible}
 use Rattle.definition.proofs.Preservation.Step.{base-long, good-held, checked-held, checked-passes, acted, perform-case}
-use Rattle.lists.specs.Library.{lent_ok}
+use Rattle.lists.specs.Library.{own, lent_ok}
 use Rattle.rows_lookup.specs.Answer.{answered}
-use Rattle.rows_source.specs.declared.Selected as Selected
-use Rattle.rows_source.specs.declared.Selected.{Selected}
-use Rattle.rows_source.specs.Selected.{local_in}
-use Rattle.state.specs.Represents.{Represents, RepresentsSome, holds-decode, count-routes, sizes-valid}
-use Rattle.state.specs.Change.{route-at}
-use Rattle.call_read.specs.Answer.{Says, Writes, Numbers, numbers, found_number, rows_in, chosen, valuing, nothing, flag, optional, refused_by}
+use Rattle.state.specs.Represents.{Represents, RepresentsSome, holds-decode}
+use Rattle.call_read.specs.Answer.{Says, Writes, Numbers, found_number, rows_in, valuing, nothing, flag, optional, refused_by}
 
 -- ---- the answers of checks
 -- a request's, by a number that the definition gives it
@@ -163,9 +161,13 @@ flag-answer b c e = record { refuses = refl; says = ap flag e }
 pub valuing-answer : (a v : ℕ) → a ≡ v → Says valuing (valued v) (Ok a)
 valuing-answer a v e = record { refuses = refl; says = ap valuing e }
 
-pub optional-answer : (s : Selected) (o : Option ℕ) {r : Chosen ℕ} → r ≡ chosen s → local_in s ≡ o → Says optional (optionally o) (Ok r)
-optional-answer (Selected.TheVariants.Local a) o f e = rw (← e, f) (record { refuses = refl; says = refl })
-optional-answer Selected.TheVariants.Nothing o f e = rw (← e, f) (record { refuses = refl; says = refl })
+-- a value beside its mark
+pub own-present : (mark v : ℕ) {o : Chosen ℕ} → o ≡ then_some (eqb mark 1) v → own o ≡ present mark v
+own-present mark v {o} e = ap own e ∙ cond-case (λ (d : Option ℕ). own (then_some (eqb mark 1) v) ≡ d) (eqb mark 1) (λ t. rw t) (λ t. rw t)
+
+pub optional-answer : (r : Chosen ℕ) {o : Option ℕ} → own r ≡ o → Says optional (optionally o) (Ok r)
+optional-answer None e = rw (← e) (record { refuses = refl; says = refl })
+optional-answer (Some v) e = rw (← e) (record { refuses = refl; says = refl })
 
 pub listed_answer : (l : List Row) {n : ℕ} {b b' : List ℕ} → n ≡ length l → b' ≡ put 0 (flat l) b → Writes valuing (written l) b b' (Ok n)
 listed_answer l e f = record { refuses = refl; says = ap valuing e; rows = f }

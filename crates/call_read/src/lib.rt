@@ -10,27 +10,11 @@ ghost use Rattle.definition.specs.Words.{route_count};
 ghost use Rattle.definition.specs.Reference.Lookup.{lookup_in};
 ghost use Rattle.definition.specs.Step.{checked, dump4_call, lookup4_call, lookup4_flow_call, local4_call, source4_call, source_call, select4_call};
 ghost use Rattle.state.specs.Represents.{Represents, RepresentsSome};
-ghost use Rattle.call_read.specs.Answer.{Says, Writes, nothing, flag, optional, valuing, found_number, rows_in, chosen};
+ghost use Rattle.call_read.specs.Answer.{Says, Writes, nothing, flag, optional, valuing, found_number, rows_in};
 
 use layout::{BASE_WORDS, LISTING_BUFFER, ROUTE_WORDS, STATE_WORDS};
 use refusal::Refusal;
 use rows_lookup::Flow;
-use rows_source::Selected;
-
-pub fn asked(n: u32) -> Result<(), Refusal>
-    ensures { Refuses result n }
-{
-    refusal::unless(n == 0, Refusal::Errno(n))
-}
-
-pub fn chosen(s: Selected) -> Option<u32>
-    ensures { result ≡ chosen s }
-{
-    match s {
-        Selected::Local(a) => Some(a),
-        Selected::Nothing => None,
-    }
-}
 
 // What every call asks, in order: the lengths of what it is lent, the state with a row handed over, the request.
 pub fn checked<T: Drop>(
@@ -99,7 +83,7 @@ pub fn lookup4_flow(
         state,
         ROUTE_WORDS <= row.len(),
         true,
-        asked(request_fit::fit_flow(tos)),
+        request_fit::fit_flow(tos),
     )?;
     look(
         &state[..BASE_WORDS],
@@ -129,12 +113,13 @@ pub fn source(state: &[u32], ip: u32) -> Result<u32, Refusal>
     Ok(state_read::source(&state[..BASE_WORDS], ip))
 }
 
-// The source address for a route, handed over as any row of words.
+// The source address for a route, handed over as any words: fit ones are as many as a row has.
 pub fn source4(state: &[u32], row: &[u32], ip: u32) -> Result<Option<u32>, Refusal>
     ensures { Says optional (source4_call row.now ip state.now).reply result }
 {
     checked(state, true, row_route::fit_route(row), Ok(()))?;
-    Ok(chosen(state_read::source4(&state[..BASE_WORDS], row, ip)))
+    let row = sized(row)?;
+    Ok(state_read::source4(&state[..BASE_WORDS], row, ip))
 }
 
 // The address that is chosen for a scope, and for a destination if there is one.
@@ -150,9 +135,10 @@ pub fn select4(
         state,
         true,
         true,
-        asked(request_fit::fit_select(dst_present, dst, scope)),
+        request_fit::fit_select(dst_present, dst, scope),
     )?;
-    Ok(chosen(state_read::select4(&state[..BASE_WORDS], dst_present == 1, dst, scope)))
+    let dst = (dst_present == 1).then_some(dst);
+    Ok(state_read::select4(&state[..BASE_WORDS], dst, scope))
 }
 
 // The route rows of the listed tables, in the order in which Linux lists tables.

@@ -146,11 +146,11 @@ fn read(words: &[u32], n: usize) -> [V4; ADDRESS_LIMIT]
     requires { (n ≤ 64) × (length words.now ≡ 20 * n) × Lays 20 fit_address words.now }
     ensures { (l : List Row) → Laid 20 fit_address words.now l → map row_of (take n result) ≡ l }
 {
-    let mut rows = [row_address::v4_of(&[0u32; ADDRESS_WORDS]); ADDRESS_LIMIT];
+    let mut rows = [V4::from(&[0u32; ADDRESS_WORDS]); ADDRESS_LIMIT];
     let mut i = 0usize;
     while i < n {
         let at = ADDRESS_WORDS * i;
-        let v = row_address::record_of(&words[at..at + ADDRESS_WORDS]);
+        let v = V4::from(words[at..at + ADDRESS_WORDS].as_array().unwrap());
         rows[i] = v;
         i += 1;
     }
@@ -180,7 +180,7 @@ fn primary_of_in(s: &[u32], row: &[u32]) -> u32
     lend_primary_of(
         decoded(s),
         state::address_count(s),
-        row_address::record_of(row),
+        V4::from(row.as_array().unwrap()),
     )
 }
 

@@ -11,8 +11,8 @@ ghost use Rattle.row_address.specs.Row.{reply_of as row-address·reply_of};
 ghost use Rattle.call_reply.specs.Answer.{reply_from, reply_of};
 
 use call_message::Asked;
+use life::Left;
 use refusal::Refusal;
-use row_address::LeftReply;
 
 // The number is 0, or the refusal's number and then the rest is 0.
 #[repr(C)]
@@ -153,16 +153,16 @@ impl Reply {
     }
 }
 
-pub fn remaining(l: LeftReply) -> Reply
+pub fn remaining(l: Result<Left, Refusal>) -> Reply
     ensures { result ≡ reply_of (row-address·reply_of l) }
 {
     match l {
-        LeftReply::Refused(n) => Reply::from(Refusal::Errno(n)),
-        LeftReply::Left { preferred, valid } => Reply {
+        Err(refusal) => Reply::from(refusal),
+        Ok(left) => Reply {
             number: 0,
             present: 0,
-            value: preferred,
-            second: valid,
+            value: left.preferred.0,
+            second: left.valid.0,
         },
     }
 }

@@ -1,25 +1,25 @@
 // Lifetimes in seconds and the clock in nanoseconds. Only this crate converts.
 #![tactic(auto)]
 
-ghost use Rattle.std.specs.Prelude.{◌≡◌, ◌-◌};
+ghost use Rattle.std.specs.Prelude.{◌≡◌, ◌-◌, [], ◌∷◌, get_or};
 ghost use Rattle.life.specs.Life.{reached, age, left_of, stored_seconds, life_set, seconds, nanoseconds, clock, low_word, high_word};
 
-#[derive(Clone, Copy)]
+#[derive(Clone, Copy, Debug, PartialEq, Eq)]
 pub struct Seconds(pub u32);
 
-#[derive(Clone, Copy)]
+#[derive(Clone, Copy, Debug, PartialEq, Eq)]
 pub struct Nanoseconds(pub u64);
 
 // The lifetime that never ends.
-pub const FOREVER: u32 = 4294967295;
+pub const FOREVER: u32 = u32::MAX;
 
-const SECOND: u64 = 1000000000;
+const SECOND: u64 = 1_000_000_000;
 
 // How much too soon a lifetime may be taken to have run out: 20 ms.
-pub const FUZZ: Nanoseconds = Nanoseconds(20000000);
+pub const FUZZ: Nanoseconds = Nanoseconds(20_000_000);
 
 // The lifetimes of an address, from when they were last set, and when it was made and they were set.
-#[derive(Clone, Copy)]
+#[derive(Clone, Copy, Debug, PartialEq, Eq)]
 pub struct Life {
     pub valid: Seconds,
     pub preferred: Seconds,
@@ -28,7 +28,7 @@ pub struct Life {
 }
 
 // The lifetimes that a request asks an address to have.
-#[derive(Clone, Copy)]
+#[derive(Clone, Copy, Debug, PartialEq, Eq)]
 pub struct Lifetimes {
     pub valid: Seconds,
     pub preferred: Seconds,
@@ -42,51 +42,42 @@ impl Lifetimes {
 }
 
 // What is left of each lifetime.
-#[derive(Clone, Copy)]
+#[derive(Clone, Copy, Debug, PartialEq, Eq)]
 pub struct Left {
     pub preferred: Seconds,
     pub valid: Seconds,
 }
 
-impl Nanoseconds {
-    // The clock of two words.
-    pub fn of_words(low: u32, high: u32) -> Nanoseconds
-        ensures { result ≡ nanoseconds (clock low high) }
-    {
-        Nanoseconds(low as u64 + high as u64 * 4294967296)
-    }
+// The clock of two words, low and high, and back.
+impl From<[u32; 2]> for Nanoseconds {
+    ghost from_gives = { λ words n. n ≡ nanoseconds (clock (get_or words 0 0) (get_or words 1 0)) };
 
-    pub fn low(self) -> u32
-        ensures { result ≡ low_word self.0 }
-    {
-        (self.0 % 4294967296) as u32
-    }
-
-    pub fn high(self) -> u32
-        ensures { result ≡ high_word self.0 }
-    {
-        (self.0 / 4294967296) as u32
+    fn from(words: [u32; 2]) -> Nanoseconds {
+        Nanoseconds(u64::from(words[0]) + u64::from(words[1]) * 4_294_967_296)
     }
 }
 
-// The seconds that are left of `lifetime` after `age`, at least 0.
-fn less(lifetime: u32, age: u32) -> u32
-    ensures { result ≡ lifetime - age }
-{
-    if lifetime < age {
-        return 0;
+impl From<Nanoseconds> for [u32; 2] {
+    ghost from_gives = { λ n words. words ≡ low_word n.0 ∷ high_word n.0 ∷ [] };
+
+    fn from(n: Nanoseconds) -> [u32; 2] {
+        [(n.0 % 4_294_967_296) as u32, (n.0 / 4_294_967_296) as u32]
     }
-    lifetime - age
 }
 
-// The seconds to store where `asked` is asked for: one that never ends is not kept.
-fn stored(asked: u32, stored: u32) -> u32
-    ensures { result ≡ stored_seconds asked stored }
-{
-    if asked == FOREVER {
-        return stored;
+impl Seconds {
+    // The seconds to store where these are asked for: those that never end leave what is stored.
+    fn or_stored(self, stored: Seconds) -> Seconds
+        ensures { result ≡ seconds (stored_seconds self.0 stored.0) }
+    {
+        if self.0 == FOREVER { stored } else { self }
     }
-    asked
+
+    fn less(self, age: Seconds) -> Seconds
+        ensures { result ≡ seconds (self.0 - age.0) }
+    {
+        Seconds(self.0.saturating_sub(age.0))
+    }
 }
 
 impl Life {
@@ -94,82 +85,54 @@ impl Life {
     pub fn set(self, lifetimes: Lifetimes, now: Nanoseconds) -> Life
         ensures { result ≡ life_set lifetimes now.0 self }
     {
-        let created = self.created;
         Life {
-            valid: Seconds(stored(lifetimes.valid.0, self.valid.0)),
-            preferred: Seconds(stored(lifetimes.preferred.0, self.preferred.0)),
-            created: created,
+            valid: lifetimes.valid.or_stored(self.valid),
+            preferred: lifetimes.preferred.or_stored(self.preferred),
             changed: now,
+            ..self
         }
     }
 
     // The whole seconds since its lifetimes were set.
+    #[tactic(auto, unfolding(crate::specs::Life::age))]
     pub fn age(self, now: Nanoseconds) -> Seconds
         ensures { result ≡ seconds (age self.changed.0 now.0) }
     {
-        let changed = self.changed.0;
-        let clock = now.0;
-        if clock < changed {
-            return Seconds(0);
-        }
-        let whole = (clock - changed) / SECOND;
-        if whole < 4294967295 {
-            return Seconds(whole as u32);
-        }
-        Seconds(4294967295)
+        let whole = now.0.saturating_sub(self.changed.0) / SECOND;
+        Seconds(u32::try_from(whole).unwrap_or(u32::MAX))
     }
 
     // The seconds that each lifetime has left. None are taken from either where the preferred one never ends.
+    #[tactic(auto, unfolding(crate::specs::Life::left_preferred, crate::specs::Life::left_valid))]
     pub fn left(self, now: Nanoseconds) -> Left
         ensures { result ≡ left_of self now.0 }
     {
-        let preferred = self.preferred.0;
-        let valid = self.valid.0;
-        if preferred == FOREVER {
+        if self.preferred.0 == FOREVER {
             return Left {
-                preferred: Seconds(FOREVER),
-                valid: Seconds(valid),
+                preferred: self.preferred,
+                valid: self.valid,
             };
         }
         let age = self.age(now);
-        let gone = age.0;
-        let rest = less(preferred, gone);
-        if valid == FOREVER {
-            return Left {
-                preferred: Seconds(rest),
-                valid: Seconds(FOREVER),
-            };
-        }
+        let valid = if self.valid.0 == FOREVER {
+            self.valid
+        } else {
+            self.valid.less(age)
+        };
         Left {
-            preferred: Seconds(rest),
-            valid: Seconds(less(valid, gone)),
+            preferred: self.preferred.less(age),
+            valid,
         }
     }
 
-    // Whether it is as old as `lifetime`, `allowance` sooner counting. The sum of the clock and the allowance, which could
-    // wrap, is not made: what is compared is what is due, and what the clock and then the allowance give of it.
+    // Whether it is as old as `lifetime`, `allowance` sooner counting. The sum of the clock and the allowance could pass 64 bits.
+    #[tactic(auto, unfolding(crate::specs::Life::reached))]
     pub fn reached(self, lifetime: Seconds, now: Nanoseconds, allowance: Nanoseconds) -> bool
         ensures { result ≡ reached allowance.0 lifetime.0 self.changed.0 now.0 }
     {
-        let seconds = lifetime.0;
-        let changed = self.changed.0;
-        let clock = now.0;
-        let early = allowance.0;
-        if seconds == FOREVER {
-            return false;
-        }
-        let due = seconds as u64 * SECOND;
-        if clock < changed {
-            let behind = changed - clock;
-            if early < behind {
-                return seconds == 0;
-            }
-            return due <= early - behind;
-        }
-        let old = clock - changed;
-        if due <= old {
-            return true;
-        }
-        due - old <= early
+        let clock = u128::from(now.0) + u128::from(allowance.0);
+        let old = clock.saturating_sub(u128::from(self.changed.0));
+        let due = u64::from(lifetime.0) * SECOND;
+        (lifetime.0 != FOREVER) & (u128::from(due) <= old)
     }
 }

@@ -55,7 +55,7 @@ fn row(local: u32, address: u32, prefix: u32, scope: u32, flags: u32) -> [u32; 2
 }
 
 fn record(words: [u32; 20]) -> V4 {
-    row_address::v4_of(&words)
+    V4::from(&words)
 }
 
 // Three addresses, of which the first n are there.

@@ -1,104 +1,89 @@
-// Which requests are fit, each by the number with which it is refused, 0 if it isn't: every field within its width, and what is
-// absent 0. Of a request that hasn't its words nothing is said: its call is refused before.
+// Which requests are fit: every field within its width, and what is absent 0.
 #![tactic(auto)]
 
 ghost use Rattle.std.specs.Prelude.{◌≡◌, cond, ◌&&◌, leb, ltb, ◌≤◌, length};
-ghost use Rattle.layout.specs.Request.{fit_del_v4, fit_route_words, fit_pairs, pair_count, fit_add_route4, fit_del_route4};
-ghost use Rattle.layout.specs.Request.{add_v4_size, del_v4_size, add_route4_size, del_route4_size};
+ghost use Rattle.refusal.specs.Refusal.{Refuses};
+ghost use Rattle.layout.specs.Request.{fit_del_v4, fit_route_words, pairs, fit_pairs, pair_count, fit_add_route4, fit_del_route4};
 ghost use Rattle.layout.specs.Address.{optional};
 ghost use Rattle.definition.specs.Step.{unless, invalid, add_v4_refusal, clock_limit};
 
 use layout::{
-    ADD_ROUTE4_WORDS, ADD_V4_WORDS, DEL_ROUTE4_WORDS, DEL_V4_WORDS, add_route4, add_v4, address,
-    del_route4, del_v4, route,
+    AddRoute4, AddV4, DelRoute4, DelV4, add_route4, add_v4, address, del_route4, del_v4, route,
 };
-
-// A check's number where it fails, 0 where it passes.
-fn unless(passes: bool, n: u32) -> u32
-    ensures { result ≡ unless passes n }
-{
-    if passes {
-        return 0;
-    }
-    n
-}
+use refusal::Refusal;
+use row_address::Label;
 
 // A type of service is a byte.
-pub fn fit_flow(tos: u32) -> u32
-    ensures { result ≡ unless (ltb tos 256) 202 }
+pub fn fit_flow(tos: u32) -> Result<(), Refusal>
+    ensures { Refuses result (unless (ltb tos 256) 202) }
 {
-    unless(tos < 256, 202)
+    refusal::unless(tos < 256, Refusal::Unfit)
 }
 
-pub fn fit_select(dst_present: u32, dst: u32, scope: u32) -> u32
-    ensures { result ≡ unless (optional dst_present dst && ltb scope 256) 202 }
+// The mark and the address beside it are words, as the C interface hands them over: whether they are fit is asked here.
+pub fn fit_select(dst_present: u32, dst: u32, scope: u32) -> Result<(), Refusal>
+    ensures { Refuses result (unless (optional dst_present dst && ltb scope 256) 202) }
 {
-    unless(
+    refusal::unless(
         row_address::fit_optional(dst_present, dst) & (scope < 256),
-        202,
+        Refusal::Unfit,
     )
 }
 
 // The greatest clock to which the allowance can still be added.
 const CLOCK_LIMIT: u64 = 18446744073689551615;
 
-pub fn fit_expire(clock: u64) -> u32
-    ensures { result ≡ unless (leb clock clock_limit) 202 }
+pub fn fit_expire(clock: u64) -> Result<(), Refusal>
+    ensures { Refuses result (unless (leb clock clock_limit) 202) }
 {
-    unless(clock <= CLOCK_LIMIT, 202)
+    refusal::unless(clock <= CLOCK_LIMIT, Refusal::Unfit)
 }
 
 // A request's fields come first, then what Linux turns down (document 02, Paper 2).
-fn add_v4_refusal(fit: bool, lasts: bool) -> u32
-    ensures { result ≡ cond fit (unless lasts invalid) 202 }
+#[tactic(auto, unfolding(layout::specs::Request::fit_add_v4))]
+pub fn fit_add_v4(q: &AddV4) -> Result<(), Refusal>
+    ensures { Refuses result (add_v4_refusal q.now) }
 {
-    if fit {
-        return unless(lasts, layout::INVALID);
-    }
-    202
-}
-
-pub fn fit_add_v4(q: &[u32]) -> u32
-    ensures { length q.now ≡ add_v4_size → result ≡ add_v4_refusal q.now }
-{
-    if q.len() != ADD_V4_WORDS {
-        return 202;
-    }
     let fit = (q[address::PREFIX] <= 32)
         & row_address::fit_optional(q[address::BROADCAST_PRESENT], q[address::BROADCAST])
         & (q[address::SCOPE] < 256)
         & (q[address::PROTO] < 256)
-        & row_address::fit_label(
-            q[address::LABEL_LENGTH],
-            q[address::LABEL],
-            q[address::LABEL_1],
-            q[address::LABEL_2],
-            q[address::LABEL_3],
-        )
+        & Label {
+            len: q[address::LABEL_LENGTH],
+            words: [
+                q[address::LABEL],
+                q[address::LABEL_1],
+                q[address::LABEL_2],
+                q[address::LABEL_3],
+            ],
+        }
+        .fits()
         & (q[add_v4::REPLACE] <= 1)
         & (q[add_v4::UP] <= 1);
     let lasts = (q[add_v4::VALID] != 0) & (q[add_v4::PREFERRED] <= q[add_v4::VALID]);
-    add_v4_refusal(fit, lasts)
+    refusal::unless(fit, Refusal::Unfit)?;
+    refusal::unless(lasts, Refusal::Errno(layout::INVALID))
 }
 
-pub fn fit_del_v4(q: &[u32]) -> u32
-    ensures { length q.now ≡ del_v4_size → result ≡ unless (fit_del_v4 q.now) 202 }
+#[tactic(auto, unfolding(layout::specs::Request::fit_del_v4))]
+pub fn fit_del_v4(q: &DelV4) -> Result<(), Refusal>
+    ensures { Refuses result (unless (fit_del_v4 q.now) 202) }
 {
-    if q.len() != DEL_V4_WORDS {
-        return 202;
-    }
     let fit = (q[del_v4::PREFIX] <= 32)
         & row_address::fit_optional(q[del_v4::LOCAL_PRESENT], q[del_v4::LOCAL])
         & row_address::fit_optional(q[del_v4::ADDRESS_PRESENT], q[del_v4::ADDRESS])
         & row_address::fit_optional(q[del_v4::LABEL_PRESENT], q[del_v4::LABEL_LENGTH])
-        & row_address::fit_label(
-            q[del_v4::LABEL_LENGTH],
-            q[del_v4::LABEL],
-            q[del_v4::LABEL_1],
-            q[del_v4::LABEL_2],
-            q[del_v4::LABEL_3],
-        );
-    unless(fit, 202)
+        & Label {
+            len: q[del_v4::LABEL_LENGTH],
+            words: [
+                q[del_v4::LABEL],
+                q[del_v4::LABEL_1],
+                q[del_v4::LABEL_2],
+                q[del_v4::LABEL_3],
+            ],
+        }
+        .fits();
+    refusal::unless(fit, Refusal::Unfit)
 }
 
 // What both requests for a route ask of its first 12 words.
@@ -118,45 +103,41 @@ fn fit_route_words(q: &[u32]) -> bool
 // The largest number of Linux's errno list.
 const GREATEST_ERRNO: u32 = 133;
 
-pub fn fit_add_route4(q: &[u32]) -> u32
-    ensures { length q.now ≡ add_route4_size → result ≡ unless (fit_add_route4 q.now) 202 }
+#[tactic(auto, unfolding(layout::specs::Request::fit_add_route4))]
+pub fn fit_add_route4(q: &AddRoute4) -> Result<(), Refusal>
+    ensures { Refuses result (unless (fit_add_route4 q.now) 202) }
 {
-    if q.len() != ADD_ROUTE4_WORDS {
-        return 202;
-    }
     let fit = fit_route_words(q)
         & (q[add_route4::REQUEST] < 65536)
         & (q[add_route4::METRICS_ERROR] <= GREATEST_ERRNO)
         & (q[add_route4::UP] <= 1);
-    unless(fit, 202)
+    refusal::unless(fit, Refusal::Unfit)
 }
 
-// Every pair up to the count names one of the 17 metrics.
-fn fit_pairs(q: &[u32]) -> bool
-    requires { (length q.now ≡ 49) × (pair_count q.now ≤ 17) }
+// The pairs up to the count, each an index of the metrics and the value that a route must have there.
+pub fn pairs(q: &DelRoute4) -> &[[u32; 2]]
+    requires { pair_count q.now ≤ 17 }
+    ensures { result.now ≡ pairs q.now }
+{
+    let (all, _) = q[del_route4::PAIRS..].as_chunks::<2>();
+    &all[..words::wide(q[del_route4::PAIR_COUNT])]
+}
+
+// Each names one of the 17 metrics.
+fn fit_pairs(q: &DelRoute4) -> bool
+    requires { pair_count q.now ≤ 17 }
     ensures { result ≡ fit_pairs q.now }
 {
-    let n = words::wide(q[del_route4::PAIR_COUNT]);
-    let mut fit = true;
-    let mut i = 0usize;
-    while i < n {
-        fit = fit & (q[del_route4::PAIRS + 2 * i] <= 16);
-        i += 1;
-    }
-    fit
+    pairs(q).iter().all(|pair| pair[0] <= 16)
 }
 
 // The count is looked at before the pairs that it counts.
-pub fn fit_del_route4(q: &[u32]) -> u32
-    ensures { length q.now ≡ del_route4_size → result ≡ unless (fit_del_route4 q.now) 202 }
+#[tactic(auto, unfolding(layout::specs::Request::fit_del_route4))]
+pub fn fit_del_route4(q: &DelRoute4) -> Result<(), Refusal>
+    ensures { Refuses result (unless (fit_del_route4 q.now) 202) }
 {
-    if q.len() != DEL_ROUTE4_WORDS {
-        return 202;
-    }
     let fields = fit_route_words(q)
         & row_address::fit_optional(q[del_route4::LIST_PRESENT], q[del_route4::PAIR_COUNT]);
-    if 17 < q[del_route4::PAIR_COUNT] {
-        return 202;
-    }
-    unless(fields & fit_pairs(q), 202)
+    let counted = q[del_route4::PAIR_COUNT] <= 17 && fit_pairs(q);
+    refusal::unless(fields && counted, Refusal::Unfit)
 }

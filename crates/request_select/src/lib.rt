@@ -2,7 +2,7 @@
 #![tactic(auto)]
 
 ghost use Rattle.std.specs.Prelude.{◌≡◌, true, position};
-ghost use Rattle.layout.specs.Request.{pairs, fit_pairs, fit_del_route4};
+ghost use Rattle.layout.specs.Request.{fit_del_route4};
 ghost use Rattle.definition.specs.Reference.Routes.{selects, has_metrics, table_named};
 ghost use Rattle.request_select.specs.Laws.{same_place, same_fields};
 
@@ -34,23 +34,14 @@ fn same_fields(q: &DelRoute4, r: &RouteRow) -> bool
             | ((r[route::GATEWAY_PRESENT] == 1) & (r[route::GATEWAY] == q[route::GATEWAY])))
 }
 
-// The metrics that the request names, each by its index and the value that a route must have there.
-fn pairs(q: &DelRoute4) -> &[[u32; 2]]
-    requires { fit_del_route4 q.now ≡ true }
-    ensures value { result.now ≡ pairs q.now }
-    ensures fits { fit_pairs q.now ≡ true }
-{
-    let (all, _) = q[del_route4::PAIRS..].as_chunks::<2>();
-    &all[..q[del_route4::PAIR_COUNT] as usize]
-}
-
-// A row has them all.
+// A row has every metric that the request names.
+#[tactic(auto, using(crate::specs::Laws::count_fits))]
 fn has_metrics(q: &DelRoute4, r: &RouteRow) -> bool
     requires { fit_del_route4 q.now ≡ true }
     ensures { result ≡ has_metrics q.now r.now }
 {
     let mut same = q[del_route4::LIST_PRESENT] == 1;
-    for &[index, value] in pairs(q) {
+    for &[index, value] in request_fit::pairs(q) {
         same &= r[route::METRICS + index as usize] == value;
     }
     same

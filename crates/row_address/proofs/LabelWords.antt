@@ -2,12 +2,12 @@
 -- Assumes nothing.
 use mathlib.Core.Path.{◌≡◌, refl, sym, ap, ◌∙◌}
 use mathlib.Core.Bool.{Bool, true, false, ◌&&◌}
-use Prim.Native.Nat.{ℕ, zero, suc, ◌+◌, ◌-◌, ◌*◌, ◌/◌, ◌^◌, ◌<◌}
+use Prim.Native.Nat.{ℕ, zero, suc, min, ◌+◌, ◌-◌, ◌*◌, ◌/◌, ◌^◌, ◌<◌}
 use native.Mathlib.Nat.{div-lt_iff_lt-mul, div-eq_of_lt}
 use native.Mathlib.Omega.{arith}
 use lib.Dec.{leb, ltb, eqb, lit<}
 use lib.Pow.{pow-add, pow_pos}
-use borrow.Author.Tests.{ltb-true, ltb-false, lt-ltb, le-ltb, le-leb, lt-leb, leb-true, eq-eqb, ne_eqb}
+use borrow.Author.Tests.{ltb-true, ltb-false, lt-ltb, le-ltb, le-leb, lt-leb, leb-true, leb-false, eq-eqb, ne_eqb}
 use Rattle.layout.specs.Address.{fit_label}
 use Rattle.row_address.specs.Row.{word_ends}
 
@@ -66,13 +66,6 @@ module _ (n a b c d : ℕ) (ha : a < 2 ^ 32) (hb : b < 2 ^ 32) (hc : c < 2 ^ 32)
   fits-by-words = by_length (leb n 15) refl
 
 -- ---- one word
-pub none-set : (w : ℕ) → eqb w 0 ≡ ltb w 1
-none-set w = by (ltb w 1) refl
-  where
-    by : (q : Bool) → ltb w 1 ≡ q → eqb w 0 ≡ q
-    by true e = eq-eqb w 0 (omega (arith, ltb-true w 1 e))
-    by false e = ne_eqb w 0 (λ z. omega (arith, ltb-false w 1 e))
-
 pub none_above : (w k : ℕ) → eqb (w / 2 ^ k) 0 ≡ ltb w (2 ^ k)
 none_above w k = by (ltb w (2 ^ k)) refl
   where
@@ -80,3 +73,15 @@ none_above w k = by (ltb w (2 ^ k)) refl
     by true e = eq-eqb (w / 2 ^ k) 0 (div-eq_of_lt (ltb-true w (2 ^ k) e))
     by false e =
         ne_eqb (w / 2 ^ k) 0 (λ z. omega (arith, ltb-false w (2 ^ k) e, (div-lt_iff_lt-mul {k = 2 ^ k} {x = w} {y = 1} (pow_pos k)).0 (omega arith)))
+
+-- the first bytes of a word, of four and of more
+pub ends-by : (w n : ℕ) → w < 2 ^ 32 → eqb (w / 2 ^ (8 * min n 4)) 0 ≡ word_ends w n
+ends-by w n h = by (leb 4 n) refl
+  where
+    by : (q : Bool) → leb 4 n ≡ q → eqb (w / 2 ^ (8 * min n 4)) 0 ≡ word_ends w n
+    by true e =
+        let four : min n 4 ≡ 4 = omega (arith, leb-true 4 n e) in
+        rw (four, e) (none_above w 32 ∙ lt-ltb w (2 ^ 32) h)
+    by false e =
+        let few : min n 4 ≡ n = omega (arith, leb-false 4 n e) in
+        rw (few, e) (none_above w (8 * n))

@@ -1,7 +1,7 @@
 -- What the record's methods say is what the reference says of the row.
 -- Assumes nothing.
-use Rattle.std.specs.Prelude.{◌≡◌, refl, Bool, ◌||◌, ◌&&◌, ℕ, zero, suc, eqb, length}
-use Rattle.std.proofs.Common.{ap, ◌∙◌, arith, ne_eqb}
+use Rattle.std.specs.Prelude.{◌≡◌, refl, Bool, ◌||◌, ◌&&◌, ℕ, zero, suc, eqb, length, Ok}
+use Rattle.std.proofs.Common.{arith, ne_eqb}
 use Rattle.std.proofs.Math.Bool.{true, false}
 use Rattle.std.proofs.lemmas.Bool.{lt-leb}
 use Rattle.lists.specs.Lists.{Row}
@@ -10,11 +10,8 @@ use Rattle.layout.specs.Spelled.{by-words}
 use Rattle.definition.specs.Reference.Addresses.{covers, set_life}
 use Rattle.definition.specs.Reference.Source.{left}
 use Rattle.definition.specs.Step.{left_call}
-use Rattle.row_address.specs.declared.LeftReply.TheVariants.{Refused, Left}
-use Rattle.row_address.specs.declared.V4.{V4}
 use Rattle.life.specs.Life.{seconds}
 use Rattle.life.specs.Laws.{clock-words}
-use Rattle.life.specs.declared.Left.{Left as BothLeft}
 use Rattle.row_address.specs.V4.{v4_of, secondary_v4, covers_v4, set_life_v4, left_v4}
 use Rattle.row_address.specs.Row.{left_reply, reply_of}
 
@@ -57,17 +54,14 @@ module _ (a : Row) (clock : ℕ) where
   pub left-says : reply_of (left_reply a clock) ≡ left_call a clock
   left-says = says-by (fit_address a) refl
 
-  -- what it answers, from the record's own left
-  pub left-answered : (v : V4) (l : BothLeft) → fit_address a ≡ true → v ≡ v4_of a → l ≡ left_v4 v clock
-      → (Left l.preferred.0 l.valid.0 ≡ left_reply a clock) × (reply_of (Left l.preferred.0 l.valid.0) ≡ left_call a clock)
-  left-answered v l e p q =
-      let answer : Left l.preferred.0 l.valid.0 ≡ left_reply a clock = rw (q, p, e, left-preferred_v4, left-valid_v4) in
-      (answer, ap reply_of answer ∙ left-says)
+  -- what the public `left` answers, from the record's own left
+  answered-by : (q : Bool) → permanent a ≡ q → fit_address a ≡ true → Ok (left_v4 (v4_of a) clock) ≡ left_reply a clock
+  unfolding left
+  answered-by true e f = rw (f, e)
+  answered-by false e f = rw (f, e)
 
-  pub left-refused : fit_address a ≡ false → (Refused 201 ≡ left_reply a clock) × (reply_of (Refused 201) ≡ left_call a clock)
-  left-refused e =
-      let answer : Refused 201 ≡ left_reply a clock = rw e in
-      (answer, ap reply_of answer ∙ left-says)
+  pub left-answered : fit_address a ≡ true → Ok (left_v4 (v4_of a) clock) ≡ left_reply a clock
+  left-answered = answered-by (permanent a) refl
 
 -- the clock's two words make the clock again
 pub set_life_v4_lem : (valid preferred clock : ℕ) (a : Row) → length a ≡ 20

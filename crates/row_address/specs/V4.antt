@@ -1,6 +1,6 @@
 -- An address as a record, and what its methods do (document 01, "Forms for Rattle"): the row's definitions, said of the record.
 -- Assumes nothing.
-use Rattle.std.specs.Prelude.{ℕ, Bool, cond, [], ◌∷◌, eqb, get_or}
+use Rattle.std.specs.Prelude.{ℕ, Bool, cond, [], ◌∷◌, eqb, get_or, Option, Some, None}
 use Rattle.lists.specs.Lists.{Row}
 use Rattle.prefix.specs.Mask.{network}
 use Rattle.life.specs.declared.Life.{Life}
@@ -10,14 +10,12 @@ use Rattle.life.specs.Life.{forever, seconds, nanoseconds, left_of, life_set}
 use Rattle.layout.specs.Flags.{has_bit}
 use Rattle.layout.specs.Address as Address
 use Rattle.definition.specs.Reference.Addresses.{life_flags}
-use Rattle.row_address.specs.declared.Optional.{Optional}
-use Rattle.row_address.specs.declared.Optional.TheVariants.{Absent, Present}
 use Rattle.row_address.specs.declared.Label.{Label}
 use Rattle.row_address.specs.declared.V4.{V4}
 
 -- ---- a row's record
-abbrev pub optional_of : ℕ → ℕ → Optional
-optional_of present value = cond (eqb present 1) (Present value) Absent
+abbrev pub optional_of : ℕ → ℕ → Option ℕ
+optional_of present value = cond (eqb present 1) (Some value) None
 
 abbrev pub label_of : Row → Label
 label_of a = record { len = Address.label_length a; words = get_or a 9 0 ∷ get_or a 10 0 ∷ get_or a 11 0 ∷ get_or a 12 0 ∷ [] }

@@ -1,6 +1,6 @@
 -- A record as the row's words again: each is read back from the other.
 -- Assumes nothing.
-use Rattle.std.specs.Prelude.{ℕ, zero, suc, ◌+◌, ◌<◌, ◌^◌, ◌≡◌, refl, true, ◌||◌, List, [], ◌∷◌, eqb, leb, length, get_or, drop}
+use Rattle.std.specs.Prelude.{ℕ, zero, suc, ◌+◌, ◌<◌, ◌^◌, ◌≡◌, refl, true, ◌||◌, List, [], ◌∷◌, eqb, leb, length, get_or, drop, Option, Some, None}
 use Rattle.std.proofs.Common.{arith, sym, ap, ◌∙◌, drop_of_length-le, drop-cons, eqb-true, leb-true}
 use Rattle.std.proofs.lemmas.Bool.{eqb-false}
 use Rattle.lists.specs.Lists.{Row}
@@ -9,19 +9,17 @@ use Rattle.life.specs.Life.{low_word, high_word}
 use Rattle.life.specs.Laws.{low-clock, high-clock, clock-words}
 use Rattle.layout.specs.Address.{optional, broadcast_present, broadcast, fit_address}
 use Rattle.definition.specs.Preservation.Fit.{fields_address, length-address}
-use Rattle.row_address.specs.declared.Optional.{Optional}
-use Rattle.row_address.specs.declared.Optional.TheVariants.{Absent, Present}
 use Rattle.row_address.specs.declared.V4.{V4}
 use Rattle.row_address.specs.V4.{optional_of, v4_of}
 
 -- a value's mark, and its word: 0 where it is absent
-abbrev pub mark_of : Optional → ℕ
-mark_of Absent = 0
-mark_of (Present v) = 1
+abbrev pub mark_of : Option ℕ → ℕ
+mark_of None = 0
+mark_of (Some v) = 1
 
-abbrev pub value_of : Optional → ℕ
-value_of Absent = 0
-value_of (Present v) = v
+abbrev pub value_of : Option ℕ → ℕ
+value_of None = 0
+value_of (Some v) = v
 
 -- the row, with the words that are computed
 abbrev pub row_with : V4 → ℕ → ℕ → ℕ → ℕ → ℕ → ℕ → Row
@@ -91,9 +89,9 @@ row-again a h made changed =
     (sym (spells 20 0 a (length-address a h)))
 
 -- ---- a record is read back from its row
-pub optional-again : (o : Optional) → optional_of (mark_of o) (value_of o) ≡ o
-optional-again Absent = refl
-optional-again (Present v) = refl
+pub optional-again : (o : Option ℕ) → optional_of (mark_of o) (value_of o) ≡ o
+optional-again None = refl
+optional-again (Some v) = refl
 
 pub record_again : (v : V4) → length v.label.words ≡ 4 → v4_of (row_of v) ≡ v
 record_again v h =

@@ -1,17 +1,18 @@
 // An IPv4 address: its record, read from a row of words, and the methods that take it by value.
 #![tactic(auto)]
 
-ghost use Rattle.std.specs.Prelude.{◌≡◌, true, ◌+◌, ◌-◌, ◌*◌, ◌^◌, ◌≤◌, length};
+ghost use Rattle.std.specs.Prelude.{◌≡◌, true, ◌+◌, ◌-◌, ◌*◌, ◌^◌, get_or};
 ghost use Rattle.prefix.specs.Mask.{mask};
 ghost use Rattle.layout.specs.Address.{optional, fit_label, fit_address};
 ghost use Rattle.definition.specs.Reference.Addresses.{life_flags};
 ghost use Rattle.definition.specs.Step.{left_call};
 ghost use Rattle.row_address.specs.V4.{v4_of, optional_of, label_of, life_of, secondary_v4, covers_v4, set_life_v4, left_v4};
-ghost use Rattle.row_address.specs.Words.{mark_of, value_of, row_of};
+ghost use Rattle.row_address.specs.Words.{row_of};
 ghost use Rattle.row_address.specs.Row.{word_ends, left_reply, reply_of};
 
-use layout::{ADDRESS_WORDS, address};
+use layout::{ADDRESS_WORDS, AddressRow, address};
 use life::{Left, Life, Lifetimes, Nanoseconds, Seconds};
+use refusal::Refusal;
 
 // The flags of an address that the kernel keeps (rtnetlink's IFA_F_*).
 pub const SECONDARY: u32 = 0x01;
@@ -20,47 +21,19 @@ pub const DEPRECATED: u32 = 0x20;
 
 pub const PERMANENT: u32 = 0x80;
 
-#[derive(Clone, Copy)]
-pub enum Optional {
-    Absent,
-    Present(u32),
-}
-
-impl Optional {
-    // Whether there is one, as the word that says so.
-    pub fn mark(self) -> u32
-        ensures { result ≡ mark_of self }
-    {
-        match self {
-            Optional::Absent => 0,
-            Optional::Present(_) => 1,
-        }
-    }
-
-    // Its word, 0 where it is absent.
-    pub fn value(self) -> u32
-        ensures { result ≡ value_of self }
-    {
-        match self {
-            Optional::Absent => 0,
-            Optional::Present(v) => v,
-        }
-    }
-}
-
 // Sixteen bytes, little-endian, of which the first `len` are the label.
-#[derive(Clone, Copy)]
+#[derive(Clone, Copy, Debug, PartialEq, Eq)]
 pub struct Label {
     pub len: u32,
     pub words: [u32; 4],
 }
 
-#[derive(Clone, Copy)]
+#[derive(Clone, Copy, Debug, PartialEq, Eq)]
 pub struct V4 {
     pub local: u32,
     pub address: u32,
     pub prefix: u32,
-    pub broadcast: Optional,
+    pub broadcast: Option<u32>,
     pub scope: u32,
     pub flags: u32,
     pub proto: u32,
@@ -74,44 +47,39 @@ pub struct V4 {
 pub fn life_flags(flags: u32, valid: u32, preferred: u32) -> u32
     ensures { result ≡ life_flags valid preferred flags }
 {
-    let cleared = flags & !PERMANENT & !DEPRECATED;
+    let mut kept = flags & !PERMANENT & !DEPRECATED;
     if valid == life::FOREVER {
-        if preferred == 0 {
-            return cleared | PERMANENT | DEPRECATED;
-        }
-        return cleared | PERMANENT;
+        kept |= PERMANENT;
     }
     if preferred == 0 {
-        return cleared | DEPRECATED;
+        kept |= DEPRECATED;
     }
-    cleared
+    kept
 }
 
 impl V4 {
     // It is given `lifetimes` at `now`.
-    pub fn set_life(mut self, lifetimes: Lifetimes, now: Nanoseconds) -> V4
+    pub fn set_life(self, lifetimes: Lifetimes, now: Nanoseconds) -> V4
         ensures { result ≡ set_life_v4 lifetimes now.0 self }
     {
-        self.flags = life_flags(self.flags, lifetimes.valid.0, lifetimes.preferred.0);
-        let life = self.life;
-        self.life = life.set(lifetimes, now);
-        self
+        V4 {
+            flags: life_flags(self.flags, lifetimes.valid.0, lifetimes.preferred.0),
+            life: self.life.set(lifetimes, now),
+            ..self
+        }
     }
 
+    // A prefix over 32 counts as 32.
     pub fn mask(self) -> u32
-        requires { self.prefix ≤ 32 }
         ensures { result ≡ mask self.prefix }
     {
         prefix::mask4(self.prefix)
     }
 
-    // Whether `ip` is in its subnet. A prefix over 32 counts as 32.
+    // Whether `ip` is in its subnet.
     pub fn covers(self, ip: u32) -> bool
         ensures { result ≡ covers_v4 self ip }
     {
-        if 32 < self.prefix {
-            return prefix::same_network(ip, self.address, 32);
-        }
         prefix::same_network(ip, self.address, self.prefix)
     }
 
@@ -131,134 +99,116 @@ impl V4 {
                 valid: Seconds(life::FOREVER),
             };
         }
-        let life = self.life;
-        life.left(now)
+        self.life.left(now)
     }
 }
 
-impl V4 {
-    // Its row, from which it is read again.
-    pub fn words(self) -> [u32; ADDRESS_WORDS]
-        ensures value { result ≡ row_of self }
-        ensures result_value { v4_of result ≡ self }
-    {
-        let broadcast = self.broadcast;
-        let name = self.label.words;
-        let created = self.life.created;
-        let changed = self.life.changed;
+// Its row, from which it is read again.
+impl From<V4> for AddressRow {
+    ghost from_gives = { λ v row. (row ≡ row_of v) × (v4_of row ≡ v) };
+
+    fn from(v: V4) -> AddressRow {
+        let [created, created_high] = <[u32; 2]>::from(v.life.created);
+        let [changed, changed_high] = <[u32; 2]>::from(v.life.changed);
         [
-            self.local,
-            self.address,
-            self.prefix,
-            broadcast.mark(),
-            broadcast.value(),
-            self.scope,
-            self.flags,
-            self.proto,
-            self.label.len,
-            name[0],
-            name[1],
-            name[2],
-            name[3],
-            self.priority,
-            self.life.valid.0,
-            self.life.preferred.0,
-            created.low(),
-            created.high(),
-            changed.low(),
-            changed.high(),
+            v.local,
+            v.address,
+            v.prefix,
+            u32::from(v.broadcast.is_some()),
+            v.broadcast.unwrap_or(0),
+            v.scope,
+            v.flags,
+            v.proto,
+            v.label.len,
+            v.label.words[0],
+            v.label.words[1],
+            v.label.words[2],
+            v.label.words[3],
+            v.priority,
+            v.life.valid.0,
+            v.life.preferred.0,
+            created,
+            created_high,
+            changed,
+            changed_high,
         ]
     }
 }
 
-pub fn optional_of(present: u32, value: u32) -> Optional
+// The value beside a mark.
+pub fn optional_of(present: u32, value: u32) -> Option<u32>
     ensures { result ≡ optional_of present value }
 {
-    if present == 1 {
-        return Optional::Present(value);
-    }
-    Optional::Absent
+    (present == 1).then_some(value)
 }
 
-pub fn label_of(row: &[u32]) -> Label
-    requires { length row.now ≡ 20 }
-    ensures { result ≡ label_of row.now }
-{
-    Label {
-        len: row[address::LABEL_LENGTH],
-        words: [
-            row[address::LABEL],
-            row[address::LABEL_1],
-            row[address::LABEL_2],
-            row[address::LABEL_3],
-        ],
+impl From<&AddressRow> for Label {
+    ghost from_gives = { λ row l. l ≡ label_of row.now };
+
+    fn from(row: &AddressRow) -> Label {
+        Label {
+            len: row[address::LABEL_LENGTH],
+            words: [
+                row[address::LABEL],
+                row[address::LABEL_1],
+                row[address::LABEL_2],
+                row[address::LABEL_3],
+            ],
+        }
     }
 }
 
-pub fn life_of(row: &[u32]) -> Life
-    requires { length row.now ≡ 20 }
+// `Life` is the crate life's, so this is no `From`.
+pub fn life_of(row: &AddressRow) -> Life
     ensures { result ≡ life_of row.now }
 {
-    let created = Nanoseconds::of_words(row[address::CREATED], row[address::CREATED_HIGH]);
-    let changed = Nanoseconds::of_words(row[address::CHANGED], row[address::CHANGED_HIGH]);
     Life {
         valid: Seconds(row[address::VALID]),
         preferred: Seconds(row[address::PREFERRED]),
-        created: created,
-        changed: changed,
+        created: Nanoseconds::from([row[address::CREATED], row[address::CREATED_HIGH]]),
+        changed: Nanoseconds::from([row[address::CHANGED], row[address::CHANGED_HIGH]]),
     }
 }
 
-// The record of a row of 20 words.
-pub fn v4_of(row: &[u32]) -> V4
-    requires { length row.now ≡ 20 }
-    ensures { result ≡ v4_of row.now }
-{
-    let broadcast = optional_of(row[address::BROADCAST_PRESENT], row[address::BROADCAST]);
-    let label = label_of(row);
-    let life = life_of(row);
-    V4 {
-        local: row[address::LOCAL],
-        address: row[address::ADDRESS],
-        prefix: row[address::PREFIX],
-        broadcast: broadcast,
-        scope: row[address::SCOPE],
-        flags: row[address::FLAGS],
-        proto: row[address::PROTO],
-        label: label,
-        priority: row[address::PRIORITY],
-        life: life,
+// The record of a row; of one that could stand in a well-formed state it gives the row again.
+impl From<&AddressRow> for V4 {
+    ghost from_gives = { λ row v. (v ≡ v4_of row.now) × (fit_address row.now ≡ true → row_of v ≡ row.now) };
+
+    fn from(row: &AddressRow) -> V4 {
+        V4 {
+            local: row[address::LOCAL],
+            address: row[address::ADDRESS],
+            prefix: row[address::PREFIX],
+            broadcast: optional_of(row[address::BROADCAST_PRESENT], row[address::BROADCAST]),
+            scope: row[address::SCOPE],
+            flags: row[address::FLAGS],
+            proto: row[address::PROTO],
+            label: Label::from(row),
+            priority: row[address::PRIORITY],
+            life: life_of(row),
+        }
     }
 }
 
-// The record of a row that could stand in a well-formed state, which gives the row again.
-pub fn record_of(row: &[u32]) -> V4
-    requires { fit_address row.now ≡ true }
-    ensures value { result ≡ v4_of row.now }
-    ensures result_value { row_of result ≡ row.now }
+// Whether the bytes of a word are 0 from the `n`th on.
+fn ends(word: u32, n: u32) -> bool
+    ensures { result ≡ word_ends word n }
 {
-    v4_of(row)
+    u64::from(word) >> (8 * n.min(4)) == 0
 }
 
-// Whether the bytes of `word`, which come after `from` others, are 0 from the `n`th on.
-fn ends(word: u32, n: u32, from: u32) -> bool
-    ensures { result ≡ word_ends word (n - from) }
-{
-    if n <= from {
-        return word == 0;
+impl Label {
+    // Whether it has at most 15 bytes, with zeros after it.
+    pub fn fits(self) -> bool
+        ensures { result ≡ fit_label self.len (get_or self.words 0 0 + get_or self.words 1 0 * 2 ^ 32 + get_or self.words 2 0 * 2 ^ 64 + get_or self.words 3 0 * 2 ^ 96) }
+    {
+        let n = self.len;
+        (n <= 15)
+            & ends(self.words[0], n)
+            & ends(self.words[1], n.saturating_sub(4))
+            & ends(self.words[2], n.saturating_sub(8))
+            & ends(self.words[3], n.saturating_sub(12))
     }
-    let left = n - from;
-    if 4 <= left {
-        return true;
-    }
-    word >> (8 * left) == 0
-}
-
-// Whether a label of `n` bytes has at most 15, with zeros after it.
-pub fn fit_label(n: u32, a: u32, b: u32, c: u32, d: u32) -> bool
-    ensures { result ≡ fit_label n (a + b * 2 ^ 32 + c * 2 ^ 64 + d * 2 ^ 96) }
-{
-    (n <= 15) & ends(a, n, 0) & ends(b, n, 4) & ends(c, n, 8) & ends(d, n, 12)
 }
 
 // Whether a value may stand beside its mark: any beside 1, only 0 beside 0.
@@ -268,43 +218,29 @@ pub fn fit_optional(present: u32, value: u32) -> bool
     (present == 1) | ((present == 0) & (value == 0))
 }
 
-// Whether a row could stand in a well-formed state.
+// Whether a row could stand in a well-formed state. The tests have no branches between them, since rows are asked one after another.
+#[tactic(auto, unfolding(layout::specs::Address::fit_address))]
 pub fn fit_address(row: &[u32]) -> bool
     ensures { result ≡ fit_address row.now }
 {
-    if row.len() != ADDRESS_WORDS {
+    let Some(row) = row.as_array::<ADDRESS_WORDS>() else {
         return false;
-    }
+    };
     (row[address::PREFIX] <= 32)
         & fit_optional(row[address::BROADCAST_PRESENT], row[address::BROADCAST])
         & (row[address::SCOPE] < 256)
         & (row[address::PROTO] < 256)
-        & fit_label(
-            row[address::LABEL_LENGTH],
-            row[address::LABEL],
-            row[address::LABEL_1],
-            row[address::LABEL_2],
-            row[address::LABEL_3],
-        )
-}
-
-#[derive(Clone, Copy)]
-pub enum LeftReply {
-    Refused(u32),
-    Left { preferred: u32, valid: u32 },
+        & Label::from(row).fits()
 }
 
 // What is left of the lifetimes of an address, handed over as any row of words.
-pub fn left(row: &[u32], clock: u64) -> LeftReply
+pub fn left(row: &[u32], clock: u64) -> Result<Left, Refusal>
     ensures value { result ≡ left_reply row.now clock }
     ensures result_value { reply_of result ≡ left_call row.now clock }
 {
-    if fit_address(row) {
-        let left = v4_of(row).left(Nanoseconds(clock));
-        return LeftReply::Left {
-            preferred: left.preferred.0,
-            valid: left.valid.0,
-        };
+    if !fit_address(row) {
+        return Err(Refusal::Malformed);
     }
-    LeftReply::Refused(201)
+    let row = row.as_array::<ADDRESS_WORDS>().unwrap();
+    Ok(V4::from(row).left(Nanoseconds(clock)))
 }

@@ -1,12 +1,10 @@
 -- A route as a record, read from a row and turned into a row again (document 01, "The state, words of 32 bits").
 -- Assumes nothing.
-use Rattle.std.specs.Prelude.{ℕ, ◌+◌, ◌≤◌, ◌≡◌, refl, Bool, true, false, cond, List, [], ◌∷◌, ◌++◌, eqb, leb, length, Result, Ok, Err}
-use Rattle.std.specs.Result.{is_ok}
+use Rattle.std.specs.Prelude.{ℕ, ◌-◌, ◌≡◌, refl, Bool, true, false, cond, List, [], ◌∷◌, ◌++◌, eqb, leb, length, drop, Result, Ok, Err}
+use Rattle.std.specs.Result.{is_ok, result_unwrap_or}
 use Rattle.std.proofs.Common.{arith, sym, ap, ◌∙◌, eqb-true, leb-true}
 use Rattle.std.proofs.lemmas.Bool.{eqb-false}
-use Rattle.lists.specs.Lists.{Row, put}
-use Rattle.lists.specs.Put.{put-behind, put_whole}
-use Rattle.lists.specs.Rows.{length-put}
+use Rattle.lists.specs.Lists.{Row}
 use Rattle.lists.specs.Bools.{test-case, and_iff, true-false}
 use Rattle.kind.specs.declared.Kind.{Kind}
 use Rattle.kind.specs.declared.Kind.TheVariants.{Unicast}
@@ -23,8 +21,7 @@ use Rattle.row_route.specs.declared.Route4.{Route4}
 
 -- the kind that was found; a code that is none of the seven reads as a unicast route's
 abbrev pub kind_in : Result Kind UnknownKind → Kind
-kind_in (Ok k) = k
-kind_in (Err e) = Unicast
+kind_in f = result_unwrap_or f Unicast
 
 -- a mark, 0 or 1
 abbrev pub bit_of : Bool → ℕ
@@ -108,6 +105,10 @@ row-again r h =
     )
     (sym (spells 32 0 r (length-route r h)))
 
+-- the metrics are the last 17 words
+pub metrics-last : (r m : List ℕ) → length r ≡ 32 → m ≡ drop (length r - 17) r → m ≡ Route.metrics r
+metrics-last r m h e = e ∙ ap (λ (n : ℕ). drop (n - 17) r) h
+
 -- ---- a record is had again from its row
 again-bit : (b : Bool) → eqb (bit_of b) 1 ≡ b
 again-bit true = refl
@@ -117,24 +118,10 @@ pub record_again : (r : Route4) → route4_of (row_of r) ≡ r
 record_again r =
     rw (kind-code r.kind, optional-again r.prefsrc, optional-again r.gateway, again-bit r.device, again-bit r.onlink, again-bit r.uses_gateway)
 
--- ---- both, of words put in two parts into 32 others, where those that are computed are right
-module _ (r : Route4) (k a b c d x y z : ℕ) (l one two : List ℕ) (long : length l ≡ 32) (seventeen : length r.metrics ≡ 17) where
-  abbrev head : Row
-  head = head_with r k a b c d x y z
-
-  pub head-room : one ≡ put 0 head l → 15 + length r.metrics ≤ length one
-  head-room e = omega (arith, ap length e, length-put 0 head l (omega arith))
-
-  joined : one ≡ put 0 head l → two ≡ put 15 r.metrics one → two ≡ head ++ r.metrics
-  joined e f =
-      f
-      ∙ ap (put 15 r.metrics) e
-      ∙ put-behind 0 head l (omega arith) r.metrics (omega arith)
-      ∙ put_whole (head ++ r.metrics) l (omega arith)
-
-  pub written : k ≡ code_of r.kind → a ≡ mark_of r.prefsrc → b ≡ value_of r.prefsrc → c ≡ mark_of r.gateway → d ≡ value_of r.gateway
-      → x ≡ bit_of r.device → y ≡ bit_of r.onlink → z ≡ bit_of r.uses_gateway → one ≡ put 0 head l → two ≡ put 15 r.metrics one
-      → (two ≡ row_of r) × (route4_of two ≡ r)
-  written ek ea eb ec ed ex ey ez e f =
-      let same : two ≡ row_of r = joined e f ∙ rw (ek, ea, eb, ec, ed, ex, ey, ez) in
-      (same, ap route4_of same ∙ record_again r)
+-- ---- both, of words written in two parts, where those that are computed are right
+pub written : (r : Route4) (k a b c d x y z : ℕ) (head metrics : List ℕ) → k ≡ code_of r.kind → a ≡ mark_of r.prefsrc → b ≡ value_of r.prefsrc → c ≡ mark_of r.gateway
+    → d ≡ value_of r.gateway → x ≡ bit_of r.device → y ≡ bit_of r.onlink → z ≡ bit_of r.uses_gateway → head ≡ head_with r k a b c d x y z → metrics ≡ r.metrics
+    → (head ++ metrics ≡ row_of r) × (route4_of (head ++ metrics) ≡ r)
+written r k a b c d x y z head metrics ek ea eb ec ed ex ey ez e f =
+    let same : head ++ metrics ≡ row_of r = rw (e, f, ek, ea, eb, ec, ed, ex, ey, ez) in
+    (same, ap route4_of same ∙ record_again r)

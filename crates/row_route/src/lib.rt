@@ -1,17 +1,15 @@
 // A route row: its record, whether it is fit, and its place in the order of routes.
 #![tactic(auto)]
 
-ghost use Rattle.std.specs.Prelude.{◌≡◌, ◌≤◌, eqb, length, true, drop};
+ghost use Rattle.std.specs.Prelude.{◌≡◌, ◌≤◌, eqb, true};
 ghost use Rattle.prefix.specs.Mask.{host_bits};
-ghost use Rattle.kind.specs.Kind.{kind_of};
 ghost use Rattle.layout.specs.Route.{fit_route, before};
-ghost use Rattle.row_route.specs.Route4.{kind_in, bit_of, route4_of, row_of};
+ghost use Rattle.row_route.specs.Route4.{route4_of, row_of};
 
 use kind::Kind;
-use layout::{METRICS, ROUTE_WORDS, route};
-use row_address::Optional;
+use layout::{METRICS, ROUTE_WORDS, RouteRow, route};
 
-#[derive(Clone, Copy)]
+#[derive(Clone, Copy, Debug, PartialEq, Eq)]
 pub struct Route4 {
     pub table: u32,
     pub dst: u32,
@@ -21,8 +19,8 @@ pub struct Route4 {
     pub kind: Kind,
     pub proto: u32,
     pub scope: u32,
-    pub prefsrc: Optional,
-    pub gateway: Optional,
+    pub prefsrc: Option<u32>,
+    pub gateway: Option<u32>,
     // Whether it goes through the loopback; the kinds that reject have no device.
     pub device: bool,
     pub onlink: bool,
@@ -31,97 +29,56 @@ pub struct Route4 {
     pub metrics: [u32; METRICS],
 }
 
-// The kind of a code; one that is none of the seven reads as a unicast route's.
-fn kind_of(code: u32) -> Kind
-    ensures { result ≡ kind_in (kind_of code) }
-{
-    Kind::try_from(code).unwrap_or(Kind::Unicast)
-}
+// The record of a row; of one that could stand in a well-formed state it gives the row again. A code that is none of the seven
+// reads as a unicast route's.
+impl From<&RouteRow> for Route4 {
+    ghost from_gives = { λ row r. (r ≡ route4_of row.now) × (fit_route row.now ≡ true → row_of r ≡ row.now) };
 
-fn bit(b: bool) -> u32
-    ensures { result ≡ bit_of b }
-{
-    if b {
-        return 1;
-    }
-    0
-}
-
-fn metrics_of(row: &[u32]) -> [u32; METRICS]
-    requires { length row.now ≡ 32 }
-    ensures { result ≡ drop 15 row.now }
-{
-    let mut metrics = [0u32; METRICS];
-    words::copy(&mut metrics, &row[route::METRICS..ROUTE_WORDS]);
-    metrics
-}
-
-// The record of a row of 32 words.
-pub fn route4_of(row: &[u32]) -> Route4
-    requires { length row.now ≡ 32 }
-    ensures { result ≡ route4_of row.now }
-{
-    let kind = kind_of(row[route::KIND]);
-    let prefsrc = row_address::optional_of(row[route::PREFSRC_PRESENT], row[route::PREFSRC]);
-    let gateway = row_address::optional_of(row[route::GATEWAY_PRESENT], row[route::GATEWAY]);
-    let metrics = metrics_of(row);
-    Route4 {
-        table: row[route::TABLE],
-        dst: row[route::DST],
-        len: row[route::LEN],
-        tos: row[route::TOS],
-        priority: row[route::PRIORITY],
-        kind: kind,
-        proto: row[route::PROTO],
-        scope: row[route::SCOPE],
-        prefsrc: prefsrc,
-        gateway: gateway,
-        device: row[route::DEVICE] == 1,
-        onlink: row[route::ONLINK] == 1,
-        uses_gateway: row[route::USES_GATEWAY] == 1,
-        metrics: metrics,
+    fn from(row: &RouteRow) -> Route4 {
+        Route4 {
+            table: row[route::TABLE],
+            dst: row[route::DST],
+            len: row[route::LEN],
+            tos: row[route::TOS],
+            priority: row[route::PRIORITY],
+            kind: Kind::try_from(row[route::KIND]).unwrap_or(Kind::Unicast),
+            proto: row[route::PROTO],
+            scope: row[route::SCOPE],
+            prefsrc: row_address::optional_of(row[route::PREFSRC_PRESENT], row[route::PREFSRC]),
+            gateway: row_address::optional_of(row[route::GATEWAY_PRESENT], row[route::GATEWAY]),
+            device: row[route::DEVICE] == 1,
+            onlink: row[route::ONLINK] == 1,
+            uses_gateway: row[route::USES_GATEWAY] == 1,
+            metrics: *row.last_chunk::<METRICS>().unwrap(),
+        }
     }
 }
 
-// The record of a row that could stand in a well-formed state, which gives the row again.
-pub fn record_of(row: &[u32]) -> Route4
-    requires { fit_route row.now ≡ true }
-    ensures value { result ≡ route4_of row.now }
-    ensures result_value { row_of result ≡ row.now }
-{
-    route4_of(row)
-}
+// Its row, from which it is read again.
+impl From<Route4> for RouteRow {
+    ghost from_gives = { λ r row. (row ≡ row_of r) × (route4_of row ≡ r) };
 
-impl Route4 {
-    // Its row, from which it is read again.
-    pub fn words(self) -> [u32; ROUTE_WORDS]
-        ensures value { result ≡ row_of self }
-        ensures result_value { route4_of result ≡ self }
-    {
-        let kind = self.kind;
-        let prefsrc = self.prefsrc;
-        let gateway = self.gateway;
-        let metrics = self.metrics;
-        let head = [
-            self.table,
-            self.dst,
-            self.len,
-            self.tos,
-            self.priority,
-            u32::from(kind),
-            self.proto,
-            self.scope,
-            prefsrc.mark(),
-            prefsrc.value(),
-            gateway.mark(),
-            gateway.value(),
-            bit(self.device),
-            bit(self.onlink),
-            bit(self.uses_gateway),
-        ];
-        let mut row = [0u32; ROUTE_WORDS];
-        words::store(&mut row, 0, &head);
-        words::store(&mut row, route::METRICS, &metrics);
+    fn from(r: Route4) -> RouteRow {
+        let mut row = [0; ROUTE_WORDS];
+        let (head, metrics) = row.split_at_mut(route::METRICS);
+        head.copy_from_slice(&[
+            r.table,
+            r.dst,
+            r.len,
+            r.tos,
+            r.priority,
+            u32::from(r.kind),
+            r.proto,
+            r.scope,
+            u32::from(r.prefsrc.is_some()),
+            r.prefsrc.unwrap_or(0),
+            u32::from(r.gateway.is_some()),
+            r.gateway.unwrap_or(0),
+            u32::from(r.device),
+            u32::from(r.onlink),
+            u32::from(r.uses_gateway),
+        ]);
+        metrics.copy_from_slice(&r.metrics);
         row
     }
 }
@@ -138,9 +95,9 @@ fn no_host_bits(ip: u32, prefix: u32) -> bool
 pub fn fit_route(r: &[u32]) -> bool
     ensures { result ≡ fit_route r.now }
 {
-    if r.len() != ROUTE_WORDS {
+    let Some(r) = r.as_array::<ROUTE_WORDS>() else {
         return false;
-    }
+    };
     if 32 < r[route::LEN] {
         return false;
     }
@@ -157,8 +114,7 @@ pub fn fit_route(r: &[u32]) -> bool
 }
 
 // The place of a is before that of b. Most rows differ in their destinations, so these are asked first.
-pub fn before(a: &[u32], b: &[u32]) -> bool
-    requires { (length a.now ≡ 32) × (length b.now ≡ 32) }
+pub fn before(a: &RouteRow, b: &RouteRow) -> bool
     ensures { result ≡ before a.now b.now }
 {
     if a[route::DST] != b[route::DST] {

@@ -49,8 +49,9 @@ fn set_life(mut row: AddressRow, q: &AddV4, clock: Nanoseconds) -> AddressRow
     );
     row[address::VALID] = life.valid.0;
     row[address::PREFERRED] = life.preferred.0;
-    row[address::CHANGED] = clock.low();
-    row[address::CHANGED_HIGH] = clock.high();
+    let [changed, changed_high] = <[u32; 2]>::from(clock);
+    row[address::CHANGED] = changed;
+    row[address::CHANGED_HIGH] = changed_high;
     row
 }
 
@@ -63,8 +64,9 @@ pub fn asked(q: &AddV4, clock: Nanoseconds) -> AddressRow
     row[..SHARED].copy_from_slice(&q[..SHARED]);
     row[address::FLAGS] = as_primary(row[address::FLAGS]);
     row = set_life(row, q, clock);
-    row[address::CREATED] = clock.low();
-    row[address::CREATED_HIGH] = clock.high();
+    let [created, created_high] = <[u32; 2]>::from(clock);
+    row[address::CREATED] = created;
+    row[address::CREATED_HIGH] = created_high;
     row
 }
 

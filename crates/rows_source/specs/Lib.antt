@@ -1,4 +1,2 @@
-pub mod Selected
-pub mod Laws
-pub mod Pass
-pub mod Answer
+pub mod Source
+pub mod Select

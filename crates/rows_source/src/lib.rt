@@ -1,109 +1,83 @@
-// The source address for a destination, over rows of addresses and routes.
+// The source choice over rows of addresses and routes.
 #![tactic(auto)]
 
-ghost use Rattle.std.specs.Prelude.{◌≡◌, ◌+◌, ◌*◌, ◌≤◌, ◌<◌, List, length, get_or};
-ghost use Rattle.lists.specs.Lists.{Row};
-ghost use Rattle.lists.specs.Laid.{Laid, Lays};
-ghost use Rattle.layout.specs.Address.{fit_address};
-ghost use Rattle.layout.specs.Route.{fit_route};
+ghost use Rattle.std.specs.Prelude.{◌≡◌, ◌&&◌};
+ghost use Rattle.std.specs.List.{find};
+ghost use Rattle.std.specs.Option.{option_map};
+ghost use Rattle.lists.specs.Library.{own};
 ghost use Rattle.definition.specs.Reference.Source.{eligible, reaches, select4, source4};
-ghost use Rattle.rows_source.specs.Selected.{wanted, local_in, source_rows};
+ghost use Rattle.rows_source.specs.Source.{source_rows};
 
-use layout::{ADDRESS_WORDS, address, route};
+use layout::{AddressRow, RouteRow, address, route};
+use rows::{Addresses, Routes};
 use rows_lookup::Flow;
-
-// An address that was chosen, or none.
-#[derive(Clone, Copy)]
-pub enum Selected {
-    Local(u32),
-    Nothing,
-}
 
 // 127.0.0.1
 const LOOPBACK: u32 = 0x7f000001;
 
 // A primary of the asked scope or a wider one (a smaller number is wider); nowhere counts as host.
-fn eligible(a: &[u32], scope: u32) -> bool
-    requires { length a.now ≡ 20 }
+#[tactic(auto, unfolding(definition::specs::Reference::Source::eligible))]
+fn eligible(a: &AddressRow, scope: u32) -> bool
     ensures { result ≡ eligible scope a.now }
 {
-    (a[address::FLAGS] & row_address::SECONDARY == 0)
-        & ((a[address::SCOPE] <= scope) | (layout::SCOPE_HOST <= scope))
+    !row_subnet::secondary(a) && a[address::SCOPE].min(layout::SCOPE_HOST) <= scope
 }
 
 // In the destination's subnet, if there is one.
-fn reaches(a: &[u32], dst_present: bool, dst: u32) -> bool
-    requires { (length a.now ≡ 20) × (get_or a.now 2 0 ≤ 32) }
-    ensures { result ≡ reaches (wanted dst_present dst) a.now }
+fn reaches(a: &AddressRow, dst: Option<u32>) -> bool
+    ensures { result ≡ reaches (own dst) a.now }
 {
-    let near = prefix::same_network(dst, a[address::ADDRESS], a[address::PREFIX]);
-    !dst_present | near
+    dst.is_none_or(|ip| row_subnet::covers(a, ip))
 }
 
-// The first address that is eligible and in the destination's subnet, else the first that is eligible: one pass, that one kept.
-pub fn select4(addresses: &[u32], n: usize, dst_present: bool, dst: u32, scope: u32) -> Selected
-    requires { (length addresses.now ≡ 20 * n) × Lays 20 fit_address addresses.now }
-    ensures { (l : List Row) → Laid 20 fit_address addresses.now l → local_in result ≡ select4 l (wanted dst_present dst) scope }
+fn first_eligible<'a>(addresses: Addresses<'a>, scope: u32) -> Option<&'a AddressRow>
+    ensures { option_map (λ a. a.now) result ≡ find (eligible scope) addresses.entry.rows.now }
 {
-    let mut kept = n;
-    let mut i = 0usize;
-    while i < n {
-        let at = ADDRESS_WORDS * i;
-        let a = &addresses[at..at + ADDRESS_WORDS];
-        let fit = eligible(a, scope);
-        let near = reaches(a, dst_present, dst);
-        if fit & near {
-            return Selected::Local(a[address::LOCAL]);
-        }
-        if fit & (kept == n) {
-            kept = i;
-        }
-        i += 1;
-    }
-    if n <= kept {
-        return Selected::Nothing;
-    }
-    Selected::Local(addresses[ADDRESS_WORDS * kept])
+    addresses.rows.iter().find(|a| eligible(a, scope))
+}
+
+fn first_near<'a>(addresses: Addresses<'a>, dst: Option<u32>, scope: u32) -> Option<&'a AddressRow>
+    ensures { option_map (λ a. a.now) result ≡ find (λ a. eligible scope a && reaches (own dst) a) addresses.entry.rows.now }
+{
+    addresses
+        .rows
+        .iter()
+        .find(|a| eligible(a, scope) && reaches(a, dst))
+}
+
+// The first address that is eligible and in the destination's subnet, else the first that is eligible.
+pub fn select4(addresses: Addresses<'_>, dst: Option<u32>, scope: u32) -> Option<u32>
+    ensures { own result ≡ select4 addresses.entry.rows.now (own dst) scope }
+{
+    let chosen = match first_near(addresses, dst, scope) {
+        Some(a) => a,
+        None => first_eligible(addresses, scope)?,
+    };
+    Some(chosen[address::LOCAL])
 }
 
 // The source for a route's row: its preferred source; else for a local one the destination itself, for another the choice by
 // its gateway and scope.
-pub fn source4(addresses: &[u32], n: usize, row: &[u32], ip: u32) -> Selected
-    requires { (length addresses.now ≡ 20 * n) × Lays 20 fit_address addresses.now × (length row.now ≡ 32) }
-    ensures { (l : List Row) → Laid 20 fit_address addresses.now l → local_in result ≡ source4 l row.now ip }
+#[tactic(auto, unfolding(definition::specs::Reference::Source::source4))]
+pub fn source4(addresses: Addresses<'_>, row: &RouteRow, ip: u32) -> Option<u32>
+    ensures { own result ≡ source4 addresses.entry.rows.now row.now ip }
 {
     if row[route::PREFSRC_PRESENT] == 1 {
-        return Selected::Local(row[route::PREFSRC]);
+        return Some(row[route::PREFSRC]);
     }
     if row[route::KIND] == layout::KIND_LOCAL {
-        return Selected::Local(ip);
+        return Some(ip);
     }
-    select4(
-        addresses,
-        n,
-        row[route::GATEWAY_PRESENT] == 1,
-        row[route::GATEWAY],
-        row[route::SCOPE],
-    )
+    let gateway = (row[route::GATEWAY_PRESENT] == 1).then_some(row[route::GATEWAY]);
+    select4(addresses, gateway, row[route::SCOPE])
 }
 
 // The source for a destination by the addresses, the routes and whether 253 is listed: 127.0.0.1 where there is no route or no address.
-pub fn source(
-    addresses: &[u32],
-    n: usize,
-    routes: &[u32],
-    m: usize,
-    default_listed: bool,
-    ip: u32,
-) -> u32
-    requires { (length addresses.now ≡ 20 * n) × Lays 20 fit_address addresses.now × (length routes.now ≡ 32 * m) × Lays 32 fit_route routes.now }
-    ensures { (l : List Row) → Laid 20 fit_address addresses.now l → (k : List Row) → Laid 32 fit_route routes.now k → result ≡ source_rows default_listed l k ip }
+pub fn source(addresses: Addresses<'_>, routes: Routes<'_>, default_listed: bool, ip: u32) -> u32
+    ensures { result ≡ source_rows default_listed addresses.entry.rows.now routes.entry.rows.now ip }
 {
-    match rows_lookup::lookup4_in(rows::rows_of(routes), default_listed, Flow::to(ip)) {
-        Ok(row) => match source4(addresses, n, row, ip) {
-            Selected::Local(a) => a,
-            Selected::Nothing => LOOPBACK,
-        },
+    match rows_lookup::lookup4_in(routes, default_listed, Flow::to(ip)) {
+        Ok(row) => source4(addresses, row, ip).unwrap_or(LOOPBACK),
         Err(_) => LOOPBACK,
     }
 }

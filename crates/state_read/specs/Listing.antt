@@ -13,7 +13,8 @@ use Rattle.definition.specs.Preservation.Fit.{fit-state}
 use Rattle.state.specs.Represents.{RepresentsSome, holds-decode, sizes-valid}
 use Rattle.state.specs.Change.{tables-at}
 use Rattle.state_tables.specs.Listed.{tables_of}
-use Rattle.state_read.specs.Parts.{route_part, ready_routes}
+use Rattle.state.specs.InUse.{route_part}
+use Rattle.state_read.specs.Parts.{ready_routes}
 use Rattle.rows_dump.specs.Pass.{dump_rows, dump-rows}
 use Rattle.definition.specs.Step.{listing_room}
 

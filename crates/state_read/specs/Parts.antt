@@ -1,94 +1,26 @@
--- The rows in use, as parts of words that hold a state.
-use Rattle.std.specs.Prelude.{ℕ, ◌+◌, ◌-◌, ◌*◌, ◌≤◌, ◌≡◌, refl, List, ◌++◌, length, take, drop}
-use Rattle.std.proofs.Common.{arith, sym, ap, subst, ◌∙◌, append_assoc, take_at, drop_at}
-use Rattle.lists.specs.Lists.{flat, pad, zeros, among}
-use Rattle.lists.specs.Rows.{length-flat}
-use Rattle.lists.specs.Laid.{Laid, Lays, laid-length}
-use Rattle.layout.specs.Address.{fit_address}
+-- The routes and tables in use, of words that hold a state.
+-- Assumes nothing.
+use Rattle.std.specs.Prelude.{ℕ, ◌*◌, ◌≡◌, List, length}
+use Rattle.std.proofs.Common.{sym, ap, subst, ◌∙◌}
+use Rattle.lists.specs.Lists.{among}
+use Rattle.lists.specs.Laid.{Laid, Lays}
 use Rattle.layout.specs.Route.{fit_route}
 use Rattle.definition.specs.State.{State}
-use Rattle.definition.specs.Words.{address_count, route_count, addresses_size, routes_at, routes_size}
+use Rattle.definition.specs.Words.{route_count}
 use Rattle.definition.specs.Reference.Lookup.{listed}
-use Rattle.state.specs.Represents.{Represents, RepresentsSome, counts, behind_addresses, before_routes, encode-addresses, encode-routes, sized_a, sized_r, at_routes, count-addresses, count-routes, sizes-valid}
+use Rattle.state.specs.Represents.{Represents, RepresentsSome}
+use Rattle.state.specs.InUse.{route_part, laid-routes, lays_routes, length-routes}
 use Rattle.state.specs.Change.{tables-at}
 use Rattle.state_tables.specs.Listed.{tables_of}
 
--- the words of the rows in use, as they are lent
-abbrev pub address_part : List ℕ → List ℕ
-address_part w = take (3 + 20 * address_count w - 3) (drop 3 w)
+pub listed-there : {w : List ℕ} {st : State} → Represents w st → (t : ℕ) → among t (tables_of w) ≡ listed t st
+listed-there h t = ap (among t) (tables-at h)
 
-abbrev pub route_part : List ℕ → List ℕ
-route_part w = take (routes_at + 32 * route_count w - routes_at) (drop routes_at w)
-
--- n words at a place, of words that are laid out so
-part_at : (before flats rest : List ℕ) (at size n : ℕ) → length before ≡ at → length flats ≡ n → take (at + n - at) (drop at (before ++ (pad size flats ++ rest))) ≡ flats
-unfolding pad
-part_at before flats rest at size n p q =
-    let whole : at + n - at ≡ n = omega arith in
-    rw (whole, drop_at before (pad size flats ++ rest) at p)
-    (ap (take n) (append_assoc flats (zeros (size - length flats)) rest) ∙ take_at flats (zeros (size - length flats) ++ rest) n q)
-
-module _ {w : List ℕ} {st : State} (h : Represents w st) where
-  pub laid-addresses : Laid 20 fit_address (address_part w) st.addresses
-  laid-addresses =
-      let long : length (flat st.addresses) ≡ 20 * address_count w = length-flat 20 st.addresses (sized_a h) ∙ ap (λ (n : ℕ). 20 * n) (sym (count-addresses h)) in
-      record {
-        words = ap (λ (x : List ℕ). take (3 + 20 * address_count w - 3) (drop 3 x)) (h.words ∙ encode-addresses st)
-            ∙ part_at (counts st) (flat st.addresses) (behind_addresses st) 3 addresses_size (20 * address_count w) refl long;
-        width = sized_a h;
-        fitting = h.addresses_fit;
-      }
-
-  pub laid-routes : Laid 32 fit_route (route_part w) st.routes
-  laid-routes =
-      let long : length (flat st.routes) ≡ 32 * route_count w = length-flat 32 st.routes (sized_r h) ∙ ap (λ (n : ℕ). 32 * n) (sym (count-routes h)) in
-      record {
-        words = ap (λ (x : List ℕ). take (routes_at + 32 * route_count w - routes_at) (drop routes_at x)) (h.words ∙ encode-routes st)
-            ∙ part_at (before_routes st) (flat st.routes) (pad 32 st.tables) routes_at routes_size (32 * route_count w) (at_routes h) long;
-        width = sized_r h;
-        fitting = h.routes_fit;
-      }
-
-  pub listed-there : (t : ℕ) → among t (tables_of w) ≡ listed t st
-  listed-there t = ap (among t) (tables-at h)
-
--- the same of some state
-pub lays_addresses : {w : List ℕ} → RepresentsSome w → Lays 20 fit_address (address_part w)
-lays_addresses v = record { list = v.state.addresses; laid = laid-addresses v.holds }
-
-pub lays_routes : {w : List ℕ} → RepresentsSome w → Lays 32 fit_route (route_part w)
-lays_routes v = record { list = v.state.routes; laid = laid-routes v.holds }
-
--- where the parts end
-pub route-end : {w : List ℕ} → RepresentsSome w → (routes_at + 32 * route_count w ≤ length w) × (route_count w ≤ 256)
-route-end v =
-    let s = sizes-valid v in
-    (omega (arith, s.long, s.routes), s.routes)
-
-pub address-end : {w : List ℕ} → RepresentsSome w → (3 + 20 * address_count w ≤ length w) × (address_count w ≤ 64)
-address-end v =
-    let s = sizes-valid v in
-    (omega (arith, s.long, s.addresses), s.addresses)
-
--- how long the parts are
-pub length-routes : {w : List ℕ} → RepresentsSome w → length (route_part w) ≡ 32 * route_count w
-length-routes v = laid-length (laid-routes v.holds) ∙ ap (λ (n : ℕ). 32 * n) (sym (count-routes v.holds))
-
-pub length-addresses : {w : List ℕ} → RepresentsSome w → length (address_part w) ≡ 20 * address_count w
-length-addresses v = laid-length (laid-addresses v.holds) ∙ ap (λ (n : ℕ). 20 * n) (sym (count-addresses v.holds))
-
--- what a function over rows asks, of a part that a call handed out and a count that another gave
+-- what a function over the words of rows asks, of a part that a call handed out and a count that another gave
 pub ready_routes : {w : List ℕ} (p : List ℕ) (n : ℕ) → RepresentsSome w → p ≡ route_part w → n ≡ route_count w → (length p ≡ 32 * n) × Lays 32 fit_route p
 ready_routes p n v e f =
     (ap length e ∙ length-routes v ∙ ap (λ (k : ℕ). 32 * k) (sym f), subst (Lays 32 fit_route) (sym e) (lays_routes v))
 
-pub ready_addresses : {w : List ℕ} (p : List ℕ) (n : ℕ) → RepresentsSome w → p ≡ address_part w → n ≡ address_count w → (length p ≡ 20 * n) × Lays 20 fit_address p
-ready_addresses p n v e f =
-    (ap length e ∙ length-addresses v ∙ ap (λ (k : ℕ). 20 * k) (sym f), subst (Lays 20 fit_address) (sym e) (lays_addresses v))
-
 -- and what it then says of the state
 pub of_routes : {w : List ℕ} {st : State} (p : List ℕ) → Represents w st → p ≡ route_part w → Laid 32 fit_route p st.routes
 of_routes {st = st} p h e = subst (λ (x : List ℕ). Laid 32 fit_route x st.routes) (sym e) (laid-routes h)
-
-pub of_addresses : {w : List ℕ} {st : State} (p : List ℕ) → Represents w st → p ≡ address_part w → Laid 20 fit_address p st.addresses
-of_addresses {st = st} p h e = subst (λ (x : List ℕ). Laid 20 fit_address x st.addresses) (sym e) (laid-addresses h)

@@ -6,21 +6,17 @@ ghost use Rattle.rows_lookup.specs.Flow.{flow_of};
 ghost use Rattle.rows_lookup.specs.Answer.{answered};
 ghost use Rattle.definition.specs.State.{State};
 ghost use Rattle.definition.specs.Words.{decode, well_formed, base_size};
-ghost use Rattle.rows_source.specs.Selected.{local_in, wanted};
 ghost use Rattle.definition.specs.Reference.Lookup.{lookup_in, local4};
 ghost use Rattle.definition.specs.Reference.Source.{select4, source4, source, dump4};
 ghost use Rattle.state.specs.Represents.{Represents, RepresentsSome};
-ghost use Rattle.state_read.specs.Parts.{address_part, route_part};
-ghost use Rattle.lists.specs.Library.{lent_ok};
+ghost use Rattle.state.specs.InUse.{route_part};
+ghost use Rattle.lists.specs.Library.{own, lent_ok};
 ghost use Rattle.lists.specs.Lists.{flat, put};
 ghost use Rattle.definition.specs.Step.{listing_room};
 
-use layout::{
-    ADDRESS_WORDS, ADDRESSES_AT, ROUTE_WORDS, ROUTES_AT, RouteRow, TABLE_COUNT, TABLES_AT,
-};
+use layout::{ROUTE_WORDS, ROUTES_AT, RouteRow, TABLE_COUNT, TABLES_AT};
 use refusal::Refusal;
 use rows_lookup::Flow;
-use rows_source::Selected;
 
 // The words of the routes in use.
 pub fn routes(s: &[u32]) -> &[u32]
@@ -30,16 +26,6 @@ pub fn routes(s: &[u32]) -> &[u32]
     let n = state::route_count(s);
     let e = ROUTES_AT + ROUTE_WORDS * n;
     &s[ROUTES_AT..e]
-}
-
-// The words of the addresses in use.
-pub fn addresses(s: &[u32]) -> &[u32]
-    requires { RepresentsSome s.now }
-    ensures { result.now ≡ address_part s.now }
-{
-    let n = state::address_count(s);
-    let e = ADDRESSES_AT + ADDRESS_WORDS * n;
-    &s[ADDRESSES_AT..e]
 }
 
 // The route of a flow.
@@ -60,26 +46,20 @@ pub fn local4(s: &[u32], ip: u32) -> bool
     rows_lookup::local4(state::routes(s), listed, ip)
 }
 
-// The address chosen for a destination (any where it isn't present) and a scope.
-pub fn select4(s: &[u32], dst_present: bool, dst: u32, scope: u32) -> Selected
+// The address chosen for a destination, if there is one, and a scope.
+pub fn select4(s: &[u32], dst: Option<u32>, scope: u32) -> Option<u32>
     requires { RepresentsSome s.now }
-    ensures { (st : State) → Represents s.now st → local_in result ≡ select4 st.addresses (wanted dst_present dst) scope }
+    ensures { (st : State) → Represents s.now st → own result ≡ select4 st.addresses (own dst) scope }
 {
-    rows_source::select4(
-        addresses(s),
-        state::address_count(s),
-        dst_present,
-        dst,
-        scope,
-    )
+    rows_source::select4(state::addresses(s), dst, scope)
 }
 
 // The source for a route's row and a destination.
-pub fn source4(s: &[u32], row: &[u32], ip: u32) -> Selected
-    requires { RepresentsSome s.now × (length row.now ≡ 32) }
-    ensures { (st : State) → Represents s.now st → local_in result ≡ source4 st.addresses row.now ip }
+pub fn source4(s: &[u32], row: &RouteRow, ip: u32) -> Option<u32>
+    requires { RepresentsSome s.now }
+    ensures { (st : State) → Represents s.now st → own result ≡ source4 st.addresses row.now ip }
 {
-    rows_source::source4(addresses(s), state::address_count(s), row, ip)
+    rows_source::source4(state::addresses(s), row, ip)
 }
 
 // The source for a destination.
@@ -88,14 +68,7 @@ pub fn source(s: &[u32], ip: u32) -> u32
     ensures { (st : State) → Represents s.now st → result ≡ source st ip }
 {
     let listed = state_tables::listed(s, layout::TABLE_DEFAULT);
-    rows_source::source(
-        addresses(s),
-        state::address_count(s),
-        routes(s),
-        state::route_count(s),
-        listed,
-        ip,
-    )
+    rows_source::source(state::addresses(s), state::routes(s), listed, ip)
 }
 
 // The rows of a well-formed state in the order of a listing; how many is returned.

@@ -1,54 +1,26 @@
 -- The search for the run: what one row tells it, what holds after so many rows, and what it finds.
 -- Assumes nothing.
-use Rattle.std.specs.Prelude.{ℕ, ◌+◌, ◌*◌, ◌≤◌, ◌<◌, ◌≡◌, refl, Bool, true, ◌&&◌, ◌||◌, ltb, length, get_or}
-use Rattle.std.proofs.Common.{add-zero, arith, lit<}
+use Rattle.std.specs.Prelude.{ℕ, ◌+◌, ◌≤◌, ◌<◌, ◌≡◌, refl, Bool, true, ◌&&◌, ◌||◌, ltb, length, get_or}
+use Rattle.std.proofs.Common.{add-zero, arith}
 use Rattle.std.proofs.Math.Path.{sym, ap}
-use Rattle.std.proofs.Math.Bool as Core
+use Rattle.std.proofs.Common.{ap₂, ◌∙◌}
+use Rattle.std.specs.Ordering.{is_lt, is_eq}
+use Rattle.std.specs.declared.cmp.Ordering.{Ordering}
 use Rattle.std.proofs.Math.Bool.{false, not}
 use mathlib.Core.List.{List, []}
 use Rattle.std.proofs.Math.Dec.{eqb}
 use Rattle.std.proofs.Math.ListN.{drop, drop_of_length-le}
-use borrow.Author.Tests.{ltb-true, ltb-false, lt-ltb, le-ltb, eqb-true, eq-eqb, ne_eqb}
+use borrow.Author.Tests.{ltb-true, ltb-false, lt-ltb, le-ltb, eqb-true, eq-eqb}
 use Rattle.lists.specs.Lists.{Row}
 use Rattle.lists.specs.Bools.{test-case, fails, or_case, or-false, and_left, and_right, and_rest, false-not, true-false}
 use Rattle.lists.specs.All.{eq_row-true}
 use Rattle.lists.specs.Count.{tick}
 use Rattle.lists.specs.Place.{place_here, place-past}
-use Rattle.lists.specs.Laid.{Laid}
-use Rattle.lists.specs.Pass.{part, laid-rows}
-use Rattle.layout.specs.Route.{before, table, dst, len, fit_route}
+use Rattle.layout.specs.Route.{before}
 use Rattle.definition.specs.Preservation.Order.{before-never}
 use Rattle.step_insert.specs.Search.{key, in_front, in_run, leading, run_start, run_end, rows_read}
-use Rattle.step_insert.specs.Pass.{part-row}
 
 module _ (new : Row) where
-  -- ---- what the words of a row tell: another destination, the same and another length, both the same
-  module _ (r : Row) where
-    pub other-dst : (dst r ≡ dst new → ⊥) → (ltb (dst r) (dst new) ≡ in_front new r) × (false ≡ in_run new r)
-    unfolding before
-    other-dst h = (
-      rw (ne_eqb (dst r) (dst new) h) (sym (Core.or-false (ltb (dst r) (dst new)))),
-      sym (fails (in_run new r) (λ e. h (ap dst (sym (eq_row-true (key new) (key r) e))))),
-    )
-
-    module _ (d : dst r ≡ dst new) where
-      pub other-len : (len r ≡ len new → ⊥) → (ltb (len new) (len r) ≡ in_front new r) × (false ≡ in_run new r)
-      unfolding before
-      other-len h = (
-        rw (le-ltb (dst r) (dst new) (omega arith), eq-eqb (dst r) (dst new) d, ne_eqb (len r) (len new) h) (sym (Core.or-false (ltb (len new) (len r)))),
-        sym (fails (in_run new r) (λ e. h (ap len (sym (eq_row-true (key new) (key r) e))))),
-      )
-
-      pub by-table : len r ≡ len new → (ltb (table new) (table r) ≡ in_front new r) × (eqb (table new) (table r) ≡ in_run new r)
-      unfolding before
-      by-table h = (
-        rw (le-ltb (dst r) (dst new) (omega arith), eq-eqb (dst r) (dst new) d, le-ltb (len new) (len r) (omega arith), eq-eqb (len r) (len new) h)
-            (test-case (eqb (table r) (table new))
-            (λ e. rw e (sym (Core.or-false (ltb (table new) (table r)))))
-            (λ e. rw e (sym (Core.or-false (ltb (table new) (table r)))))),
-        rw (eq-eqb (dst new) (dst r) (sym d), eq-eqb (len new) (len r) (sym h)) (sym (Core.and-true (eqb (table new) (table r)))),
-      )
-
   pub run-not-front : (r : Row) → in_run new r ≡ true → in_front new r ≡ false
   run-not-front r h =
       fails (in_front new r)
@@ -65,6 +37,10 @@ module _ (new : Row) where
   -- the search goes on behind this row
   abbrev pub goes_on : ℕ → ℕ → Row → Bool
   goes_on start i r = in_run new r || (in_front new r && eqb start i)
+
+  -- by what the row is to the run
+  pub stops : (o : Ordering) (start i : ℕ) (r : Row) → is_lt o ≡ in_front new r → is_eq o ≡ in_run new r → is_eq o || (is_lt o && eqb start i) ≡ false → goes_on start i r ≡ false
+  stops o start i r f g h = sym (ap₂ (λ (x y : Bool). y || (x && eqb start i)) f g) ∙ h
 
   abbrev pub Found : List Row → ℕ → ℕ → ℕ → Type 0
   Found l start end read = (start ≡ run_start new l) × (end ≡ run_end new l) × (read ≡ rows_read new l)
@@ -135,19 +111,3 @@ module _ (new : Row) where
         let starts = begins (λ f. ap (leading (in_front new)) nothing) in
         let ends = finishes starts (ap (leading (in_run new)) nothing) in
         (starts, ends, rw (← ends, le-ltb i (length l) (omega arith)) e)
-
-  -- ---- over words
-  module _ (w : List ℕ) (n : ℕ) (long : length w ≡ 32 * n) (l : List Row) (h : Laid 32 fit_route w l) (i start : ℕ) (s : Sofar l i start) where
-    pub pass-more : i < n → goes_on start i (part 32 w i) ≡ true → Sofar l (i + 1) (start + tick (in_front new (part 32 w i)))
-    pass-more b e =
-        let row = part-row w n long l h i b in
-        rw row (find_more l i start s (omega (arith, laid-rows w n (lit< tt) long l h)) (rw row at e))
-
-    pub pass-found : i < n → goes_on start i (part 32 w i) ≡ false → Found l start i (i + 1)
-    pass-found b e =
-        find_stop l i start s (omega (arith, laid-rows w n (lit< tt) long l h)) (rw (part-row w n long l h i b) at e)
-
-    pub pass_all : i ≤ n → n ≤ i → Found l start n n
-    pass_all b c =
-        let all-rows : i ≡ n = omega arith in
-        rw all-rows at (find_end l i start s (omega (arith, laid-rows w n (lit< tt) long l h)))

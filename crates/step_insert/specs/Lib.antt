@@ -1,5 +1,4 @@
 pub mod Search
-pub mod Pass
 pub mod Find
 pub mod Run
 pub mod Whole

@@ -1,30 +1,27 @@
 -- What is found in the run of a key holds of all rows: those in front are before the new row, those behind it after.
 -- Assumes nothing.
-use Rattle.std.specs.Prelude.{ℕ, zero, suc, ◌+◌, ◌-◌, ◌*◌, ◌≤◌, ◌<◌, ◌≡◌, refl, Bool, false, ◌&&◌, ◌||◌, eqb, ltb}
+use Rattle.std.specs.Prelude.{ℕ, zero, suc, ◌+◌, ◌-◌, ◌<◌, ◌≡◌, refl, Bool, false, ◌&&◌, ◌||◌, eqb, ltb}
 use native.Mathlib.Omega.{arith}
-use Rattle.std.proofs.Common.{sym, ◌∙◌, lit<, take-append-drop, length-drop, drop_of_length-le, take_at, drop_at, get_or-take, get_or-drop, ltb-true, ltb-false}
+use Rattle.std.proofs.Common.{sym, ◌∙◌, take-append-drop, drop_of_length-le, get_or-take, get_or-drop, ltb-true, ltb-false}
 use Rattle.std.proofs.Math.Path.{ap}
 use Rattle.std.proofs.Math.Bool.{true, not, or-false}
 use mathlib.Core.List.{List, [], ◌∷◌, ◌++◌}
 use Rattle.std.proofs.Math.ListN.{length, get_or, take, drop}
 use Rattle.std.proofs.Math.Seq.{drop-cons, length-take-le}
 use Rattle.std.proofs.lemmas.Bool.{not-true}
-use Rattle.lists.specs.Lists.{Row, all, any, eq_row, pairwise, flat}
+use Rattle.lists.specs.Lists.{Row, all, any, eq_row, pairwise}
 use Rattle.lists.specs.Bools.{test-case, true-false, not_so, not-both, and_iff, false-not}
 use Rattle.lists.specs.All.{all_mono, all_cons, pairwise-head, pairwise_tail, pairwise_cons}
-use Rattle.lists.specs.At.{all_take, all_drop, all-at, flat-cut, length-flat-take}
+use Rattle.lists.specs.At.{all_take, all-at}
 use Rattle.lists.specs.Count.{count, count_append, count-apart}
 use Rattle.lists.specs.Cut.{place-passes}
 use Rattle.lists.specs.Place.{place_le}
 use Rattle.lists.specs.Split.{any-joined, pairwise_drop, count-all, any-apart}
-use Rattle.lists.specs.Laid.{Laid, Lays, laid-length}
-use Rattle.lists.specs.Pass.{part, laid-rows}
-use Rattle.layout.specs.Route.{before, alike, table, dst, len, fit_route}
+use Rattle.layout.specs.Route.{before, alike, table, dst, len}
 use Rattle.definition.specs.Words.{ordered}
 use Rattle.definition.specs.Preservation.Order.{level-alike}
 use Rattle.definition.proofs.Noninterference.Struck.{before-between}
 use Rattle.step_insert.specs.Search.{key, in_front, in_run, leading, run_start, run_end}
-use Rattle.step_insert.specs.Pass.{part-row}
 use Rattle.step_insert.specs.Find.{Found}
 use Rattle.step_insert.specs.Run.{Run, after-from, before-not-after, after-not-before, before-not_equal, after-not_equal}
 
@@ -64,7 +61,7 @@ pairwise_take r (suc i) (x ∷ l) h =
     pairwise_cons r x (take i l) (all_take (r x) i l (pairwise-head r x l h)) (pairwise_take r i l (pairwise_tail r x l h))
 
 -- the rows from start up to end
-abbrev between : ℕ → ℕ → List Row → List Row
+abbrev pub between : ℕ → ℕ → List Row → List Row
 between start end l = take (end - start) (drop start l)
 
 between-ordered : (start end : ℕ) (l : List Row) → ordered l ≡ true → ordered (between start end l) ≡ true
@@ -72,26 +69,8 @@ unfolding ordered
 between-ordered start end l o =
     pairwise_take (λ a b. not (before b a)) (end - start) (drop start l) (pairwise_drop (λ a b. not (before b a)) start l o)
 
-between-at : (start end i : ℕ) (l : List Row) → i < end - start → get_or (between start end l) i [] ≡ get_or l (start + i) []
+pub between-at : (start end i : ℕ) (l : List Row) → i < end - start → get_or (between start end l) i [] ≡ get_or l (start + i) []
 between-at start end i l h = get_or-take (end - start) (drop start l) i [] h ∙ get_or-drop start l i []
-
--- as words
-between-laid : (w : List ℕ) (l : List Row) (start end : ℕ) → start ≤ end → end ≤ length l → Laid 32 fit_route w l
-    → Laid 32 fit_route (take (32 * end - 32 * start) (drop (32 * start) w)) (between start end l)
-between-laid w l start end b c h =
-    let sized-rest = all_drop (λ r. eqb (length r) 32) start l h.width in
-    let long : end - start ≤ length (drop start l) = omega (arith, length-drop start l) in
-    let front : length (flat (take start l)) ≡ 32 * start = length-flat-take 32 l start h.width (omega arith) in
-    let own : length (flat (between start end l)) ≡ 32 * end - 32 * start = omega (arith, length-flat-take 32 (drop start l) (end - start) sized-rest long) in
-    record {
-      words =
-          ap (λ (x : List ℕ). take (32 * end - 32 * start) (drop (32 * start) x)) (h.words ∙ flat-cut 32 l start h.width)
-          ∙ ap (take (32 * end - 32 * start)) (drop_at (flat (take start l)) (flat (drop start l)) (32 * start) front)
-          ∙ ap (take (32 * end - 32 * start)) (flat-cut 32 (drop start l) (end - start) sized-rest)
-          ∙ take_at (flat (between start end l)) (flat (drop (end - start) (drop start l))) (32 * end - 32 * start) own;
-      width = all_take (λ r. eqb (length r) 32) (end - start) (drop start l) sized-rest;
-      fitting = all_take fit_route (end - start) (drop start l) (all_drop fit_route start l h.fitting);
-    }
 
 -- ---- from the run to all rows
 module _ (new : Row) (l : List Row) (o : ordered l ≡ true) where
@@ -189,30 +168,9 @@ module _ (new : Row) (l : List Row) (o : ordered l ≡ true) where
             ∙ rw none-behind (or-false (any (eq_row new) (between s (run_end new l) l)))));
       }
 
--- ---- over words: the run as it is lent
-module _ (w : List ℕ) (n : ℕ) (long : length w ≡ 32 * n) (start end : ℕ) (b : start ≤ end) (c : end ≤ n) where
-  abbrev own : List ℕ
-  own = take (32 * end - 32 * start) (drop (32 * start) w)
-
-  own-laid : (l : List Row) → Laid 32 fit_route w l → Laid 32 fit_route own (between start end l)
-  own-laid l h = between-laid w l start end b (omega (arith, laid-rows w n (lit< tt) long l h)) h
-
-  pub own_lays : Lays 32 fit_route w → (length own ≡ 32 * (end - start)) × Lays 32 fit_route own
-  own_lays y =
-      let l = y.list in
-      let enough : end - start ≤ length (drop start l) = omega (arith, length-drop start l, laid-rows w n (lit< tt) long l y.laid) in
-      let rows : length (between start end l) ≡ end - start = length-take-le (end - start) (drop start l) enough in
-      (laid-length (own-laid l y.laid) ∙ ap (λ (m : ℕ). 32 * m) rows, record { list = between start end l; laid = own-laid l y.laid })
-
-  pub own_row : (l : List Row) → Laid 32 fit_route w l → (i : ℕ) → i < end - start → part 32 own i ≡ get_or l (start + i) []
-  own_row l h i k =
-      part-row own (end - start) (own_lays (record { list = l; laid = h })).0 (between start end l) (own-laid l h) i k ∙ between-at start end i l k
-
-  -- what is alike in the run found is so among all rows
-  module _ (new : Row) (read : ℕ) (found : (l : List Row) → Laid 32 fit_route w l → Found new l start end read) where
-    pub own-run : (i j : ℕ) (there : Bool) → ((m : List Row) → Laid 32 fit_route own m → ordered m ≡ true → Run new m i j there)
-        → (l : List Row) → Laid 32 fit_route w l → ordered l ≡ true → Run new l (start + i) (start + j) there
-    own-run i j there r l h o =
-        let e = (found l h).0 in
-        let f = (found l h).1 in
-        rw e (whole_run new l o i j there (rw (e, f) at (r (between start end l) (own-laid l h) (between-ordered start end l o))))
+-- what is alike in the run found is so among all rows
+pub own-run : (new : Row) (l : List Row) (start end read i j : ℕ) (there : Bool) → Found new l start end read
+    → (ordered (between start end l) ≡ true → Run new (between start end l) i j there)
+    → ordered l ≡ true → Run new l (start + i) (start + j) there
+own-run new l start end read i j there found r o =
+    rw found.0 (whole_run new l o i j there (rw (found.0, found.1) at (r (between-ordered start end l o))))

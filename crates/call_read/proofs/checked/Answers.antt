@@ -1,7 +1,5 @@
 -- `call_read::checked` meets its contract: lengths first, then the form of the words and the row, then the request.
-use Rattle.std.proofs.Common.{arith, sym, eqb-true, length}
-use Rattle.lists.specs.Bools.{and_left}
-use Rattle.definition.specs.Words.{state_size}
+use Rattle.std.proofs.Common.{sym, length}
 use Rattle.definition.proofs.Preservation.Step.{base-long}
 use Rattle.refusal.specs.declared.Refusal.TheVariants.{WrongLength}
 use Rattle.call_read.specs.Laws.{state-long}

@@ -1,7 +1,7 @@
 -- `call_read::look` meets its contract.
-use Rattle.std.proofs.Common.{sym, subst, ap, ◌∙◌, ◌≡◌, ◌≢◌}
+use Rattle.std.proofs.Common.{sym, subst, ap, ◌∙◌}
 use Rattle.definition.specs.Reference.Lookup.{lookup_in}
-use Rattle.refusal.specs.Refusal.{Refuses, passed_on}
+use Rattle.refusal.specs.Refusal.{Refuses}
 use Rattle.rows_lookup.specs.Flow.{flow_of}
 use Rattle.call_read.specs.Answer.{found_number}
 use Rattle.call_read.specs.Laws.{found, missed, row-found, no-row, no-row-number, exit}

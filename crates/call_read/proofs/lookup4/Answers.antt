@@ -1,5 +1,5 @@
 -- `call_read::lookup4` meets its contract.
-use Rattle.std.proofs.Common.{sym, refl, length, leb-true, ltb}
+use Rattle.std.proofs.Common.{sym, refl, length, leb-true}
 use Rattle.definition.specs.Words.{state_of}
 use Rattle.definition.specs.Reference.Lookup.{Flow, lookup4}
 use Rattle.definition.specs.Step.{lookup4_call}

@@ -1,5 +1,5 @@
 -- `call_read::source` meets its contract.
-use Rattle.std.proofs.Common.{sym, refl, length}
+use Rattle.std.proofs.Common.{sym, refl}
 use Rattle.definition.specs.Call as Call
 use Rattle.definition.specs.Words.{state_of}
 use Rattle.definition.specs.Step.{semantics, source_call}

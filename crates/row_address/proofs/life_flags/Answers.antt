@@ -1,4 +1,4 @@
--- `row_address::life_flags` meets its contract: each answer clears both bits and sets those that its tests name.
+-- `row_address::life_flags` meets its contract: both bits are cleared, and set again where their tests say so.
 -- Assumes nothing.
 use mathlib.Core.Path.{◌≡◌, ap, ◌∙◌}
 use Prim.Native.Nat.{ℕ, ◌^◌, ◌<◌}
@@ -10,6 +10,7 @@ use Rattle.layout.specs.Flags.{clear_bit, set_bit}
 use Rattle.definition.specs.Reference.Addresses.{life_flags}
 use Rattle.layout.specs.Bits.{clear_and, clear-fits, set_or}
 use Rattle.row_address.proofs.life_flags.Goals as goal
+use Rattle.row_address.proofs.life_flags.Goals.{then-valid-eq-FOREVER, else-valid-eq-FOREVER}
 
 -- `f & !PERMANENT & !DEPRECATED`
 cleared : (f : ℕ) → f < 2 ^ 32 → bit_and (bit_and f 0xffffff7f) 0xffffffdf ≡ clear_bit 5 (clear_bit 7 f)
@@ -29,20 +30,14 @@ module _ (f : ℕ) (h : f < 2 ^ 32) where
 
 pub returns-then-preferred-eq0 : goal.returns-then-preferred-eq0
 unfolding life_flags
-returns-then-preferred-eq0 c =
-    simp (eq-eqb _ _ c.if-valid-eq-FOREVER.true, eq-eqb _ _ c.if-preferred-eq0.true) (both c.args.flags (omega arith))
+returns-then-preferred-eq0 c = elim c.if-valid-eq-FOREVER.branch [
+  | then-valid-eq-FOREVER w ↦ simp (w.kept-is, eq-eqb _ _ w.if-valid-eq-FOREVER.true, eq-eqb _ _ c.if-preferred-eq0.true) (both c.args.flags (omega arith))
+  | else-valid-eq-FOREVER w ↦ simp (w.kept-is, ne_eqb _ _ w.if-valid-eq-FOREVER.false, eq-eqb _ _ c.if-preferred-eq0.true) (old c.args.flags (omega arith))
+]
 
-pub returns-then-valid-eq-FOREVER : goal.returns-then-valid-eq-FOREVER
+pub returns-else-preferred-eq0 : goal.returns-else-preferred-eq0
 unfolding life_flags
-returns-then-valid-eq-FOREVER c =
-    simp (eq-eqb _ _ c.if-valid-eq-FOREVER.true, ne_eqb _ _ c.if-preferred-eq0.false) (lasting c.args.flags (omega arith))
-
-pub returns-then-preferred-eq0-2 : goal.returns-then-preferred-eq0-2
-unfolding life_flags
-returns-then-preferred-eq0-2 c =
-    simp (ne_eqb _ _ c.if-valid-eq-FOREVER.false, eq-eqb _ _ c.if-preferred-eq0-2.true) (old c.args.flags (omega arith))
-
-pub returns : goal.returns
-unfolding life_flags
-returns c =
-    simp (ne_eqb _ _ c.if-valid-eq-FOREVER.false, ne_eqb _ _ c.if-preferred-eq0-2.false) (cleared c.args.flags (omega arith))
+returns-else-preferred-eq0 c = elim c.if-valid-eq-FOREVER.branch [
+  | then-valid-eq-FOREVER w ↦ simp (w.kept-is, eq-eqb _ _ w.if-valid-eq-FOREVER.true, ne_eqb _ _ c.if-preferred-eq0.false) (lasting c.args.flags (omega arith))
+  | else-valid-eq-FOREVER w ↦ simp (w.kept-is, ne_eqb _ _ w.if-valid-eq-FOREVER.false, ne_eqb _ _ c.if-preferred-eq0.false) (cleared c.args.flags (omega arith))
+]

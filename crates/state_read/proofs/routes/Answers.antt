@@ -3,7 +3,7 @@ use mathlib.Core.Path.{ap}
 use lib.ListN.{take, drop}
 use native.Mathlib.Omega.{arith}
 use Rattle.state.specs.Represents.{sizes-valid}
-use Rattle.state_read.specs.Parts.{route-end}
+use Rattle.state.specs.InUse.{route-end}
 use Rattle.definition.specs.Words.{routes_at}
 use Rattle.state_read.proofs.routes.Goals as goal
 

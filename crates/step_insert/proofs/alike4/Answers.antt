@@ -1,37 +1,25 @@
-use native.Mathlib.Omega.{arith}
-use mathlib.Core.Path.{sym, ◌∙◌}
-use Rattle.lists.specs.Count.{tick-most}
-use Rattle.lists.specs.Pass.{part-width}
-use Rattle.step_insert.specs.Run.{sofar-start}
-use Rattle.step_insert.specs.Pass.{pass-next, pass-stop, pass-end}
-use borrow.Author.Rules.{rules}
-use lib.Dec.{lit<}
+use mir.Val.{bool_byte}
+use Rattle.std.proofs.Common.{arith, sym, ◌∙◌, ◌≡◌, refl, Bool, true, false}
+use Rattle.lists.specs.Count.{tick, tick-most}
+use Rattle.step_insert.specs.Run.{sofar-next, sofar-stop, sofar-end}
 use Rattle.step_insert.proofs.alike4.Goals as goal
 
-pub loop-i-init : goal.loop-i-init
-loop-i-init c =
-    (search rules, search rules, λ l h. sofar-start c.args.new.now l)
+pub returns-then-before-clause-run : goal.returns-then-before-clause-run
+returns-then-before-clause-run c =
+    λ o. sofar-stop _ _ _ _ _ c.loop-i.invariant.1 c.loop-i-test.true o (sym c.before-in-loop-i.ensures ∙ c.if-before.true)
 
-pub before-requires : goal.before-requires
-before-requires c =
-    (c.requires.len, part-width c.args.rows.now c.args.n (lit< tt) c.requires.rows_len.0 c.requires.rows_len.1 c.loop-i.i c.loop-i-test.true)
-
-pub returns-then-before : goal.returns-then-before
-returns-then-before c =
-    record { run = λ l h o. pass-stop c.args.rows.now c.args.n c.requires.rows_len.0 c.args.new.now l h c.loop-i.i c.loop-i.start c.loop-i.there (c.loop-i.invariant.2 l h) c.loop-i-test.true (sym c.before-in-loop-i.ensures ∙ c.if-before.true) o; start_le_end = search rules }
-
-pub before-requires-in-loop-i : goal.before-requires-in-loop-i
-before-requires-in-loop-i c =
-    (part-width c.args.rows.now c.args.n (lit< tt) c.requires.rows_len.0 c.requires.rows_len.1 c.loop-i.i c.loop-i-test.true, c.requires.len)
-
-pub overflow_add-start : goal.overflow_add-start
-overflow_add-start c =
-    omega (arith, c.one_if-start.ensures, tick-most c.before-in-loop-i-2.result)
+as-tick : (b : Bool) → bool_byte b ≡ tick b
+as-tick true = refl
+as-tick false = refl
 
 pub loop-i-preserved : goal.loop-i-preserved
 loop-i-preserved c =
-    (search rules, omega (arith, c.one_if-start.ensures, tick-most c.before-in-loop-i-2.result), λ l h. rw (c.one_if-start.ensures, c.before-in-loop-i-2.ensures, c.same_words-there.ensures) (pass-next c.args.rows.now c.args.n c.requires.rows_len.0 c.args.new.now l h c.loop-i.i c.loop-i.start c.loop-i.there (c.loop-i.invariant.2 l h) c.loop-i-test.true (sym c.before-in-loop-i.ensures ∙ c.if-before.false)))
+    let s : c.from-start.result ≡ tick c.before-in-loop-i-2.result = c.from-start.ensures ∙ as-tick c.before-in-loop-i-2.result in (
+      omega (arith, s, tick-most c.before-in-loop-i-2.result),
+      rw (s, c.before-in-loop-i-2.ensures, c.same_words-there.ensures)
+          (sofar-next _ _ _ _ _ c.loop-i.invariant.1 c.loop-i-test.true (sym c.before-in-loop-i.ensures ∙ c.if-before.false)),
+    )
 
-pub returns : goal.returns
-returns c =
-    record { run = λ l h o. pass-end c.args.rows.now c.args.n c.requires.rows_len.0 c.args.new.now l h c.loop-i.i c.loop-i.start c.loop-i.there (c.loop-i.invariant.2 l h) c.loop-i-test.false; start_le_end = search rules }
+pub returns-clause-run : goal.returns-clause-run
+returns-clause-run c =
+    λ o. sofar-end _ _ _ _ _ c.loop-i.invariant.1 c.loop-i-test.false

@@ -1,43 +1,21 @@
-use native.Mathlib.Omega.{arith}
-use mathlib.Core.Bool.{◌&&◌, ◌||◌}
-use lib.Dec.{eqb}
-use Rattle.lists.specs.Count.{tick-most}
-use Rattle.step_insert.specs.Find.{find_start, pass-more, pass-found, pass_all}
-use borrow.Author.Rules.{rules}
+use Rattle.std.proofs.Common.{◌≡◌, arith, length, get_or, [], ne_eqb}
+use Rattle.step_insert.specs.Find.{stops, find_start, find_stop, find_end}
 use Rattle.step_insert.proofs.find_run.Goals as goal
+use Rattle.step_insert.proofs.find_run.Goals.{in_default-via-in-Less+else-start-end, in_default-via-in_default}
 
 pub loop-end-init : goal.loop-end-init
-loop-end-init c = (search rules, search rules, λ l h. find_start c.args.new.now l)
+loop-end-init c = find_start _ _
 
-pub returns-then-not-goes_on : goal.returns-then-not-goes_on
-returns-then-not-goes_on c =
-    let goes_on = c.see-seen.result.in_run || (c.see-seen.result.in_front && eqb c.loop-end.start c.loop-end.end) in record {
-      start_value = λ l h.
-          pass-found c.args.new.now c.args.rows.now c.args.n c.requires.rows_len.0 l h c.loop-end.end c.loop-end.start (c.loop-end.invariant.2 l h)
-          c.loop-end-test.true (rw (c.see-seen.ensures.in_front_value, c.see-seen.ensures.in_run_value) at c.if-not-goes_on.true);
-      start_le_end = search rules;
-    }
+pub returns-in_default-clause-start_value : goal.returns-in_default-clause-start_value
+returns-in_default-clause-start_value c =
+    find_stop _ _ _ _ c.loop-end.invariant c.loop-end-test.true
+    (stops c.args.new.now c.see.result c.loop-end.start c.loop-end.end (get_or c.args.routes.rows.now c.loop-end.end []) c.see.ensures.in_front_value c.see.ensures.in_run_value
+    (elim c.in_default.branch [
+      | in_default-via-in-Less+else-start-end w ↦ rw (w.in-Less.is, ne_eqb _ _ w.if-start-end.false)
+      | in_default-via-in_default w ↦ rw w.in_default.is
+    ]))
 
-pub overflow_add-start : goal.overflow_add-start
-overflow_add-start c =
-    omega (arith, c.one_if-start.ensures, tick-most c.see-seen.result.in_front)
-
-pub loop-end-preserved : goal.loop-end-preserved
-loop-end-preserved c =
-    let goes_on = c.see-seen.result.in_run || (c.see-seen.result.in_front && eqb c.loop-end.start c.loop-end.end) in (
-      search rules,
-      omega (arith, c.one_if-start.ensures, tick-most c.see-seen.result.in_front),
-      λ l h.
-          rw (c.one_if-start.ensures, c.see-seen.ensures.in_front_value)
-          (pass-more c.args.new.now c.args.rows.now c.args.n c.requires.rows_len.0 l h c.loop-end.end c.loop-end.start (c.loop-end.invariant.2 l h)
-          c.loop-end-test.true (rw (c.see-seen.ensures.in_front_value, c.see-seen.ensures.in_run_value) at c.if-not-goes_on.false)),
-    )
-
-pub returns : goal.returns
-returns c =
-    record {
-      start_value = λ l h.
-          pass_all c.args.new.now c.args.rows.now c.args.n c.requires.rows_len.0 l h c.loop-end.end c.loop-end.start (c.loop-end.invariant.2 l h)
-          c.loop-end.invariant.0 c.loop-end-test.false;
-      start_le_end = search rules;
-    }
+pub returns-clause-start_value : goal.returns-clause-start_value
+returns-clause-start_value c =
+    let at : c.loop-end.end ≡ length c.args.routes.rows.now = omega arith in
+    rw at at (find_end _ _ _ _ c.loop-end.invariant at)

@@ -1,56 +1,51 @@
-use Rattle.step_insert.specs.Plan.{in_order, add_place, replace_place, into-full, into-put, into_replaced, into-kept, into-refused}
-use Rattle.state.specs.Represents.{sizes-valid, count-routes}
-use Rattle.definition.specs.Preservation.Fit.{length-route}
-use native.Mathlib.Omega.{arith}
-use Rattle.state_read.specs.Parts.{ready_routes, of_routes}
+use Rattle.std.proofs.Common.{arith, ap, ◌∙◌}
+use Rattle.std.specs.Prelude.{◌≡◌, Ok, Err, Some, length, List}
+use Rattle.std.proofs.lemmas.Result.{err_from_is_err_and}
+use Rattle.lists.specs.Lists.{Row}
+use Rattle.state.specs.Represents.{sizes-valid}
+use Rattle.step_insert.specs.Plan.{in_order, plans, add_place, into-full, into-put, into_replaced, into-kept, into-refused}
 use Rattle.step_insert.proofs.insert4.Goals as goal
 
 pub route_count-n-requires : goal.route_count-n-requires
-route_count-n-requires c =
-    (sizes-valid c.requires.represents_some).long
+route_count-n-requires c = (sizes-valid c.requires.represents_some).long
 
-pub plan4-plan-requires : goal.plan4-plan-requires
-plan4-plan-requires c =
-    record { rows_len = ready_routes _ _ c.requires.represents_some c.routes.ensures c.route_count-n.ensures; len = length-route c.args.new.now c.requires.value }
+pub returns-in_err-place-clause-inserted_into : goal.returns-in_err-place-clause-inserted_into
+returns-in_err-place-clause-inserted_into c =
+    λ st h g.
+    let is = err_from_is_err_and c.from_residual.result c.from_residual.ensures.1 in
+    let same : c.from_residual.result ≡ Err c.in_err-place.field-0.0 = is.1 ∙ ap Err is.2 in
+    let p = plans c.args.new.now c.args.flags _ (c.routes.ensures.rows st h) c.plan4.ensures.result_value (in_order st g) in
+    rw same (into-refused _ _ st _ p h _ c.plan4.ensures.placed c.in_err-place.was)
 
-pub returns-then-n-eq-ROUTE_LIMIT : goal.returns-then-n-eq-ROUTE_LIMIT
-returns-then-n-eq-ROUTE_LIMIT c =
-    record {
-      represents_some_2 = c.requires.represents_some;
-      inserted_into = λ st h g.
-          into-full c.args.new.now c.args.flags st c.plan4-plan.result (c.plan4-plan.ensures.result_value st.routes (of_routes _ h c.routes.ensures) (in_order st g)) h c.in-Add.place c.in-Add.emitted c.in-Add.is
-          (omega (arith, add_place c.route_count-n.result c.plan4-plan.result c.in-Add.place c.in-Add.emitted c.plan4-plan.ensures.placed c.in-Add.is, c.route_count-n.ensures, count-routes h)) (omega (arith, c.route_count-n.ensures, count-routes h, c.if-n-eq-ROUTE_LIMIT.true));
-    }
+pub returns-then-n-eq-ROUTE_LIMIT-clause-inserted_into : goal.returns-then-n-eq-ROUTE_LIMIT-clause-inserted_into
+returns-then-n-eq-ROUTE_LIMIT-clause-inserted_into c =
+    λ st h g.
+    let p = plans c.args.new.now c.args.flags _ (c.routes.ensures.rows st h) c.plan4.ensures.result_value (in_order st g) in
+    let q = c.in_ok-place.was ∙ ap Ok (c.in-Some-Add.is ∙ ap Some c.in-Some-Add.field-0-is) in
+    let long = ap (λ (l : List Row). length l) (c.routes.ensures.rows st h) in
+    into-full _ _ st _ p h _ _ q
+    (omega (arith, long, add_place _ _ _ _ c.plan4.ensures.placed q))
+    (omega (arith, long, c.routes.ensures.count, c.route_count-n.ensures, c.if-n-eq-ROUTE_LIMIT.true))
 
-pub insert_route-requires : goal.insert_route-requires
-insert_route-requires c =
-    record { represents_some = c.requires.represents_some; i_bound = (omega (arith, add_place c.route_count-n.result c.plan4-plan.result c.in-Add.place c.in-Add.emitted c.plan4-plan.ensures.placed c.in-Add.is, c.route_count-n.ensures), omega (arith, c.route_count-n.ensures, sizes-valid c.requires.represents_some, c.if-n-eq-ROUTE_LIMIT.false)); row_value = c.requires.value }
+pub returns-else-n-eq-ROUTE_LIMIT-clause-inserted_into : goal.returns-else-n-eq-ROUTE_LIMIT-clause-inserted_into
+returns-else-n-eq-ROUTE_LIMIT-clause-inserted_into c =
+    λ st h g.
+    let p = plans c.args.new.now c.args.flags _ (c.routes.ensures.rows st h) c.plan4.ensures.result_value (in_order st g) in
+    let q = c.in_ok-place.was ∙ ap Ok (c.in-Some-Add.is ∙ ap Some c.in-Some-Add.field-0-is) in
+    let long = ap (λ (l : List Row). length l) (c.routes.ensures.rows st h) in
+    into-put _ _ st _ p _ _ q
+    (omega (arith, long, add_place _ _ _ _ c.plan4.ensures.placed q))
+    (omega (arith, long, c.routes.ensures.count, c.route_count-n.ensures, (sizes-valid c.requires.represents_some).routes, c.if-n-eq-ROUTE_LIMIT.false))
+    (c.insert_route.ensures st h)
 
-pub replace_route-requires : goal.replace_route-requires
-replace_route-requires c =
-    record { represents_some = c.requires.represents_some; i_bound = omega (arith, replace_place c.route_count-n.result c.plan4-plan.result c.in-Replace.place c.plan4-plan.ensures.placed c.in-Replace.is, c.route_count-n.ensures); row_value = c.requires.value }
+pub returns-in-Some-Replace-clause-inserted_into : goal.returns-in-Some-Replace-clause-inserted_into
+returns-in-Some-Replace-clause-inserted_into c =
+    λ st h g.
+    let p = plans c.args.new.now c.args.flags _ (c.routes.ensures.rows st h) c.plan4.ensures.result_value (in_order st g) in
+    into_replaced _ _ st _ p _ (c.in_ok-place.was ∙ ap Ok (c.in-Some-Replace.is ∙ ap Some c.in-Some-Replace.field-0-is)) h.routes_within (c.replace_route.ensures st h)
 
-pub returns-else-n-eq-ROUTE_LIMIT : goal.returns-else-n-eq-ROUTE_LIMIT
-returns-else-n-eq-ROUTE_LIMIT c =
-    record {
-      represents_some_2 = record { state = _; holds = c.insert_route.ensures c.requires.represents_some.state c.requires.represents_some.holds };
-      inserted_into = λ st h g.
-          into-put c.args.new.now c.args.flags st c.plan4-plan.result (c.plan4-plan.ensures.result_value st.routes (of_routes _ h c.routes.ensures) (in_order st g)) c.in-Add.place c.in-Add.emitted c.in-Add.is
-          (omega (arith, add_place c.route_count-n.result c.plan4-plan.result c.in-Add.place c.in-Add.emitted c.plan4-plan.ensures.placed c.in-Add.is, c.route_count-n.ensures, count-routes h)) (omega (arith, c.route_count-n.ensures, count-routes h, sizes-valid c.requires.represents_some, c.if-n-eq-ROUTE_LIMIT.false)) (c.insert_route.ensures st h);
-    }
-
-pub returns-in-Replace : goal.returns-in-Replace
-returns-in-Replace c =
-    record {
-      represents_some_2 = record { state = _; holds = c.replace_route.ensures c.requires.represents_some.state c.requires.represents_some.holds };
-      inserted_into = λ st h g.
-          into_replaced c.args.new.now c.args.flags st c.plan4-plan.result (c.plan4-plan.ensures.result_value st.routes (of_routes _ h c.routes.ensures) (in_order st g)) c.in-Replace.place c.in-Replace.is h.routes_within (c.replace_route.ensures st h);
-    }
-
-pub returns-in-Keep : goal.returns-in-Keep
-returns-in-Keep c =
-    record { represents_some_2 = c.requires.represents_some; inserted_into = λ st h g. into-kept c.args.new.now c.args.flags st c.plan4-plan.result (c.plan4-plan.ensures.result_value st.routes (of_routes _ h c.routes.ensures) (in_order st g)) h c.in-Keep.is }
-
-pub returns-in-Refuse : goal.returns-in-Refuse
-returns-in-Refuse c =
-    record { represents_some_2 = c.requires.represents_some; inserted_into = λ st h g. into-refused c.args.new.now c.args.flags st c.plan4-plan.result (c.plan4-plan.ensures.result_value st.routes (of_routes _ h c.routes.ensures) (in_order st g)) h c.in-Refuse.error c.in-Refuse.is }
+pub returns-in-None-clause-inserted_into : goal.returns-in-None-clause-inserted_into
+returns-in-None-clause-inserted_into c =
+    λ st h g.
+    let p = plans c.args.new.now c.args.flags _ (c.routes.ensures.rows st h) c.plan4.ensures.result_value (in_order st g) in
+    into-kept _ _ st _ p h (c.in_ok-place.was ∙ ap Ok c.in-None.is)

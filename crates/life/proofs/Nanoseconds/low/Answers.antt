@@ -1,7 +1,0 @@
--- `life::Nanoseconds::low` meets its contract: what it computes is the definition.
--- Assumes nothing.
-use mathlib.Core.Path.{refl}
-use Rattle.life.proofs.Nanoseconds.low.Goals as goal
-
-pub returns : goal.returns
-returns c = refl
