@@ -10,8 +10,8 @@ use Rattle.definition.specs.Reference.Addresses.{primary_of}
 use Rattle.row_subnet.specs.OwnRoutes.{primary_for}
 
 -- of a secondary, by the one that is found, else itself
-pub primary-found : {A : Type 0} (row : A → Row) (l : List Row) (a : A) (o : Option A)
-    → secondary (row a) ≡ true → option_map row o ≡ find (primary_for (row a)) l → local (row (unwrap_or o a)) ≡ primary_of l (row a)
+pub primary-found : {A : Type 0} (row : A → Row) (l : List Row) (a : A) (o : Option A) {x : A} → x ≡ unwrap_or o a
+    → secondary (row a) ≡ true → option_map row o ≡ find (primary_for (row a)) l → local (row x) ≡ primary_of l (row a)
 unfolding primary_of
-primary-found row l a None e h = rw (e, first_find (primary_for (row a)) l, ← h)
-primary-found row l a (Some x) e h = rw (e, first_find (primary_for (row a)) l, ← h)
+primary-found row l a None f e h = rw (f, e, first_find (primary_for (row a)) l, ← h)
+primary-found row l a (Some x) f e h = rw (f, e, first_find (primary_for (row a)) l, ← h)
