@@ -1,15 +1,21 @@
 -- The listing of well-formed words, as the functions over rows and text have it.
 -- Assumes nothing.
-use Rattle.std.specs.Prelude.{ℕ, ◌+◌, ◌*◌, ◌/◌, ◌≤◌, ◌≡◌, true, false, List, [], eqb, length, take, drop}
+use Rattle.std.specs.Prelude.{ℕ, ◌+◌, ◌*◌, ◌/◌, ◌≤◌, ◌≡◌, true, false, List, [], eqb, length, take, drop, Bool, Result, Ok, Err, MatchResult}
+use Rattle.std.specs.Result.{IsErr, IsErrAnd}
+use Rattle.refusal.specs.declared.Refusal.{Refusal}
+use Rattle.refusal.specs.Refusal.{number_of, unless}
+use Rattle.refusal.specs.Laws.{failed}
 use Rattle.std.proofs.Common.{sym, ap, ◌∙◌, append-nil, arith, take_at, length-take-le, eq-eqb, ne_eqb}
 use Rattle.lists.specs.Lists.{Row, flat, put, chop}
 use Rattle.lists.specs.Bools.{cond-true, cond-false}
 use Rattle.lists.specs.Rows.{sized, length-flat, chop-flat}
-use Rattle.definition.specs.Words.{base_size, state_size, decode, well_formed, state_of, formed}
+use Rattle.definition.specs.Words.{base_size, state_size, base, decode, well_formed, state_of, formed}
 use Rattle.definition.specs.Reference.Source.{dump4}
 use Rattle.definition.specs.Preservation.Encode.{good-decode}
 use Rattle.definition.proofs.Preservation.Reading.{dump4-listing}
 use Rattle.endian.specs.Endian.{words_of}
+use Rattle.endian.specs.Laws.{length-words_of}
+use Rattle.std.proofs.Common.{take_all}
 use Rattle.rows.specs.Rows.{chunks-chop}
 use Rattle.std.specs.Simd.{first_chunks}
 use Rattle.text.specs.Print.{render, refused_line}
@@ -38,6 +44,18 @@ shown-words b h = cond-true (eqb (length b) (4 * state_size)) (shown_words (word
 pub shown-other : (b : List ℕ) → (length b ≡ (4 * state_size) → ⊥) → shown b ≡ refused_line 200
 unfolding shown
 shown-other b h = cond-false (eqb (length b) (4 * state_size)) (shown_words (words_of b)) (refused_line 200) (ne_eqb (length b) (4 * state_size) h)
+
+-- words that are read from as many bytes are a state's first words, all of them
+pub base-whole : (w b : List ℕ) → w ≡ words_of b → length b ≡ 4 * state_size → base w ≡ w
+base-whole w b e h = take_all base_size w (omega (arith, ap length e, length-words_of b, h))
+
+-- bytes that a check refuses
+pub refused : {A : Type 0} (P : A → Type 0) (t : Result A Refusal) (e : Refusal) (b : List ℕ) (pass : Bool) (why : Refusal) → IsErr t × IsErrAnd t (λ x. x ≡ e)
+    → Err e ≡ unless pass why → (pass ≡ false → shown b ≡ refused_line (number_of why)) → MatchResult t P (λ x. shown b ≡ refused_line (number_of x))
+refused P (Ok a) e b pass why h f g = absurd h.1
+refused P (Err x) e b pass why h f g =
+    let is = failed pass why e f in
+    g is.0 ∙ ap (λ (y : Refusal). refused_line (number_of y)) (sym (h.1 ∙ is.1))
 
 -- the rows read back from the listing
 pub listed-rows : (rows : List Row) (buffer l : List ℕ) (n : ℕ) → sized 32 rows ≡ true → n ≡ length rows → buffer ≡ put 0 (flat rows) l

@@ -1,16 +1,18 @@
 // What the printing program prints: a state's listing, or why the bytes are refused. And the program itself, on any input.
 #![tactic(auto)]
 
-ghost use Rattle.std.specs.Prelude.{◌≡◌, true, ◌+◌, ◌≤◌, length, take};
+ghost use Rattle.std.specs.Prelude.{◌≡◌, true, ◌+◌, ◌*◌, ◌≤◌, length, take, MatchResult};
 ghost use Rattle.lists.specs.Lists.{put};
-ghost use Rattle.definition.specs.Words.{base_size, state_size, decode, well_formed};
+ghost use Rattle.endian.specs.Endian.{words_of};
+ghost use Rattle.refusal.specs.Refusal.{number_of};
+ghost use Rattle.definition.specs.Words.{base_size, state_size, decode, well_formed, formed};
 ghost use Rattle.definition.specs.Reference.Source.{dump4};
-ghost use Rattle.text.specs.Print.{render};
+ghost use Rattle.text.specs.Print.{render, refused_line};
 ghost use Rattle.text.specs.Wrote.{Appends};
-ghost use Rattle.app_show.specs.Show.{shown, shown_words};
+ghost use Rattle.app_show.specs.Show.{shown};
 
 use layout::{BASE_WORDS, LISTING_BUFFER, ROUTE_WORDS, RouteRow, STATE_WORDS};
-use refusal::Refusal;
+use refusal::{Refusal, unless};
 use std::io::Read;
 use text::Text;
 
@@ -39,17 +41,16 @@ fn show_listing(s: &[u32], text: &mut Text<'_>)
     text.render(listed(s, &mut listing));
 }
 
-// What is printed of words as many as a state's.
-fn show_words(s: &[u32], text: &mut Text<'_>)
-    requires words { length s.now ≡ state_size }
-    requires room { text.old.len + 19220 ≤ length text.old.out.now }
-    ensures { Appends text.old (shown_words s.now) text.new }
+// The words of a state, as its bytes are read.
+fn read_state(bytes: &[u8]) -> Result<[u32; STATE_WORDS], Refusal>
+    ensures { MatchResult result (λ s. (s ≡ words_of bytes.now) × (length bytes.now ≡ 4 * state_size) × (formed s ≡ true)) (λ e. shown bytes.now ≡ refused_line (number_of e)) }
 {
-    if state_well_formed::well_formed(&s[..BASE_WORDS]) {
-        show_listing(&s[..BASE_WORDS], text);
-    } else {
-        text.refused_line(Refusal::Malformed.number());
-    }
+    unless(bytes.len() == STATE_BYTES, Refusal::WrongLength)?;
+    let mut s = [0u32; STATE_WORDS];
+    endian::words_of(bytes, &mut s);
+    let fit = state_well_formed::well_formed(&s[..BASE_WORDS]);
+    unless(fit, Refusal::Malformed)?;
+    Ok(s)
 }
 
 // What is printed of any bytes.
@@ -57,13 +58,10 @@ fn show_bytes(bytes: &[u8], text: &mut Text<'_>)
     requires { text.old.len + 19220 ≤ length text.old.out.now }
     ensures { Appends text.old (shown bytes.now) text.new }
 {
-    if bytes.len() != STATE_BYTES {
-        text.refused_line(Refusal::WrongLength.number());
-        return;
+    match read_state(bytes) {
+        Ok(s) => show_listing(&s[..BASE_WORDS], text),
+        Err(refusal) => text.refused_line(refusal.number()),
     }
-    let mut s = [0u32; STATE_WORDS];
-    endian::words_of(bytes, &mut s);
-    show_words(&s, text);
 }
 
 // What is printed of any bytes, at the start of out; how many bytes it is, is returned.

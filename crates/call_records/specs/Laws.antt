@@ -1,151 +1,77 @@
--- What a pass over the records finds is what the reference says of their rows.
+-- What is found among records is what the reference finds among their rows.
 -- Assumes nothing.
-use Rattle.std.specs.Prelude.{ℕ, ◌+◌, ◌≤◌, ◌<◌, min, ◌≡◌, refl, Bool, true, false, cond, not, ◌&&◌, ◌||◌, List, [], ◌∷◌, ◌++◌, map, eqb, leb, length, get_or, take, set}
-use Rattle.std.proofs.Common.{add-one, arith, sym, ◌∙◌, take-suc, take-suc-set, le-ltb}
-use Rattle.std.proofs.Math.Path.{ap}
+use Rattle.std.specs.Prelude.{ℕ, ◌+◌, ◌≤◌, ◌<◌, ◌≡◌, ◌≢◌, refl, true, false, Bool, cond, ◌&&◌, List, [], ◌∷◌, ◌++◌, map, length, get_or, take, set, eqb, Option, Some, None, Ok, Err, MatchOption}
+use Rattle.std.specs.Prelude.{Result as Answer}
+use Rattle.std.specs.Bool.{then_some}
+use Rattle.std.proofs.Common.{arith, sym, ap, subst, ◌∙◌, add-one, take-suc, take-suc-set}
 use Rattle.std.proofs.lemmas.List.{map-append}
-use Rattle.std.proofs.Math.Option.{Option, none, some}
+use Rattle.std.proofs.Math.Option as Own
+use Rattle.std.proofs.Math.Option.{some, none}
+use Rattle.std.specs.List.{find}
+use Rattle.std.specs.Option.{option_map}
+use denote.Ref.{Bor}
 use Rattle.lists.specs.Lists.{Row, first}
-use Rattle.lists.specs.Bools.{test-case, and_left, and_right, and_rest}
-use Rattle.layout.specs.Address.{local, secondary}
-use Rattle.definition.specs.Words.{address_count}
-use Rattle.definition.specs.Reference.Addresses.{covers, same_subnet, host_scope, local_or, primary_of}
-use Rattle.definition.specs.Reference.Source.{eligible, reaches, select4, local_of, or_else}
+use Rattle.lists.specs.Library.{own, first_find}
+use Rattle.definition.specs.Reference.Source.{eligible, reaches, select4, present, local_of}
 use Rattle.row_address.specs.declared.V4.{V4}
-use Rattle.row_address.specs.V4.{secondary_v4, covers_v4}
 use Rattle.row_address.specs.Words.{row_of}
-use Rattle.rows_source.specs.Selected.{wanted, local_in}
-use Rattle.rows_source.specs.Laws.{reaches-test}
+use Rattle.refusal.specs.declared.Refusal.{Refusal}
+use Rattle.refusal.specs.declared.Refusal.TheVariants.{Malformed}
+use Rattle.refusal.specs.Refusal.{Refuses}
+use Rattle.layout.specs.Address.{fit_address}
+use Rattle.lists.specs.Bools.{test-case}
+use Rattle.definition.specs.Preservation.Fit.{length-address}
+use Rattle.definition.specs.Words.{state_size, formed, address_count}
+use Rattle.definition.specs.Call.{optionally}
+use Rattle.definition.specs.Step.{checked}
 use Rattle.state.specs.Represents.{RepresentsSome, sizes-valid}
-use Rattle.call_records.specs.declared.Best.{Best}
-use Rattle.call_records.specs.Best.{better, start, best_from, select_rank, selected_of, primary_rank, primary_in}
+use Rattle.call_read.specs.Answer.{Says, optional}
 
-abbrev at : ℕ → ℕ → Best
-at rank local = record { rank = rank; local = local }
+-- the first of the rows is the row of the first that is found
+pub find_map : {A B : Type 0} (f : A → B) (p : B → Bool) (l : List A) → find p (map f l) ≡ option_map f (find (λ a. p (f a)) l)
+find_map f p [] = refl
+find_map f p (a ∷ l) = go (p (f a)) (find_map f p l)
+  where
+    go : (b : Bool) → find p (map f l) ≡ option_map f (find (λ a. p (f a)) l) → cond b (Some (f a)) (find p (map f l)) ≡ option_map f (cond b (Some a) (find (λ a. p (f a)) l))
+    go true h = refl
+    go false h = h
 
 -- ---- select4
-module _ (dst : Option ℕ) (scope : ℕ) where
-  abbrev both : Row → Bool
-  both a = eligible scope a && reaches dst a
+module _ (scope : ℕ) where
+  abbrev pub passes : Own.Option ℕ → V4 → Bool
+  passes dst v = eligible scope (row_of v) && reaches dst (row_of v)
 
-  abbrev rank : Row → ℕ
-  rank = select_rank dst scope
+  rows-find : (dst : Own.Option ℕ) (l : List V4) → first (λ a. eligible scope a && reaches dst a) (map row_of l) ≡ own (option_map row_of (find (passes dst) l))
+  rows-find dst l =
+      first_find (λ (a : Row). eligible scope a && reaches dst a) (map row_of l)
+      ∙ ap (λ (o : Option Row). own o) (find_map row_of (λ (a : Row). eligible scope a && reaches dst a) l)
 
-  -- by the two tests of an address
-  one_more : (P : ℕ → Bool → Type 0) (a : Row) → P 2 true → (eligible scope a ≡ true → P 1 false) → (eligible scope a ≡ false → P 0 false)
-      → P (rank a) (both a)
-  one_more P a near fit unfit =
-      test-case (eligible scope a)
-      (λ e. test-case (reaches dst a) (λ f. rw (e, f) near) (λ f. rw (e, f) (fit e)))
-      (λ e. rw e (unfit e))
+  -- every address reaches where there is no destination
+  first-any : (l : List Row) → first (eligible scope) l ≡ first (λ a. eligible scope a && reaches none a) l
+  first-any [] = refl
+  first-any (a ∷ l) = go (eligible scope a) (first-any l)
+    where
+      go : (b : Bool) → first (eligible scope) l ≡ first (λ a. eligible scope a && reaches none a) l → cond b (some a) (first (eligible scope) l) ≡ cond (b && true) (some a) (first (λ a. eligible scope a && reaches none a) l)
+      go true h = refl
+      go false h = h
 
-  near-stays : (x : ℕ) (l : List V4) → best_from rank (at 2 x) l ≡ at 2 x
-  near-stays x [] = refl
-  near-stays x (v ∷ l) = one_more (λ n t. best_from rank (better (at 2 x) n v.local) l ≡ at 2 x) (row_of v) (near-stays x l) (λ e. near-stays x l) (λ e. near-stays x l)
+  local-found : (o : Option (Bor V4)) → own (option_map (λ a. a.now.local) o) ≡ local_of (own (option_map row_of (option_map (λ a. a.now) o)))
+  local-found None = refl
+  local-found (Some a) = refl
 
-  from-eligible : (x : ℕ) (l : List V4) → local_in (selected_of (best_from rank (at 1 x) l)) ≡ some (local_or x (first both (map row_of l)))
-  from-eligible x [] = refl
-  from-eligible x (v ∷ l) =
-      one_more (λ n t. local_in (selected_of (best_from rank (better (at 1 x) n v.local) l)) ≡ some (local_or x (cond t (some (row_of v)) (first both (map row_of l))))) (row_of v)
-      (ap (λ (b : Best). local_in (selected_of b)) (near-stays v.local l))
-      (λ e. from-eligible x l)
-      (λ e. from-eligible x l)
-
-  found_or : (o : Option Row) (a : Row) → some (local_or (local a) o) ≡ local_of (or_else o (some a))
-  found_or none a = refl
-  found_or (some b) a = refl
-
-  from_start : (l : List V4) → local_in (selected_of (best_from rank start l)) ≡ local_of (or_else (first both (map row_of l)) (first (eligible scope) (map row_of l)))
-  from_start [] = refl
-  from_start (v ∷ l) =
-      one_more (λ n t. local_in (selected_of (best_from rank (better start n v.local) l)) ≡ local_of (or_else (cond t (some (row_of v)) (first both (map row_of l))) (cond (eligible scope (row_of v)) (some (row_of v)) (first (eligible scope) (map row_of l))))) (row_of v)
-      (ap (λ (b : Best). local_in (selected_of b)) (near-stays v.local l))
-      (λ e. from-eligible v.local l ∙ found_or (first both (map row_of l)) (row_of v) ∙ rw e)
-      (λ e. from_start l ∙ rw e)
-
-  pub select_best : (l : List V4) (b : Best) → b ≡ best_from rank start l → local_in (selected_of b) ≡ select4 (map row_of l) dst scope
+  -- x is found in the destination's subnet, else o without one
+  pub select-found : (dst : Own.Option ℕ) (l : List V4) (x o : Option (Bor V4)) (r : Option ℕ) → option_map (λ a. a.now) x ≡ find (passes dst) l
+      → MatchOption x (option_map (λ a. a.now) o ≡ find (passes none) l) (λ a. o ≡ Some a)
+      → r ≡ option_map (λ a. a.now.local) o → own r ≡ select4 (map row_of l) dst scope
   unfolding select4
-  select_best l b e = ap (λ (x : Best). local_in (selected_of x)) e ∙ from_start l
+  select-found dst l None o r e h f =
+      rw (f, rows-find dst l, ← e, first-any (map row_of l), rows-find none l, ← h) (local-found o)
+  select-found dst l (Some a) o r e h f = rw (f, rows-find dst l, ← e, h)
 
--- ---- primary_of
-module _ (a : Row) where
-  abbrev test : Row → Bool
-  test b = not (secondary b) && same_subnet b a
-
-  first-stays : (x : ℕ) (l : List V4) → best_from (primary_rank a) (at 1 x) l ≡ at 1 x
-  first-stays x [] = refl
-  first-stays x (v ∷ l) = test-case (test (row_of v)) (λ e. rw e (first-stays x l)) (λ e. rw e (first-stays x l))
-
-  abbrev found_in : Best → ℕ → ℕ
-  found_in b d = cond (eqb b.rank 0) d b.local
-
-  by-test : (t : Bool) (v : V4) (l : List V4) (d : ℕ) → found_in (best_from (primary_rank a) start l) d ≡ local_or d (first test (map row_of l))
-      → found_in (best_from (primary_rank a) (better start (cond t 1 0) v.local) l) d ≡ local_or d (cond t (some (row_of v)) (first test (map row_of l)))
-  by-test true v l d h = ap (λ (b : Best). found_in b d) (first-stays v.local l)
-  by-test false v l d h = h
-
-  primary_start : (d : ℕ) (l : List V4) → found_in (best_from (primary_rank a) start l) d ≡ local_or d (first test (map row_of l))
-  primary_start d [] = refl
-  primary_start d (v ∷ l) = by-test (test (row_of v)) v l d (primary_start d l)
-
-  picked : (b : Best) (d : ℕ) → secondary a ≡ true → primary_in b a d ≡ found_in b d
-  picked b d s = test-case (eqb b.rank 0) (λ e. rw (s, e)) (λ e. rw (s, e))
-
-  pub primary_best : (l : List V4) (b : Best) → b ≡ best_from (primary_rank a) start l → primary_in b a (local a) ≡ primary_of (map row_of l) a
-  unfolding primary_of
-  primary_best l b e =
-      test-case (secondary a)
-      (λ s. picked b (local a) s ∙ ap (λ (x : Best). found_in x (local a)) e ∙ primary_start (local a) l ∙ rw s)
-      (λ s. rw s)
-
--- ---- what the code's tests come to
--- rank 0 is none
-pub no-better : (b : Best) (x : ℕ) → b ≡ better b 0 x
-no-better b x = rw (le-ltb b.rank 0 (omega arith))
-
--- one address more, by the tests of its record
-module _ (b : Best) (v : V4) (wish : Bool) (dst scope : ℕ) (s cov : Bool) (least : ℕ) (es : s ≡ secondary_v4 v) (el : least ≡ min v.scope host_scope) (ec : cov ≡ covers_v4 v dst) where
-  abbrev fit : Bool
-  fit = not s && leb least scope
-
-  abbrev near : Bool
-  near = not wish || cov
-
-  abbrev next : Best
-  next = better b (select_rank (wanted wish dst) scope (row_of v)) v.local
-
-  ef : fit ≡ eligible scope (row_of v)
-  unfolding eligible
-  ef = rw (es, el)
-
-  en : near ≡ reaches (wanted wish dst) (row_of v)
-  en = reaches-test wish cov dst (row_of v) ec
-
-  pub step-near : (fit && near) ≡ true → better b 2 v.local ≡ next
-  step-near e = rw (← ef, ← en, and_left fit near e, and_right fit near e)
-
-  pub step-fit : (fit && near) ≡ false → fit ≡ true → better b 1 v.local ≡ next
-  step-fit e f = rw (← ef, ← en, f, and_rest fit near f e)
-
-  pub step-unfit : fit ≡ false → b ≡ next
-  step-unfit f = rw (← ef, f) (no-better b v.local)
-
-module _ (b : Best) (a v : V4) (s cov : Bool) (es : s ≡ secondary_v4 v) (ec : cov ≡ covers_v4 v a.address) where
-  abbrev of_subnet : Bool
-  of_subnet = not s && (eqb v.prefix a.prefix && cov)
-
-  abbrev then : Best
-  then = better b (primary_rank (row_of a) (row_of v)) v.local
-
-  ep : of_subnet ≡ (not (secondary (row_of v)) && same_subnet (row_of v) (row_of a))
-  unfolding same_subnet covers
-  ep = rw (es, ec)
-
-  pub step_primary : of_subnet ≡ true → better b 1 v.local ≡ then
-  step_primary e = rw (← ep, e)
-
-  pub step_other : of_subnet ≡ false → b ≡ then
-  step_other e = rw (← ep, e) (no-better b v.local)
+-- ---- what is found among records, among their rows
+pub found-rows : (p : Row → Bool) (l : List V4) (o : Option (Bor V4)) → option_map (λ b. b.now) o ≡ find (λ b. p (row_of b)) l → option_map (λ b. row_of b.now) o ≡ find p (map row_of l)
+found-rows p l None e = rw (find_map row_of p l, ← e)
+found-rows p l (Some b) e = rw (find_map row_of p l, ← e)
 
 -- ---- rows read into records, one after the other
 pub read_more : (rows : List V4) (i : ℕ) (l : List Row) (v : V4) → i < length rows → i < length l → row_of v ≡ get_or l i [] → map row_of (take i rows) ≡ take i l
@@ -161,3 +87,34 @@ read_more rows i l v b c e sofar =
 -- the addresses in use are 64 at most
 pub few : {w : List ℕ} (n : ℕ) → RepresentsSome w → n ≡ address_count w → n ≤ 64
 few n v e = omega (arith, (sizes-valid v).addresses)
+
+-- ---- the calls
+-- a destination with its mark
+pub own-present : (mark value : ℕ) → own (then_some (eqb mark 1) value) ≡ present mark value
+own-present mark value = go (eqb mark 1)
+  where
+    go : (b : Bool) → own (then_some b value) ≡ cond b (some value) none
+    go true = refl
+    go false = refl
+
+pub optional-own : (o : Own.Option ℕ) (r : Option ℕ) → own r ≡ o → Says optional (optionally o) (Ok r)
+optional-own o None e = rw (← e) (record { refuses = refl; says = refl })
+optional-own o (Some a) e = rw (← e) (record { refuses = refl; says = refl })
+
+-- a row that is read with the request is refused as one that is handed over
+pub row-request : {A : Type 0} (r : Answer A Refusal) (row : Bool) (w : List ℕ) → Refuses r (checked (record { buffers = true; row = true; request = cond row 0 201 }) w)
+    → Refuses r (checked (record { buffers = true; row = row; request = 0 }) w)
+row-request r row w h = subst (Refuses r) (go (eqb (length w) state_size && true) (formed w) row) h
+  where
+    go : (a b c : Bool) → ◌≡◌ {A = ℕ} (cond a (cond (b && true) (cond c 0 201) 201) 200) (cond a (cond (b && c) 0 201) 200)
+    go true true true = refl
+    go true true false = refl
+    go true false c = refl
+    go false b c = refl
+
+-- a row of another length could not stand in a state
+pub unfit-length : (row : Row) → length row ≢ 20 → fit_address row ≡ false
+unfit-length row h = test-case (fit_address row) (λ e. absurd (h (length-address row e))) (λ e. e)
+
+pub malformed : (row : Row) → fit_address row ≡ false → Refuses {A = Bor Row} (Err Malformed) (cond (fit_address row) 0 201)
+malformed row e = rw e (refl, λ z. omega arith)

@@ -1,4 +1,3 @@
-pub mod Best
 pub mod Call
 pub mod Laws
 pub mod Decoded

@@ -6,6 +6,7 @@ ghost use Rattle.std.specs.Prelude.{◌≤◌, length};
 
 use call_message::Asked;
 use refusal::Refusal;
+use std::fmt;
 use std::io::Read;
 
 // The words of the buffer of which a part is lent, and what each of them holds.
@@ -16,11 +17,17 @@ const PATTERN: u32 = 2779096485;
 // The most bytes of a message.
 const MOST: usize = 1024;
 
-fn say_asked(rt: &impl Print, i: u32, asked: Result<Asked, Refusal>, check: u32) {
-    let _ = match asked {
-        Ok(Asked { kind, words }) => println!(rt; "{i}: type {}, {words} words, check {check}", u32::from(kind)),
-        Err(refusal) => println!(rt; "{i}: {}, check {check}", refusal.number()),
-    };
+// What is answered, as a line shows it.
+#[derive(Clone, Copy)]
+struct Answer(Result<Asked, Refusal>);
+
+impl fmt::Display for Answer {
+    fn fmt<W: fmt::Write>(&self, f: &mut fmt::Formatter<W>) -> fmt::Result {
+        match self.0 {
+            Ok(Asked { kind, words }) => write!(f, "type {}, {words} words", u32::from(kind)),
+            Err(refusal) => write!(f, "{}", refusal.number()),
+        }
+    }
 }
 
 // A message, with so many words of the request lent.
@@ -28,8 +35,8 @@ fn replay_message(rt: &impl Print, i: u32, message: &[u8], lent: usize, up: u32)
     requires { lent ≤ 51 }
 {
     let mut request = [PATTERN; ROOM];
-    let asked = call_message::read(message, &mut request[..lent], up);
-    say_asked(rt, i, asked, recorded::check(&request));
+    let answer = Answer(call_message::read(message, &mut request[..lent], up));
+    let _ = println!(rt; "{i}: {answer}, check {}", recorded::check(&request));
 }
 
 // Three words: what begins the list, and each record. None where the input ends sooner.

@@ -1,1 +1,2 @@
 pub mod OwnRoutes
+pub mod Laws

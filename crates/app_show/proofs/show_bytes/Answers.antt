@@ -1,18 +1,21 @@
--- So many bytes are a state's words, and no others.
-use Rattle.std.proofs.Common.{refl, sym, ap, ◌∙◌, arith}
-use Rattle.definition.specs.Words.{state_size}
-use Rattle.endian.specs.Laws.{words-whole}
-use Rattle.text.specs.Print.{refused_line}
+-- The listing of the state that is read.
+use Rattle.std.proofs.Common.{sym, ap, ◌∙◌, arith, length, List, ℕ}
+use Rattle.definition.specs.Words.{decode, well_formed}
+use Rattle.definition.specs.Reference.Source.{dump4}
+use Rattle.endian.specs.Laws.{length-words_of}
+use Rattle.text.specs.Print.{render}
 use Rattle.text.specs.Wrote.{same}
 use Rattle.app_show.specs.Show.{shown, shown_words}
-use Rattle.app_show.specs.Laws.{shown-words, shown-other}
+use Rattle.app_show.specs.Laws.{shown-words, shown-well, base-whole}
 use Rattle.app_show.proofs.show_bytes.Goals as goal
 
-pub returns-then-bytes-ne-STATE_BYTES : goal.returns-then-bytes-ne-STATE_BYTES
-returns-then-bytes-ne-STATE_BYTES c =
-    same (shown c.args.bytes.now) (ap refused_line c.number.ensures ∙ sym (shown-other c.args.bytes.now c.if-bytes-ne-STATE_BYTES.true)) c.refused_line.ensures.text
+pub show_listing-requires-clause-words : goal.show_listing-requires-clause-words
+show_listing-requires-clause-words c =
+    let whole = base-whole c.in-Ok.s c.args.bytes.now c.in-Ok.ensures.0 c.in-Ok.ensures.1 in
+    (omega (arith, ap length c.in-Ok.ensures.0, length-words_of c.args.bytes.now, c.in-Ok.ensures.1), ap well_formed (sym whole) ∙ c.in-Ok.ensures.2)
 
-pub returns : goal.returns
-returns c =
-    let s = words-whole state_size c.args.bytes.now _ _ (omega arith) refl c.words_of.ensures in
-    same (shown c.args.bytes.now) (ap shown_words s ∙ sym (shown-words c.args.bytes.now (omega arith))) c.show_words.ensures
+pub returns-in-Ok : goal.returns-in-Ok
+returns-in-Ok c =
+    let whole = base-whole c.in-Ok.s c.args.bytes.now c.in-Ok.ensures.0 c.in-Ok.ensures.1 in
+    let is = shown-words c.args.bytes.now c.in-Ok.ensures.1 ∙ ap shown_words (sym c.in-Ok.ensures.0) ∙ shown-well c.in-Ok.s c.in-Ok.ensures.2 in
+    same (shown c.args.bytes.now) (ap (λ (w : List ℕ). render (dump4 (decode w))) (sym whole) ∙ sym is) c.show_listing.ensures

@@ -1,14 +1,12 @@
--- `call_records::primary_of` meets its contract.
--- Assumes nothing.
-use Rattle.std.proofs.Common.{sym, ◌∙◌}
-use Rattle.std.proofs.lemmas.List.{at_drop_all}
+use Rattle.std.proofs.Common.{sym, ◌∙◌, map}
 use Rattle.row_address.specs.Words.{row_of}
-use Rattle.call_records.specs.Best.{best_from, primary_rank}
-use Rattle.call_records.specs.Laws.{primary_best}
+use Rattle.row_subnet.specs.OwnRoutes.{primary_for}
+use Rattle.row_subnet.specs.Laws.{primary-found}
+use Rattle.call_records.specs.Laws.{found-rows}
 use Rattle.call_records.proofs.primary_of.Goals as goal
 
 pub returns : goal.returns
 returns c =
-    let a = row_of c.args.a in
-    let end = at_drop_all (best_from (primary_rank a) c.loop-i.best) c.args.addresses.now c.loop-i.i c.loop-i-test.false in
-    c.primary.ensures ∙ primary_best a c.args.addresses.now c.loop-i.best (sym end ∙ c.loop-i.invariant)
+    primary-found (λ b. row_of b.now) (map row_of c.args.addresses.now) _ c.primary_at.result c.unwrap_or-primary.ensures
+    (sym c.secondary.ensures ∙ c.if-not-secondary.false)
+    (found-rows (primary_for (row_of c.args.a)) c.args.addresses.now c.primary_at.result c.primary_at.ensures)
