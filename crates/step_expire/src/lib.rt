@@ -87,7 +87,8 @@ fn iteration(change: &mut Change<'_>, clock: Clock, i: usize) -> usize
     i + 1
 }
 
-// Every address that is due goes, each that fades is marked. The list changes under the loop, so it walks by places.
+// Every address that is due goes, each that fades is marked. The list changes under the loop, and the place goes back to the first,
+// so it is a `while` over a place: no `for` and no iterator could begin again.
 pub fn expire(change: &mut Change<'_>, allowance: Nanoseconds, clock: Nanoseconds)
     requires { SomeRoom potential change.old }
     ensures { (st : State) → RoomFor potential st change.old → EmitsWithin potential st (expire allowance.0 clock.0 st) change.old change.new }
