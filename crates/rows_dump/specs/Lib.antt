@@ -1,6 +1,5 @@
 pub mod Order
 pub mod Total
-pub mod Scan
 pub mod Chain
 pub mod Link
 pub mod Pass
