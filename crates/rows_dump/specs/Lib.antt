@@ -1,8 +1,8 @@
 pub mod Order
 pub mod Total
-pub mod Chain
-pub mod Link
+pub mod First
 pub mod Pass
+pub mod Link
+pub mod Written
 pub mod Walk
-pub mod Four
 pub mod Dump
