@@ -15,9 +15,7 @@ ghost use Rattle.lists.specs.Library.{lent_ok};
 ghost use Rattle.lists.specs.Lists.{flat, put};
 ghost use Rattle.definition.specs.Step.{listing_room};
 
-use layout::{
-    ADDRESS_WORDS, ADDRESSES_AT, ROUTE_WORDS, ROUTES_AT, RouteRow, TABLE_COUNT, TABLES_AT,
-};
+use layout::{ADDRESS_WORDS, ADDRESSES_AT, ROUTE_WORDS, ROUTES_AT, RouteRow};
 use refusal::Refusal;
 use rows_lookup::Flow;
 use rows_source::Selected;
@@ -104,6 +102,5 @@ pub fn list(s: &[u32], listing: &mut [u32]) -> usize
     ensures value { result ≡ length (dump4 (decode s.now)) }
     ensures listing_after { listing.new ≡ put 0 (flat (dump4 (decode s.now))) listing.old }
 {
-    let e = TABLES_AT + words::wide(s[TABLE_COUNT]);
-    rows_dump::dump4(routes(s), state::route_count(s), &s[TABLES_AT..e], listing)
+    rows_dump::dump4(state::routes(s), state_tables::tables(s), listing)
 }
