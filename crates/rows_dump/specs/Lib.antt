@@ -2,6 +2,7 @@ pub mod Order
 pub mod Total
 pub mod First
 pub mod Pass
+pub mod Next
 pub mod Link
 pub mod Written
 pub mod Walk
