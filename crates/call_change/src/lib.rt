@@ -67,7 +67,7 @@ pub fn expire(state: &mut [u32], events: &mut [u32], clock: u64) -> Result<usize
         state,
         EVENT_BUFFER <= events.len(),
         true,
-        call_read::asked(request_fit::fit_expire(clock)),
+        request_fit::fit_expire(clock),
     )?;
     changed(&mut state[..BASE_WORDS], events, |change| {
         step_expire::expire(change, life::FUZZ, Nanoseconds(clock));
@@ -85,7 +85,7 @@ pub fn add_v4(
     ensures { Answers (add_v4_call q.now (length events.old) clock state.old) state.new events.old events.new result }
 {
     let q: &AddV4 = call_read::sized(q)?;
-    let fit = call_read::asked(request_fit::fit_add_v4(q));
+    let fit = request_fit::fit_add_v4(q);
     call_read::checked(state, EVENT_BUFFER <= events.len(), true, fit)?;
     changed(
         &mut state[..BASE_WORDS],
@@ -99,7 +99,7 @@ pub fn del_v4(state: &mut [u32], q: &[u32], events: &mut [u32]) -> Result<usize,
     ensures { Answers (del_v4_call q.now (length events.old) state.old) state.new events.old events.new result }
 {
     let q: &DelV4 = call_read::sized(q)?;
-    let fit = call_read::asked(request_fit::fit_del_v4(q));
+    let fit = request_fit::fit_del_v4(q);
     call_read::checked(state, EVENT_BUFFER <= events.len(), true, fit)?;
     changed(
         &mut state[..BASE_WORDS],
@@ -126,7 +126,7 @@ pub fn add_route4_lent(
     ensures { Answers (add_route4_call q.now room state.old) state.new events.old events.new result }
 {
     let q: &AddRoute4 = call_read::sized(q)?;
-    let fit = call_read::asked(request_fit::fit_add_route4(q));
+    let fit = request_fit::fit_add_route4(q);
     call_read::checked(state, EVENT_BUFFER <= room, true, fit)?;
     changed(
         &mut state[..BASE_WORDS],
@@ -153,7 +153,7 @@ pub fn del_route4_lent(
     ensures { Answers (del_route4_call q.now room state.old) state.new events.old events.new result }
 {
     let q: &DelRoute4 = call_read::sized(q)?;
-    let fit = call_read::asked(request_fit::fit_del_route4(q));
+    let fit = request_fit::fit_del_route4(q);
     call_read::checked(state, EVENT_BUFFER <= room, true, fit)?;
     changed(
         &mut state[..BASE_WORDS],

@@ -52,7 +52,7 @@ fn select<const N: usize>(
 )
     requires { N ≤ 64 }
 {
-    let records = rows.map(|row| row_address::v4_of(&row));
+    let records = rows.map(|row| V4::from(&row));
     let present = u32::from(dst.is_some());
     let one = call_records::select4(&records, dst, scope);
     let other = call_records::select4_words(&state(rows), present, dst.unwrap_or(0), scope);
@@ -62,8 +62,8 @@ fn select<const N: usize>(
 fn primary<const N: usize>(rt: &impl Print, name: &str, rows: &[AddressRow; N], a: AddressRow)
     requires { N ≤ 64 }
 {
-    let records = rows.map(|row| row_address::v4_of(&row));
-    let one = call_records::primary_of(&records, row_address::v4_of(&a));
+    let records = rows.map(|row| V4::from(&row));
+    let one = call_records::primary_of(&records, V4::from(&a));
     let other = call_records::primary_of_words(&state(rows), &a);
     let _ = println!(rt;
         "{name}: {} {}",

@@ -1,9 +1,9 @@
 pub mod Order
 pub mod Total
-pub mod Scan
-pub mod Chain
-pub mod Link
+pub mod First
 pub mod Pass
+pub mod Next
+pub mod Link
+pub mod Written
 pub mod Walk
-pub mod Four
 pub mod Dump

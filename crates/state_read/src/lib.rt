@@ -1,7 +1,7 @@
 // What is read of words that hold a state: each function lends the rows in use to the one that works over rows.
 #![tactic(auto)]
 
-ghost use Rattle.std.specs.Prelude.{◌≡◌, ◌+◌, ◌*◌, ◌≤◌, length, true};
+ghost use Rattle.std.specs.Prelude.{◌≡◌, ◌≤◌, length, true};
 ghost use Rattle.rows_lookup.specs.Flow.{flow_of};
 ghost use Rattle.rows_lookup.specs.Answer.{answered};
 ghost use Rattle.definition.specs.State.{State};
@@ -9,24 +9,13 @@ ghost use Rattle.definition.specs.Words.{decode, well_formed, base_size};
 ghost use Rattle.definition.specs.Reference.Lookup.{lookup_in, local4};
 ghost use Rattle.definition.specs.Reference.Source.{select4, source4, source, dump4};
 ghost use Rattle.state.specs.Represents.{Represents, RepresentsSome};
-ghost use Rattle.state.specs.InUse.{route_part};
 ghost use Rattle.lists.specs.Library.{own, lent_ok};
 ghost use Rattle.lists.specs.Lists.{flat, put};
 ghost use Rattle.definition.specs.Step.{listing_room};
 
-use layout::{ROUTE_WORDS, ROUTES_AT, RouteRow, TABLE_COUNT, TABLES_AT};
+use layout::RouteRow;
 use refusal::Refusal;
 use rows_lookup::Flow;
-
-// The words of the routes in use.
-pub fn routes(s: &[u32]) -> &[u32]
-    requires { RepresentsSome s.now }
-    ensures { result.now ≡ route_part s.now }
-{
-    let n = state::route_count(s);
-    let e = ROUTES_AT + ROUTE_WORDS * n;
-    &s[ROUTES_AT..e]
-}
 
 // The route of a flow.
 pub fn lookup4_in(s: &[u32], f: Flow) -> Result<&RouteRow, Refusal>
@@ -77,6 +66,5 @@ pub fn list(s: &[u32], listing: &mut [u32]) -> usize
     ensures value { result ≡ length (dump4 (decode s.now)) }
     ensures listing_after { listing.new ≡ put 0 (flat (dump4 (decode s.now))) listing.old }
 {
-    let e = TABLES_AT + words::wide(s[TABLE_COUNT]);
-    rows_dump::dump4(routes(s), state::route_count(s), &s[TABLES_AT..e], listing)
+    rows_dump::dump4(state::routes(s), state_tables::tables(s), listing)
 }

@@ -1,35 +1,37 @@
 -- `state_read::list` meets its contract: the routes and tables in use are lent to the listing over rows.
 -- Assumes nothing.
-use mathlib.Core.Path.{ap, ◌∙◌}
-use mathlib.Core.List.{List}
-use native.Mathlib.Omega.{arith}
-use lib.ListN.{length}
+use Rattle.std.proofs.Common.{arith, ap, ◌∙◌, List, length}
 use Rattle.lists.specs.Lists.{Row, flat, put}
 use Rattle.definition.specs.Words.{decode}
 use Rattle.state.specs.Represents.{holds-decode, sizes-valid}
-use Rattle.state_read.specs.Parts.{of_routes}
-use Rattle.state_read.specs.Listing.{valid, dump_ready, dumped}
+use Rattle.state_read.specs.Listing.{valid, tables-few, tables-once, dumped}
 use Rattle.state_read.proofs.list.Goals as goal
 
-pub overflow_add-e : goal.overflow_add-e
-overflow_add-e c =
-    record { fits = omega (arith, c.wide-e.ensures, (sizes-valid (valid c.args.s.now c.requires.0 c.requires.1)).tables) }
-
 pub routes-requires : goal.routes-requires
-routes-requires c =
-    valid c.args.s.now c.requires.0 c.requires.1
+routes-requires c = valid c.args.s.now c.requires.0 c.requires.1
 
-pub slice_bounds-dump4-end : goal.slice_bounds-dump4-end
-slice_bounds-dump4-end c =
-    let z = sizes-valid (valid c.args.s.now c.requires.0 c.requires.1) in
-    omega (arith, c.wide-e.ensures, z.tables, z.long)
+pub tables-requires : goal.tables-requires
+tables-requires c = valid c.args.s.now c.requires.0 c.requires.1
 
-pub dump4-requires : goal.dump4-requires
-dump4-requires c =
-    dump_ready c.args.s.now c.requires.0 c.requires.1 _ _ _ _ c.routes.ensures c.route_count.ensures c.wide-e.ensures c.requires.2
+pub dump4-requires-clause-few : goal.dump4-requires-clause-few
+dump4-requires-clause-few c =
+    let few = (sizes-valid (valid c.args.s.now c.requires.0 c.requires.1)).routes in
+    (omega (arith, c.routes.ensures.count, few), tables-few c.args.s.now c.requires.0 c.requires.1 c.tables.result.now c.tables.ensures)
 
-pub returns : goal.returns
-returns c =
-    let f = c.dump4.ensures (decode c.args.s.now).routes (of_routes _ (holds-decode c.args.s.now c.requires.0 c.requires.1) c.routes.ensures) in
-    let e = dumped c.args.s.now c.requires.0 c.requires.1 _ c.wide-e.ensures in
-    record { value = f.1 ∙ ap (λ (x : List Row). length x) e; listing_after = f.0 ∙ ap (λ (x : List Row). put 0 (flat x) c.args.listing.now) e }
+pub dump4-requires-clause-distinct : goal.dump4-requires-clause-distinct
+dump4-requires-clause-distinct c = tables-once c.args.s.now c.requires.0 c.requires.1 c.tables.result.now c.tables.ensures
+
+pub dump4-requires-clause-room : goal.dump4-requires-clause-room
+dump4-requires-clause-room c =
+    let few = (sizes-valid (valid c.args.s.now c.requires.0 c.requires.1)).routes in
+    omega (arith, c.routes.ensures.count, few)
+
+pub returns-clause-value : goal.returns-clause-value
+returns-clause-value c =
+    let routes = c.routes.ensures.rows (decode c.args.s.now) (holds-decode c.args.s.now c.requires.0 c.requires.1) in
+    c.dump4.ensures.value ∙ ap (λ (x : List Row). length x) (dumped c.args.s.now c.requires.0 c.requires.1 c.tables.ensures routes)
+
+pub returns-clause-listing_after : goal.returns-clause-listing_after
+returns-clause-listing_after c =
+    let routes = c.routes.ensures.rows (decode c.args.s.now) (holds-decode c.args.s.now c.requires.0 c.requires.1) in
+    c.dump4.ensures.listing_after ∙ ap (λ (x : List Row). put 0 (flat x) c.args.listing.now) (dumped c.args.s.now c.requires.0 c.requires.1 c.tables.ensures routes)
