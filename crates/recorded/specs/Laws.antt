@@ -2,6 +2,7 @@
 -- Assumes nothing.
 use Rattle.std.specs.Prelude.{ℕ, zero, suc, ◌+◌, ◌-◌, ◌*◌, ◌%◌, ◌≤◌, ◌<◌, ◌≡◌, refl, Bool, true, false, cond, ◌&&◌, List, [], ◌∷◌, ◌++◌, eqb, leb, length, get_or, set, take, drop}
 use Rattle.std.proofs.Common.{sym, ap, ◌∙◌, arith, add-one, length-set, drop_of_length-le, drop-cons, length-take-le, leb-true, le-leb}
+use Rattle.std.specs.List.{fold}
 use Rattle.lists.specs.Lists.{Row, flat, put, zeros, eq_row}
 use Rattle.lists.specs.Bools.{and_left, and_right, cond-case, cond-true, cond-false}
 use Rattle.lists.specs.Rows.{length-put, length-zeros}
@@ -17,14 +18,14 @@ use Rattle.call_dispatch.specs.Laws.{named}
 use Rattle.recorded.specs.declared.Verdict.TheVariants.{Damaged, Other, Same}
 use Rattle.recorded.specs.Record.{held_size, check_from, fit, Bounds, set_all, sets_of, restarted, before_of, lent_of, changes_of, rows_of, result_of, held_by, buffer_by, part, check_of, after_of, same_reply, agrees, verdict_of, held_after, buffer_after}
 
--- the check of the words so far and one more
-pub check-next : (l : List ℕ) (i sum : ℕ) → i < length l → check_from sum (drop i l) ≡ check_from ((sum * 16777619 + get_or l i 0) % 4294967296) (drop (i + 1) l)
-unfolding check_from
-check-next l i sum h = rw (add-one, drop-cons l i 0)
+-- the check is the sum of words that wrap around
+abbrev pub summed : ℕ → ℕ → ℕ
+summed sum w = (sum * 16777619 % 4294967296 + w) % 4294967296
 
-pub check-end : (l : List ℕ) (i sum : ℕ) → length l ≤ i → check_from sum (drop i l) ≡ sum
+pub check-fold : (l : List ℕ) (sum : ℕ) → fold summed sum l ≡ check_from sum l
 unfolding check_from
-check-end l i sum h = rw (drop_of_length-le l {i = i} h)
+check-fold [] sum = refl
+check-fold (w ∷ l) sum = let wraps : summed sum w ≡ (sum * 16777619 + w) % 4294967296 = omega arith in rw wraps (check-fold l ((sum * 16777619 + w) % 4294967296))
 
 -- the pairs from the k-th on
 pub set_next : (l w : List ℕ) (k : ℕ) → 2 * k + 1 < length l → set_all (drop (2 * k) l) w ≡ set_all (drop (2 * (k + 1)) l) (set w (get_or l (2 * k) 0) (get_or l (2 * k + 1) 0))

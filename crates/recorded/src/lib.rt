@@ -26,13 +26,9 @@ const FIRST_SET: u32 = record::HEAD as u32;
 pub fn check(words: &[u32]) -> u32
     ensures { result ≡ check_of words.now }
 {
-    let mut sum = 1u64;
-    let mut i = 0usize;
-    while i < words.len() {
-        sum = (sum * 16777619 + words::long(words[i])) % 4294967296;
-        i += 1;
-    }
-    sum as u32
+    words
+        .iter()
+        .fold(1, |sum: u32, w| sum.wrapping_mul(16777619).wrapping_add(*w))
 }
 
 // The record's words are all there, and its parts lie in it.
@@ -83,11 +79,8 @@ fn set_word(s: &mut [u32], at: u32, v: u32)
 fn set_pairs(s: &mut [u32], pairs: &[u32])
     ensures { s.new ≡ set_all pairs.now s.old }
 {
-    let n = pairs.len() / 2;
-    let mut k = 0usize;
-    while k < n {
+    for k in 0..pairs.len() / 2 {
         set_word(s, pairs[2 * k], pairs[2 * k + 1]);
-        k += 1;
     }
 }
 
@@ -194,7 +187,7 @@ fn agrees(r: &[u32], held: &mut [u32], buffer: &mut [u32]) -> bool
     same_reply(r, reply) & words::same_words(&left, held) & words::same_words(buffer, &wanted)
 }
 
-#[derive(Clone, Copy)]
+#[derive(Clone, Copy, Debug, PartialEq, Eq)]
 pub enum Verdict {
     // It is no whole record.
     Damaged,

@@ -6,6 +6,7 @@ ghost use Rattle.std.specs.Prelude.{◌≤◌};
 
 use layout::{ADDRESS_COUNT, ADDRESS_WORDS, ADDRESSES_AT, AddressRow, STATE_WORDS, address};
 use refusal::Refusal;
+use row_address::V4;
 use std::fmt;
 use std::net::Ipv4Addr;
 
