@@ -91,7 +91,7 @@ pub fn as_secondary(a: &AddressRow) -> AddressRow
     row
 }
 
-// The row marked as deprecated.
+// The row marked as deprecated. One word is written, as in `as_secondary`, by another rule: a function for both would be given it.
 #[tactic(auto, unfolding(definition::specs::Reference::Removal::deprecate))]
 pub fn deprecate(a: &AddressRow) -> AddressRow
     ensures { result ≡ deprecate a.now }

@@ -1,4 +1,5 @@
-// The rows of a state's lists, as words that hold a state lend them.
+// The rows of a state's lists, as words that hold a state lend them. One function over `Held` would be no plainer: for its two lines
+// it would need laws that tie `WIDTH` to the arrays' length and one trait's `fits` to the other's.
 ghost use Rattle.std.specs.Prelude.{◌≡◌, length};
 ghost use Rattle.definition.specs.State.{State};
 ghost use Rattle.definition.specs.Words.{address_count, route_count};

@@ -19,15 +19,18 @@ use rows::Routes;
 use std::cmp::Ordering;
 
 // A row against the run: in front of it, in it, or behind. The only reader of rows in the search for the run: a word of a row to
-// another destination, three at most, each once.
+// another destination, three at most, each once. Destinations are asked first: in one chain of `cmp` it takes twice as long.
 #[tactic(auto, unfolding(layout::specs::Route::before))]
 fn see(r: &RouteRow, new: &RouteRow) -> Ordering
     ensures in_front_value { is_lt result ≡ in_front new.now r.now }
     ensures in_run_value { is_eq result ≡ in_run new.now r.now }
 {
-    r[route::DST]
-        .cmp(&new[route::DST])
-        .then_with(|| new[route::LEN].cmp(&r[route::LEN]))
+    let dst = r[route::DST];
+    if dst != new[route::DST] {
+        return dst.cmp(&new[route::DST]);
+    }
+    new[route::LEN]
+        .cmp(&r[route::LEN])
         .then_with(|| new[route::TABLE].cmp(&r[route::TABLE]))
 }
 

@@ -98,7 +98,7 @@ impl<'a> Text<'a> {
         self.push(b")\n");
     }
 
-    // A refusal: 21 bytes at most.
+    // A refusal: 21 bytes at most. Three calls, as in `count_line`: one method for both would be a third contract.
     pub fn refused_line(&mut self, n: u32)
         requires { self.old.len + 21 ≤ length self.old.out.now }
         ensures bound { length (refused_line n) ≤ 21 }

@@ -83,7 +83,8 @@ fn walk_up(s: &mut [u32], far: usize, n: usize)
     }
 }
 
-// The n words at from, copied to a place that is not before them.
+// The n words at from, copied to a place that is not before them. A second function, since the words go in the other order: one for
+// both would ask for the direction and match on it.
 pub fn move_up(s: &mut [u32], from: usize, to: usize, n: usize)
     requires { (from ≤ to) × (to + n ≤ length s.old) }
     ensures { s.new ≡ put to (span from n s.old) s.old }
