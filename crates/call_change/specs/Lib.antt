@@ -1,4 +1,5 @@
 pub mod Answer
+pub mod Ran
 pub mod Laws
 pub mod Steps
 pub mod Emitted

@@ -6,24 +6,41 @@ ghost use Rattle.std.specs.Prelude.{◌≡◌, ◌≤◌, length};
 ghost use Rattle.layout.specs.Event as Event;
 ghost use Rattle.definition.specs.Step.{event_room, up_call, down_call, add_v4_call, del_v4_call, expire_call, add_route4_call, del_route4_call};
 ghost use Rattle.call_change.specs.Answer.{Answers};
+ghost use Rattle.call_change.specs.Ran.{Takes, Ran};
 
 use layout::{AddRoute4, AddV4, BASE_WORDS, DelRoute4, DelV4, EVENT_BUFFER};
 use life::Nanoseconds;
 use refusal::Refusal;
 use step_events::Change;
 
+// A step on the words that hold the state and the event buffer, and how many rows it told.
+fn changed<F: FnOnce(&mut Change<'_>) -> Result<(), Refusal>>(
+    words: &mut [u32],
+    events: &mut [u32],
+    step: F,
+) -> Result<usize, Refusal>
+    requires { Takes F.FnOnce step words.old events.old }
+    ensures { Ran F.FnOnce step words.old words.new events.old events.new result }
+{
+    let mut change = Change {
+        state: words,
+        events,
+        told: 0,
+    };
+    step(&mut change)?;
+    Ok(change.told)
+}
+
 // The device goes up: 127.0.0.1 if it isn't there, then the routes of every address.
 pub fn up(state: &mut [u32], events: &mut [u32], clock: u64) -> Result<usize, Refusal>
     ensures { Answers (up_call (length events.old) clock state.old) state.new events.old events.new result }
 {
     call_read::checked(state, EVENT_BUFFER <= events.len(), true, Ok(()))?;
-    let mut change = Change {
-        state: &mut state[..BASE_WORDS],
+    changed(
+        &mut state[..BASE_WORDS],
         events,
-        told: 0,
-    };
-    step_add_v4_atomic::up(&mut change, Nanoseconds(clock))?;
-    Ok(change.told)
+        |change| step_add_v4_atomic::up(change, Nanoseconds(clock)),
+    )
 }
 
 // The device goes down. It emits nothing.
@@ -52,13 +69,10 @@ pub fn expire(state: &mut [u32], events: &mut [u32], clock: u64) -> Result<usize
         true,
         call_read::asked(request_fit::fit_expire(clock)),
     )?;
-    let mut change = Change {
-        state: &mut state[..BASE_WORDS],
-        events,
-        told: 0,
-    };
-    step_expire::expire(&mut change, life::FUZZ, Nanoseconds(clock));
-    Ok(change.told)
+    changed(&mut state[..BASE_WORDS], events, |change| {
+        step_expire::expire(change, life::FUZZ, Nanoseconds(clock));
+        Ok(())
+    })
 }
 
 // An address is put in, or the one that is there changed where the request says so.
@@ -73,13 +87,11 @@ pub fn add_v4(
     let q: &AddV4 = call_read::sized(q)?;
     let fit = call_read::asked(request_fit::fit_add_v4(q));
     call_read::checked(state, EVENT_BUFFER <= events.len(), true, fit)?;
-    let mut change = Change {
-        state: &mut state[..BASE_WORDS],
+    changed(
+        &mut state[..BASE_WORDS],
         events,
-        told: 0,
-    };
-    step_add_v4_atomic::add_v4(&mut change, q, Nanoseconds(clock))?;
-    Ok(change.told)
+        |change| step_add_v4_atomic::add_v4(change, q, Nanoseconds(clock)),
+    )
 }
 
 // The first address that meets the conditions goes, with what goes with it.
@@ -89,13 +101,11 @@ pub fn del_v4(state: &mut [u32], q: &[u32], events: &mut [u32]) -> Result<usize,
     let q: &DelV4 = call_read::sized(q)?;
     let fit = call_read::asked(request_fit::fit_del_v4(q));
     call_read::checked(state, EVENT_BUFFER <= events.len(), true, fit)?;
-    let mut change = Change {
-        state: &mut state[..BASE_WORDS],
+    changed(
+        &mut state[..BASE_WORDS],
         events,
-        told: 0,
-    };
-    step_del_v4::del_v4(&mut change, q)?;
-    Ok(change.told)
+        |change| step_del_v4::del_v4(change, q),
+    )
 }
 
 // A route is put in, or replaces one. A refusal by the reference may leave its table listed.
@@ -118,13 +128,11 @@ pub fn add_route4_lent(
     let q: &AddRoute4 = call_read::sized(q)?;
     let fit = call_read::asked(request_fit::fit_add_route4(q));
     call_read::checked(state, EVENT_BUFFER <= room, true, fit)?;
-    let mut change = Change {
-        state: &mut state[..BASE_WORDS],
+    changed(
+        &mut state[..BASE_WORDS],
         events,
-        told: 0,
-    };
-    step_route_request::add_route4(&mut change, q)?;
-    Ok(change.told)
+        |change| step_route_request::add_route4(change, q),
+    )
 }
 
 // The first route that matches goes.
@@ -147,11 +155,9 @@ pub fn del_route4_lent(
     let q: &DelRoute4 = call_read::sized(q)?;
     let fit = call_read::asked(request_fit::fit_del_route4(q));
     call_read::checked(state, EVENT_BUFFER <= room, true, fit)?;
-    let mut change = Change {
-        state: &mut state[..BASE_WORDS],
+    changed(
+        &mut state[..BASE_WORDS],
         events,
-        told: 0,
-    };
-    step_route_request::del_route4(&mut change, q)?;
-    Ok(change.told)
+        |change| step_route_request::del_route4(change, q),
+    )
 }

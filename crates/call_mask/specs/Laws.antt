@@ -10,12 +10,21 @@ use Rattle.lists.specs.Lists.{Row}
 use Rattle.refusal.specs.declared.Refusal.{Refusal}
 use Rattle.refusal.specs.declared.Refusal.TheVariants.{BadMask}
 use Rattle.refusal.specs.Refusal.{number_of, Refuses}
-use Rattle.netmask.specs.Netmask.{good, bad_mask}
+use Rattle.netmask.specs.Netmask.{good, prefix_of, bad_mask}
 use Rattle.netmask.specs.Laws.{MaskOf, its_ones, good-mask}
 use Rattle.definition.specs.Words.{state_size, formed}
 use Rattle.definition.specs.Call as Call
 use Rattle.definition.specs.Step.{Semantics, semantics, perform, checks, checked, events_fit, request_is, add_v4_call, del_v4_call}
 use Rattle.call_mask.specs.Masked.{add_v4_mask, del_v4_mask, mask_at, prefixed, masked, mask_checks, add_v4_mask_call, del_v4_mask_call}
+
+-- ---- a mask that has no prefix is refused as such, and isn't good
+bad_cond : (b : Bool) (n : ℕ) {e : Refusal} → ◌≡◌ {A = Answer ℕ Refusal} (cond b (Ok n) (Err BadMask)) (Err e) → (e ≡ BadMask) × (b ≡ false)
+bad_cond true n h = cc
+bad_cond false n h = (cc, refl)
+
+pub bad-prefix : (m : ℕ) {e : Refusal} → prefix_of m ≡ Err e → (e ≡ BadMask) × (good m ≡ false)
+unfolding prefix_of
+bad-prefix m h = bad_cond (good m) (ones m) h
 
 -- ---- a good mask: the base's call
 pub good-is : (s : Semantics) (b : Bool) (w : List ℕ) → b ≡ true → perform (masked b s) w ≡ perform s w

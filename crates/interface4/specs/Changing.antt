@@ -7,7 +7,7 @@ use mathlib.Core.List.{List}
 use Rattle.std.proofs.Math.ListN.{take}
 use Rattle.lists.specs.Lists.{Row, put}
 use Rattle.lists.specs.Put.{put_whole}
-use Rattle.lists.specs.Bools.{and_left, and_right, cond-case, cond-true}
+use Rattle.lists.specs.Bools.{and_left, and_right, cond-true}
 use Rattle.layout.specs.Event as Event
 use Rattle.layout.specs.Request.{del_route4_size}
 use Rattle.endian.specs.Endian.{words_of, bytes_of}

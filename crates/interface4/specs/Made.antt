@@ -3,6 +3,12 @@
 -- Assumes nothing.
 use Rattle.std.specs.Prelude.{ℕ, zero, suc, ◌+◌, ◌*◌, ◌-◌, ◌≤◌, ◌≡◌, true, false, cond, List, [], ◌∷◌, ◌++◌, length, take, drop}
 use Rattle.std.proofs.Common.{arith, sym, ap, subst, ◌∙◌, length-append, take_at}
+use Rattle.std.specs.Prelude.{refl, Ok, Err}
+use Rattle.std.specs.Prelude.{Result as Answer}
+use Rattle.refusal.specs.declared.Refusal.{Refusal}
+use Rattle.refusal.specs.Refusal.{Refuses}
+use Rattle.call_read.specs.Answer.{answer_by, nothing}
+use Rattle.call_reply.specs.Answer.{reply_from, reply_of}
 use Rattle.lists.specs.Lists.{Row, flat, put}
 use Rattle.lists.specs.Rows.{length-flat}
 use Rattle.lists.specs.Bools.{cond-true, cond-false, cond_same, true-false}
@@ -103,3 +109,8 @@ module _ (c : Call) (s b : List ℕ) (l : Lent (semantics c).lent b) where
             ∙ ap (λ (x : Reply). put 0 (bytes_of (flat x.rows)) b) (sym reply);
         narrow = λ t. record { words = subst (Below 4294967296) m.words f; rows = rows-below (flat r.reply.rows) e' e g m.buffer };
       }
+
+-- what a check answers, as a reply
+pub check-said : (r : Answer (Unit {0}) Refusal) {n : ℕ} → Refuses r n → reply_from (answer_by nothing r) ≡ reply_of (refusal n)
+check-said (Ok u) h = rw h refl
+check-said (Err e) h = rw h.0 refl

@@ -1,5 +1,5 @@
 // The calls on bytes that change the state.
-ghost use Rattle.std.specs.Prelude.{◌≡◌, ℕ, true, cond, eqb, ◌*◌, length};
+ghost use Rattle.std.specs.Prelude.{◌≡◌, ◌≤◌, ℕ, true, cond, eqb, ◌*◌, length};
 ghost use Rattle.endian.specs.Endian.{bytes_of};
 ghost use Rattle.endian.specs.Laws.{Below};
 ghost use Rattle.definition.specs.Words.{state_size};
@@ -200,7 +200,8 @@ fn change<const ROOM: usize, T: Changing<ROOM>>(
     clock: u64,
     events: &mut [u8],
 ) -> Reply
-    requires { cond (eqb T.WORDS 0) (length request.now) 0 ≡ 0 }
+    requires none { cond (eqb T.WORDS 0) (length request.now) 0 ≡ 0 }
+    requires room { ROOM ≤ event_room }
     ensures { Made (T.change.call request.now clock (length events.old))
         state.old events.old (numbers_in result) state.new events.new }
 {

@@ -74,6 +74,7 @@ trait Asking {
     ghost described: { (x : Self) → Asks (call x) };
 }
 
+#[derive(Clone, Copy)]
 struct Local4(u32);
 
 impl Asking for Local4 {
@@ -86,6 +87,7 @@ impl Asking for Local4 {
     ghost described = { λ x. local4-asks x.0 };
 }
 
+#[derive(Clone, Copy)]
 struct Source4(u32);
 
 impl Asking for Source4 {
@@ -98,6 +100,7 @@ impl Asking for Source4 {
     ghost described = { λ x. source4-asks x.0 };
 }
 
+#[derive(Clone, Copy)]
 struct Source(u32);
 
 impl Asking for Source {
@@ -110,6 +113,7 @@ impl Asking for Source {
     ghost described = { λ x. source-asks x.0 };
 }
 
+#[derive(Clone, Copy)]
 struct Select4 {
     dst_present: u32,
     dst: u32,
@@ -136,7 +140,7 @@ fn row_size(n: usize) -> usize
 
 // The call on bytes. The call on words says so where the row is none. It is read by one loop, of one length or none, so that this is
 // small enough for the back end to put it into each call below, where the state is copied at once.
-fn ask<T: Asking>(call: T, state: &[u8], row: &[u8]) -> Reply
+fn ask<T: Asking + Copy>(call: T, state: &[u8], row: &[u8]) -> Reply
     ensures { Made (T.call call row.now)
         state.now [] (numbers_in result) state.now [] }
 {

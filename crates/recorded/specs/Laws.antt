@@ -8,7 +8,12 @@ use Rattle.lists.specs.Rows.{length-put, length-zeros}
 use Rattle.definition.specs.Step.{Result, event_room}
 use Rattle.call_reply.specs.declared.Reply.{Reply}
 use Rattle.call_reply.specs.Answer.{reply_of}
-use Rattle.call_dispatch.specs.Numbered.{call_by, Did}
+use Rattle.std.specs.Prelude.{Ok}
+use Rattle.std.specs.Prelude.{Result as Answer}
+use Rattle.call_dispatch.specs.declared.numbered.Call.{Call as Named}
+use Rattle.call_dispatch.specs.declared.numbered.UnknownCall.{UnknownCall}
+use Rattle.call_dispatch.specs.Numbered.{call_by, code_of, call_of, Did}
+use Rattle.call_dispatch.specs.Laws.{named}
 use Rattle.recorded.specs.declared.Verdict.TheVariants.{Damaged, Other, Same}
 use Rattle.recorded.specs.Record.{held_size, check_from, fit, Bounds, set_all, sets_of, restarted, before_of, lent_of, changes_of, rows_of, result_of, held_by, buffer_by, part, check_of, after_of, same_reply, agrees, verdict_of, held_after, buffer_after}
 
@@ -80,6 +85,14 @@ fits r h =
     }
 
 -- the call on the first of the held words and the first of the buffer
+-- a number of a record is its call's
+pub coded : (c : ℕ) {x : Named} → 1 ≤ c → c ≤ 15 → call_of c ≡ Ok x → code_of x ≡ c
+coded c {x} low high h =
+    let k = named c low high in
+    let both : ◌≡◌ {A = Answer Named UnknownCall} (Ok x) (Ok k.0) = sym h ∙ k.1.named in
+    let same : x ≡ k.0 = cc in
+    ap code_of same ∙ k.1.number
+
 pub answered : (r : Row) (h b : List ℕ) (n m : ℕ) (q : Row) {x : Reply} {h' b' : List ℕ} → n ≡ get_or r 4 0 → m ≡ get_or r 5 0 → m ≤ length b → q ≡ lent_of r
     → Did (call_by (get_or r 2 0) q (get_or r 13 0) (get_or r 14 0) (get_or r 15 0) (length (take m b)) (take n h)) (take m b) x h' b'
     → (x ≡ reply_of (result_of r h).reply) × ((h' ++ drop n h ≡ held_by r h) × (b' ++ drop m b ≡ buffer_by r h b))

@@ -1,16 +1,17 @@
 -- `call_change::add_route4_lent` meets its contract.
-use Rattle.std.proofs.Common.{rules, arith, sym, refl, length}
+use Rattle.std.proofs.Common.{rules, arith, sym, ap, subst, refl, length, ℕ, List, ◌≡◌, ◌≤◌, ◌*◌, ◌+◌, true}
 use Rattle.layout.specs.Request.{add_route4_size, fit_add_route4}
 use Rattle.definition.specs.Reference.Routes.{add_route4}
+use Rattle.definition.specs.Reference.Insert.{insert4}
 use Rattle.definition.proofs.Preservation.Numbers.{insert_number, added-number}
 use Rattle.definition.proofs.Preservation.Change.{unless-passed}
-use Rattle.definition.specs.Reference.Insert.{insert4}
 use Rattle.definition.specs.Call as Call
 use Rattle.definition.specs.Words.{state_of}
-use Rattle.definition.specs.Step.{unless, events_fit, semantics, add_route4_call}
 use Rattle.call_read.specs.Laws.{passed, lent, request}
+use Rattle.definition.specs.Step.{unless, events_fit, semantics, add_route4_call}
+use Rattle.state.specs.Represents.{RepresentsFit}
 use Rattle.call_change.specs.Laws.{unsized, request-checked, long, answers-unsized, answers-refused, answers-passed, sound, room}
-use Rattle.call_change.specs.Steps.{ok-answers, err-answers, taken}
+use Rattle.call_change.specs.Steps.{ran-answers, taken}
 use Rattle.call_change.proofs.add_route4_lent.Goals as goal
 
 pub returns-in_err-q : goal.returns-in_err-q
@@ -25,39 +26,24 @@ returns-in_err-checked c =
     answers-refused (semantics (Call.add_route4 c.args.q.now c.args.room)) c.args.state.now c.args.events.now
     (request-checked add_route4_size c.args.q.now c.args.state.now c.in_ok-q.ensures c.checked.result (events_fit c.args.room) (λ q. unless (fit_add_route4 q) 202) (c.checked.ensures.refuses _ (request c.asked-fit.result c.asked-fit.ensures (c.fit_add_route4.ensures (long add_route4_size c.args.q.now c.args.state.now c.in_ok-q.ensures))))) c.in_err-checked.was c.from_residual-in_err-checked.ensures.1
 
-pub slice_bounds-change-end-2 : goal.slice_bounds-change-end-2
-slice_bounds-change-end-2 c =
-    sym
-    (lent
-    (passed (semantics (Call.add_route4 c.args.q.now c.args.room)).checks c.args.state.now
-    (request-checked add_route4_size c.args.q.now c.args.state.now c.in_ok-q.ensures c.checked.result (events_fit c.args.room) (λ q. unless (fit_add_route4 q) 202) (c.checked.ensures.refuses _ (request c.asked-fit.result c.asked-fit.ensures (c.fit_add_route4.ensures (long add_route4_size c.args.q.now c.args.state.now c.in_ok-q.ensures))))) c.in_ok-checked.was))
-
-pub add_route4-requires-clause-represents_fit : goal.add_route4-requires-clause-represents_fit
-add_route4-requires-clause-represents_fit c =
+pub slice_bounds-changed-end-2 : goal.slice_bounds-changed-end-2
+slice_bounds-changed-end-2 c =
     let p =
     passed (semantics (Call.add_route4 c.args.q.now c.args.room)).checks c.args.state.now
     (request-checked add_route4_size c.args.q.now c.args.state.now c.in_ok-q.ensures c.checked.result (events_fit c.args.room) (λ q. unless (fit_add_route4 q) 202) (c.checked.ensures.refuses _ (request c.asked-fit.result c.asked-fit.ensures (c.fit_add_route4.ensures (long add_route4_size c.args.q.now c.args.state.now c.in_ok-q.ensures))))) c.in_ok-checked.was
     in
-    sound p
+    sym (lent p)
 
-pub add_route4-requires-clause-in_bounds : goal.add_route4-requires-clause-in_bounds
-add_route4-requires-clause-in_bounds c =
+pub changed-requires : goal.changed-requires
+changed-requires c a h q e =
     let p =
     passed (semantics (Call.add_route4 c.args.q.now c.args.room)).checks c.args.state.now
     (request-checked add_route4_size c.args.q.now c.args.state.now c.in_ok-q.ensures c.checked.result (events_fit c.args.room) (λ q. unless (fit_add_route4 q) 202) (c.checked.ensures.refuses _ (request c.asked-fit.result c.asked-fit.ensures (c.fit_add_route4.ensures (long add_route4_size c.args.q.now c.args.state.now c.in_ok-q.ensures))))) c.in_ok-checked.was
     in
-    omega (arith, c.requires (room add_route4_size c.args.q.now c.args.room p.room))
-
-pub returns-in_err-add_route4 : goal.returns-in_err-add_route4
-unfolding add_route4_call
-returns-in_err-add_route4 c =
-    let p =
-    passed (semantics (Call.add_route4 c.args.q.now c.args.room)).checks c.args.state.now
-    (request-checked add_route4_size c.args.q.now c.args.state.now c.in_ok-q.ensures c.checked.result (events_fit c.args.room) (λ q. unless (fit_add_route4 q) 202) (c.checked.ensures.refuses _ (request c.asked-fit.result c.asked-fit.ensures (c.fit_add_route4.ensures (long add_route4_size c.args.q.now c.args.state.now c.in_ok-q.ensures))))) c.in_ok-checked.was
-    in
-    answers-passed (semantics (Call.add_route4 c.args.q.now c.args.room)) c.args.state.now p
-    (err-answers refl refl (λ z. search (rules, z)) (λ z. search (rules, z)) p c.in_err-add_route4.was c.from_residual-in_err-add_route4.ensures.1 (add_route4 c.args.q.now (state_of c.args.state.now)) (added-number insert4 insert_number c.args.q.now (state_of c.args.state.now) (unless-passed (fit_add_route4 c.args.q.now) p.fit))
-    (taken (λ q. add_route4 q (state_of c.args.state.now)) c.in_ok-q.ensures.0 (c.add_route4.ensures (state_of c.args.state.now) p.holds p.good.fits)))
+    let held : RepresentsFit a.state.now = rw h.words (sound p) in
+    let room : 34 * (a.told + 1) ≤ length a.events.now = omega (arith, c.requires (room add_route4_size c.args.q.now c.args.room p.room), ap length h.buffer, h.none) in
+    let fit = subst (λ (l : List ℕ). fit_add_route4 l ≡ true) (sym c.in_ok-q.ensures.0) (unless-passed (fit_add_route4 c.args.q.now) p.fit) in
+    search (rules, held, room, fit, e)
 
 pub returns : goal.returns
 unfolding add_route4_call
@@ -67,5 +53,5 @@ returns c =
     (request-checked add_route4_size c.args.q.now c.args.state.now c.in_ok-q.ensures c.checked.result (events_fit c.args.room) (λ q. unless (fit_add_route4 q) 202) (c.checked.ensures.refuses _ (request c.asked-fit.result c.asked-fit.ensures (c.fit_add_route4.ensures (long add_route4_size c.args.q.now c.args.state.now c.in_ok-q.ensures))))) c.in_ok-checked.was
     in
     answers-passed (semantics (Call.add_route4 c.args.q.now c.args.room)) c.args.state.now p
-    (ok-answers refl refl (λ z. search (rules, z)) (λ z. search (rules, z)) p c.in_ok-add_route4.was (add_route4 c.args.q.now (state_of c.args.state.now)) (added-number insert4 insert_number c.args.q.now (state_of c.args.state.now) (unless-passed (fit_add_route4 c.args.q.now) p.fit))
-    (taken (λ q. add_route4 q (state_of c.args.state.now)) c.in_ok-q.ensures.0 (c.add_route4.ensures (state_of c.args.state.now) p.holds p.good.fits)))
+    (ran-answers (add_route4 c.args.q.now (state_of c.args.state.now)) p c.changed.ensures (added-number insert4 insert_number c.args.q.now (state_of c.args.state.now) (unless-passed (fit_add_route4 c.args.q.now) p.fit))
+    (λ a b d h m. taken (λ q. add_route4 q (state_of c.args.state.now)) c.in_ok-q.ensures.0 (search (rules, m, h, p.holds, p.good.fits))))

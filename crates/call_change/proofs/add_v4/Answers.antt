@@ -1,14 +1,16 @@
 -- `call_change::add_v4` meets its contract.
-use Rattle.std.proofs.Common.{rules, arith, sym, refl, length}
-use Rattle.layout.specs.Request.{add_v4_size}
+use Rattle.std.proofs.Common.{rules, arith, sym, ap, subst, refl, length, ℕ, List, ◌≡◌, ◌≤◌, ◌*◌, ◌+◌, true}
+use Rattle.layout.specs.Request.{add_v4_size, fit_add_v4}
 use Rattle.definition.specs.Reference.Addresses.{add_v4}
 use Rattle.definition.proofs.Preservation.Numbers.{add_v4-number}
+use Rattle.definition.proofs.Preservation.Change.{add_v4-refusal-passed}
 use Rattle.definition.specs.Call as Call
 use Rattle.definition.specs.Words.{state_of}
-use Rattle.definition.specs.Step.{add_v4_refusal, events_fit, semantics, add_v4_call}
 use Rattle.call_read.specs.Laws.{passed, lent, request}
-use Rattle.call_change.specs.Laws.{unsized, request-checked, long, answers-unsized, answers-refused, answers-passed, sound}
-use Rattle.call_change.specs.Steps.{ok-answers, err-answers, taken}
+use Rattle.definition.specs.Step.{add_v4_refusal, events_fit, semantics, add_v4_call}
+use Rattle.state.specs.Represents.{RepresentsFit}
+use Rattle.call_change.specs.Laws.{unsized, request-checked, long, answers-unsized, answers-refused, answers-passed, sound, room}
+use Rattle.call_change.specs.Steps.{ran-answers, taken}
 use Rattle.call_change.proofs.add_v4.Goals as goal
 
 pub returns-in_err-q : goal.returns-in_err-q
@@ -23,31 +25,24 @@ returns-in_err-checked c =
     answers-refused (semantics (Call.add_v4 c.args.q.now (length c.args.events.now) c.args.clock)) c.args.state.now c.args.events.now
     (request-checked add_v4_size c.args.q.now c.args.state.now c.in_ok-q.ensures c.checked.result (events_fit (length c.args.events.now)) add_v4_refusal (c.checked.ensures.refuses _ (request c.asked-fit.result c.asked-fit.ensures (c.fit_add_v4.ensures (long add_v4_size c.args.q.now c.args.state.now c.in_ok-q.ensures))))) c.in_err-checked.was c.from_residual-in_err-checked.ensures.1
 
-pub slice_bounds-change-end-2 : goal.slice_bounds-change-end-2
-slice_bounds-change-end-2 c =
-    sym
-    (lent
-    (passed (semantics (Call.add_v4 c.args.q.now (length c.args.events.now) c.args.clock)).checks c.args.state.now
-    (request-checked add_v4_size c.args.q.now c.args.state.now c.in_ok-q.ensures c.checked.result (events_fit (length c.args.events.now)) add_v4_refusal (c.checked.ensures.refuses _ (request c.asked-fit.result c.asked-fit.ensures (c.fit_add_v4.ensures (long add_v4_size c.args.q.now c.args.state.now c.in_ok-q.ensures))))) c.in_ok-checked.was))
-
-pub add_v4-requires-clause-represents_fit : goal.add_v4-requires-clause-represents_fit
-add_v4-requires-clause-represents_fit c =
+pub slice_bounds-changed-end-2 : goal.slice_bounds-changed-end-2
+slice_bounds-changed-end-2 c =
     let p =
     passed (semantics (Call.add_v4 c.args.q.now (length c.args.events.now) c.args.clock)).checks c.args.state.now
     (request-checked add_v4_size c.args.q.now c.args.state.now c.in_ok-q.ensures c.checked.result (events_fit (length c.args.events.now)) add_v4_refusal (c.checked.ensures.refuses _ (request c.asked-fit.result c.asked-fit.ensures (c.fit_add_v4.ensures (long add_v4_size c.args.q.now c.args.state.now c.in_ok-q.ensures))))) c.in_ok-checked.was
     in
-    sound p
+    sym (lent p)
 
-pub returns-in_err-add_v4 : goal.returns-in_err-add_v4
-unfolding add_v4_call
-returns-in_err-add_v4 c =
+pub changed-requires : goal.changed-requires
+changed-requires c a h q e =
     let p =
     passed (semantics (Call.add_v4 c.args.q.now (length c.args.events.now) c.args.clock)).checks c.args.state.now
     (request-checked add_v4_size c.args.q.now c.args.state.now c.in_ok-q.ensures c.checked.result (events_fit (length c.args.events.now)) add_v4_refusal (c.checked.ensures.refuses _ (request c.asked-fit.result c.asked-fit.ensures (c.fit_add_v4.ensures (long add_v4_size c.args.q.now c.args.state.now c.in_ok-q.ensures))))) c.in_ok-checked.was
     in
-    answers-passed (semantics (Call.add_v4 c.args.q.now (length c.args.events.now) c.args.clock)) c.args.state.now p
-    (err-answers refl refl (λ z. search (rules, z)) (λ z. search (rules, z)) p c.in_err-add_v4.was c.from_residual-in_err-add_v4.ensures.1 (add_v4 c.args.q.now c.args.clock (state_of c.args.state.now)) (add_v4-number c.args.q.now c.args.clock (state_of c.args.state.now))
-    (taken (λ q. add_v4 q c.args.clock (state_of c.args.state.now)) c.in_ok-q.ensures.0 (c.add_v4.ensures.comes_whole (state_of c.args.state.now) p.holds p.good.fits)))
+    let held : RepresentsFit a.state.now = rw h.words (sound p) in
+    let room : 34 * (a.told + 5) ≤ length a.events.now = omega (arith, room add_v4_size c.args.q.now (length c.args.events.now) p.room, ap length h.buffer, h.none) in
+    let fit = subst (λ (l : List ℕ). fit_add_v4 l ≡ true) (sym c.in_ok-q.ensures.0) (add_v4-refusal-passed c.args.q.now p.fit) in
+    search (rules, held, room, fit, e)
 
 pub returns : goal.returns
 unfolding add_v4_call
@@ -57,5 +52,5 @@ returns c =
     (request-checked add_v4_size c.args.q.now c.args.state.now c.in_ok-q.ensures c.checked.result (events_fit (length c.args.events.now)) add_v4_refusal (c.checked.ensures.refuses _ (request c.asked-fit.result c.asked-fit.ensures (c.fit_add_v4.ensures (long add_v4_size c.args.q.now c.args.state.now c.in_ok-q.ensures))))) c.in_ok-checked.was
     in
     answers-passed (semantics (Call.add_v4 c.args.q.now (length c.args.events.now) c.args.clock)) c.args.state.now p
-    (ok-answers refl refl (λ z. search (rules, z)) (λ z. search (rules, z)) p c.in_ok-add_v4.was (add_v4 c.args.q.now c.args.clock (state_of c.args.state.now)) (add_v4-number c.args.q.now c.args.clock (state_of c.args.state.now))
-    (taken (λ q. add_v4 q c.args.clock (state_of c.args.state.now)) c.in_ok-q.ensures.0 (c.add_v4.ensures.comes_whole (state_of c.args.state.now) p.holds p.good.fits)))
+    (ran-answers (add_v4 c.args.q.now c.args.clock (state_of c.args.state.now)) p c.changed.ensures (add_v4-number c.args.q.now c.args.clock (state_of c.args.state.now))
+    (λ a b d h m. taken (λ q. add_v4 q c.args.clock (state_of c.args.state.now)) c.in_ok-q.ensures.0 (search (rules, m, h, p.holds, p.good.fits))))

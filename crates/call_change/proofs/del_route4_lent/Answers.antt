@@ -1,15 +1,16 @@
 -- `call_change::del_route4_lent` meets its contract.
-use Rattle.std.proofs.Common.{rules, arith, sym, refl, length}
+use Rattle.std.proofs.Common.{rules, arith, sym, ap, subst, refl, length, ℕ, List, ◌≡◌, ◌≤◌, ◌*◌, ◌+◌, true}
 use Rattle.layout.specs.Request.{del_route4_size, fit_del_route4}
 use Rattle.definition.specs.Reference.Routes.{del_route4_request}
 use Rattle.definition.proofs.Preservation.Numbers.{del_route4-number}
+use Rattle.definition.proofs.Preservation.Change.{unless-passed}
 use Rattle.definition.specs.Call as Call
 use Rattle.definition.specs.Words.{state_of}
+use Rattle.call_read.specs.Laws.{passed, lent, request, valid}
 use Rattle.definition.specs.Step.{unless, events_fit, semantics, del_route4_call}
-use Rattle.state.specs.Represents.{fit-some}
-use Rattle.call_read.specs.Laws.{passed, lent, request}
-use Rattle.call_change.specs.Laws.{unsized, request-checked, long, answers-unsized, answers-refused, answers-passed, sound, room}
-use Rattle.call_change.specs.Steps.{ok-answers, err-answers, taken}
+use Rattle.state.specs.Represents.{RepresentsSome}
+use Rattle.call_change.specs.Laws.{unsized, request-checked, long, answers-unsized, answers-refused, answers-passed, room}
+use Rattle.call_change.specs.Steps.{ran-answers, taken}
 use Rattle.call_change.proofs.del_route4_lent.Goals as goal
 
 pub returns-in_err-q : goal.returns-in_err-q
@@ -24,39 +25,24 @@ returns-in_err-checked c =
     answers-refused (semantics (Call.del_route4 c.args.q.now c.args.room)) c.args.state.now c.args.events.now
     (request-checked del_route4_size c.args.q.now c.args.state.now c.in_ok-q.ensures c.checked.result (events_fit c.args.room) (λ q. unless (fit_del_route4 q) 202) (c.checked.ensures.refuses _ (request c.asked-fit.result c.asked-fit.ensures (c.fit_del_route4.ensures (long del_route4_size c.args.q.now c.args.state.now c.in_ok-q.ensures))))) c.in_err-checked.was c.from_residual-in_err-checked.ensures.1
 
-pub slice_bounds-change-end-2 : goal.slice_bounds-change-end-2
-slice_bounds-change-end-2 c =
-    sym
-    (lent
-    (passed (semantics (Call.del_route4 c.args.q.now c.args.room)).checks c.args.state.now
-    (request-checked del_route4_size c.args.q.now c.args.state.now c.in_ok-q.ensures c.checked.result (events_fit c.args.room) (λ q. unless (fit_del_route4 q) 202) (c.checked.ensures.refuses _ (request c.asked-fit.result c.asked-fit.ensures (c.fit_del_route4.ensures (long del_route4_size c.args.q.now c.args.state.now c.in_ok-q.ensures))))) c.in_ok-checked.was))
-
-pub del_route4-requires-clause-represents_some : goal.del_route4-requires-clause-represents_some
-del_route4-requires-clause-represents_some c =
+pub slice_bounds-changed-end-2 : goal.slice_bounds-changed-end-2
+slice_bounds-changed-end-2 c =
     let p =
     passed (semantics (Call.del_route4 c.args.q.now c.args.room)).checks c.args.state.now
     (request-checked del_route4_size c.args.q.now c.args.state.now c.in_ok-q.ensures c.checked.result (events_fit c.args.room) (λ q. unless (fit_del_route4 q) 202) (c.checked.ensures.refuses _ (request c.asked-fit.result c.asked-fit.ensures (c.fit_del_route4.ensures (long del_route4_size c.args.q.now c.args.state.now c.in_ok-q.ensures))))) c.in_ok-checked.was
     in
-    fit-some (sound p)
+    sym (lent p)
 
-pub del_route4-requires-clause-in_bounds : goal.del_route4-requires-clause-in_bounds
-del_route4-requires-clause-in_bounds c =
+pub changed-requires : goal.changed-requires
+changed-requires c a h q e =
     let p =
     passed (semantics (Call.del_route4 c.args.q.now c.args.room)).checks c.args.state.now
     (request-checked del_route4_size c.args.q.now c.args.state.now c.in_ok-q.ensures c.checked.result (events_fit c.args.room) (λ q. unless (fit_del_route4 q) 202) (c.checked.ensures.refuses _ (request c.asked-fit.result c.asked-fit.ensures (c.fit_del_route4.ensures (long del_route4_size c.args.q.now c.args.state.now c.in_ok-q.ensures))))) c.in_ok-checked.was
     in
-    omega (arith, c.requires (room del_route4_size c.args.q.now c.args.room p.room))
-
-pub returns-in_err-del_route4 : goal.returns-in_err-del_route4
-unfolding del_route4_call
-returns-in_err-del_route4 c =
-    let p =
-    passed (semantics (Call.del_route4 c.args.q.now c.args.room)).checks c.args.state.now
-    (request-checked del_route4_size c.args.q.now c.args.state.now c.in_ok-q.ensures c.checked.result (events_fit c.args.room) (λ q. unless (fit_del_route4 q) 202) (c.checked.ensures.refuses _ (request c.asked-fit.result c.asked-fit.ensures (c.fit_del_route4.ensures (long del_route4_size c.args.q.now c.args.state.now c.in_ok-q.ensures))))) c.in_ok-checked.was
-    in
-    answers-passed (semantics (Call.del_route4 c.args.q.now c.args.room)) c.args.state.now p
-    (err-answers refl refl (λ z. search (rules, z)) (λ z. search (rules, z)) p c.in_err-del_route4.was c.from_residual-in_err-del_route4.ensures.1 (del_route4_request c.args.q.now (state_of c.args.state.now)) (del_route4-number c.args.q.now (state_of c.args.state.now))
-    (taken (λ q. del_route4_request q (state_of c.args.state.now)) c.in_ok-q.ensures.0 (c.del_route4.ensures (state_of c.args.state.now) p.holds)))
+    let held : RepresentsSome a.state.now = rw h.words (valid p) in
+    let room : 34 * (a.told + 1) ≤ length a.events.now = omega (arith, c.requires (room del_route4_size c.args.q.now c.args.room p.room), ap length h.buffer, h.none) in
+    let fit = subst (λ (l : List ℕ). fit_del_route4 l ≡ true) (sym c.in_ok-q.ensures.0) (unless-passed (fit_del_route4 c.args.q.now) p.fit) in
+    search (rules, held, room, fit, e)
 
 pub returns : goal.returns
 unfolding del_route4_call
@@ -66,5 +52,5 @@ returns c =
     (request-checked del_route4_size c.args.q.now c.args.state.now c.in_ok-q.ensures c.checked.result (events_fit c.args.room) (λ q. unless (fit_del_route4 q) 202) (c.checked.ensures.refuses _ (request c.asked-fit.result c.asked-fit.ensures (c.fit_del_route4.ensures (long del_route4_size c.args.q.now c.args.state.now c.in_ok-q.ensures))))) c.in_ok-checked.was
     in
     answers-passed (semantics (Call.del_route4 c.args.q.now c.args.room)) c.args.state.now p
-    (ok-answers refl refl (λ z. search (rules, z)) (λ z. search (rules, z)) p c.in_ok-del_route4.was (del_route4_request c.args.q.now (state_of c.args.state.now)) (del_route4-number c.args.q.now (state_of c.args.state.now))
-    (taken (λ q. del_route4_request q (state_of c.args.state.now)) c.in_ok-q.ensures.0 (c.del_route4.ensures (state_of c.args.state.now) p.holds)))
+    (ran-answers (del_route4_request c.args.q.now (state_of c.args.state.now)) p c.changed.ensures (del_route4-number c.args.q.now (state_of c.args.state.now))
+    (λ a b d h m. taken (λ q. del_route4_request q (state_of c.args.state.now)) c.in_ok-q.ensures.0 (search (rules, m, h, p.holds, p.good.fits))))

@@ -2,13 +2,15 @@
 use Rattle.std.proofs.Common.{rules, arith, sym, refl, length}
 use Rattle.layout.specs.Request.{del_v4_size, fit_del_v4}
 use Rattle.definition.specs.Reference.Removal.{del_v4}
+use Rattle.definition.specs.Preservation.Shrinking.{potential}
 use Rattle.definition.proofs.Preservation.Numbers.{del_v4-number}
 use Rattle.definition.specs.Call as Call
 use Rattle.definition.specs.Words.{state_of}
-use Rattle.definition.specs.Step.{unless, events_fit, semantics, del_v4_call}
 use Rattle.call_read.specs.Laws.{passed, lent, request}
+use Rattle.definition.specs.Step.{unless, events_fit, semantics, del_v4_call}
+use Rattle.step_events.specs.EmitsWithin.{SomeRoom}
 use Rattle.call_change.specs.Laws.{unsized, request-checked, long, answers-unsized, answers-refused, answers-passed, room}
-use Rattle.call_change.specs.Steps.{fitting, ok-answers, err-answers, taken}
+use Rattle.call_change.specs.Steps.{fitting, ran-answers, taken}
 use Rattle.call_change.proofs.del_v4.Goals as goal
 
 pub returns-in_err-q : goal.returns-in_err-q
@@ -23,31 +25,23 @@ returns-in_err-checked c =
     answers-refused (semantics (Call.del_v4 c.args.q.now (length c.args.events.now))) c.args.state.now c.args.events.now
     (request-checked del_v4_size c.args.q.now c.args.state.now c.in_ok-q.ensures c.checked.result (events_fit (length c.args.events.now)) (λ q. unless (fit_del_v4 q) 202) (c.checked.ensures.refuses _ (request c.asked-fit.result c.asked-fit.ensures (c.fit_del_v4.ensures (long del_v4_size c.args.q.now c.args.state.now c.in_ok-q.ensures))))) c.in_err-checked.was c.from_residual-in_err-checked.ensures.1
 
-pub slice_bounds-change-end-2 : goal.slice_bounds-change-end-2
-slice_bounds-change-end-2 c =
-    sym
-    (lent
-    (passed (semantics (Call.del_v4 c.args.q.now (length c.args.events.now))).checks c.args.state.now
-    (request-checked del_v4_size c.args.q.now c.args.state.now c.in_ok-q.ensures c.checked.result (events_fit (length c.args.events.now)) (λ q. unless (fit_del_v4 q) 202) (c.checked.ensures.refuses _ (request c.asked-fit.result c.asked-fit.ensures (c.fit_del_v4.ensures (long del_v4_size c.args.q.now c.args.state.now c.in_ok-q.ensures))))) c.in_ok-checked.was))
-
-pub del_v4-requires : goal.del_v4-requires
-del_v4-requires c =
+pub slice_bounds-changed-end-2 : goal.slice_bounds-changed-end-2
+slice_bounds-changed-end-2 c =
     let p =
     passed (semantics (Call.del_v4 c.args.q.now (length c.args.events.now))).checks c.args.state.now
     (request-checked del_v4_size c.args.q.now c.args.state.now c.in_ok-q.ensures c.checked.result (events_fit (length c.args.events.now)) (λ q. unless (fit_del_v4 q) 202) (c.checked.ensures.refuses _ (request c.asked-fit.result c.asked-fit.ensures (c.fit_del_v4.ensures (long del_v4_size c.args.q.now c.args.state.now c.in_ok-q.ensures))))) c.in_ok-checked.was
     in
-    record { state = state_of c.args.state.now; fits = fitting p refl refl (room del_v4_size c.args.q.now (length c.args.events.now) p.room) }
+    sym (lent p)
 
-pub returns-in_err-del_v4 : goal.returns-in_err-del_v4
-unfolding del_v4_call
-returns-in_err-del_v4 c =
+pub changed-requires : goal.changed-requires
+changed-requires c a h q e =
     let p =
     passed (semantics (Call.del_v4 c.args.q.now (length c.args.events.now))).checks c.args.state.now
     (request-checked del_v4_size c.args.q.now c.args.state.now c.in_ok-q.ensures c.checked.result (events_fit (length c.args.events.now)) (λ q. unless (fit_del_v4 q) 202) (c.checked.ensures.refuses _ (request c.asked-fit.result c.asked-fit.ensures (c.fit_del_v4.ensures (long del_v4_size c.args.q.now c.args.state.now c.in_ok-q.ensures))))) c.in_ok-checked.was
     in
-    answers-passed (semantics (Call.del_v4 c.args.q.now (length c.args.events.now))) c.args.state.now p
-    (err-answers refl refl (λ z. search (rules, z)) (λ z. search (rules, z)) p c.in_err-del_v4.was c.from_residual-in_err-del_v4.ensures.1 (del_v4 c.args.q.now (state_of c.args.state.now)) (del_v4-number c.args.q.now (state_of c.args.state.now))
-    (taken (λ q. del_v4 q (state_of c.args.state.now)) c.in_ok-q.ensures.0 (c.del_v4.ensures (state_of c.args.state.now) (fitting p refl refl (room del_v4_size c.args.q.now (length c.args.events.now) p.room)))))
+    let room = fitting p h (room del_v4_size c.args.q.now (length c.args.events.now) p.room) in
+    let some : SomeRoom potential a = record { state = state_of c.args.state.now; fits = room } in
+    search (rules, some, e)
 
 pub returns : goal.returns
 unfolding del_v4_call
@@ -57,5 +51,5 @@ returns c =
     (request-checked del_v4_size c.args.q.now c.args.state.now c.in_ok-q.ensures c.checked.result (events_fit (length c.args.events.now)) (λ q. unless (fit_del_v4 q) 202) (c.checked.ensures.refuses _ (request c.asked-fit.result c.asked-fit.ensures (c.fit_del_v4.ensures (long del_v4_size c.args.q.now c.args.state.now c.in_ok-q.ensures))))) c.in_ok-checked.was
     in
     answers-passed (semantics (Call.del_v4 c.args.q.now (length c.args.events.now))) c.args.state.now p
-    (ok-answers refl refl (λ z. search (rules, z)) (λ z. search (rules, z)) p c.in_ok-del_v4.was (del_v4 c.args.q.now (state_of c.args.state.now)) (del_v4-number c.args.q.now (state_of c.args.state.now))
-    (taken (λ q. del_v4 q (state_of c.args.state.now)) c.in_ok-q.ensures.0 (c.del_v4.ensures (state_of c.args.state.now) (fitting p refl refl (room del_v4_size c.args.q.now (length c.args.events.now) p.room)))))
+    (ran-answers (del_v4 c.args.q.now (state_of c.args.state.now)) p c.changed.ensures (del_v4-number c.args.q.now (state_of c.args.state.now))
+    (λ a b d h m. taken (λ q. del_v4 q (state_of c.args.state.now)) c.in_ok-q.ensures.0 (search (rules, m, fitting p h (room del_v4_size c.args.q.now (length c.args.events.now) p.room)))))

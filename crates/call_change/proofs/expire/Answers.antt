@@ -1,14 +1,17 @@
 -- `call_change::expire` meets its contract.
 use Rattle.std.proofs.Common.{rules, sym, refl, length, leb-true}
 use Rattle.life.specs.Life.{allowance}
+use Rattle.definition.specs.Reference.Addresses.{goes}
 use Rattle.definition.specs.Reference.Removal.{expire}
+use Rattle.definition.specs.Preservation.Shrinking.{potential}
 use Rattle.definition.proofs.Preservation.Peaks.{expire-roomy}
 use Rattle.definition.specs.Call as Call
 use Rattle.definition.specs.Words.{state_of}
 use Rattle.definition.specs.Step.{event_room, semantics, expire_call}
+use Rattle.step_events.specs.EmitsWithin.{SomeRoom}
 use Rattle.call_read.specs.Laws.{passed, lent, request}
 use Rattle.call_change.specs.Laws.{answers-refused, answers-passed}
-use Rattle.call_change.specs.Steps.{fitting, goes-answers}
+use Rattle.call_change.specs.Steps.{fitting, ran-answers, whole_goes}
 use Rattle.call_change.proofs.expire.Goals as goal
 
 pub returns-in_err-checked : goal.returns-in_err-checked
@@ -16,18 +19,19 @@ unfolding expire_call
 returns-in_err-checked c =
     answers-refused (semantics (Call.expire (length c.args.events.now) c.args.clock)) c.args.state.now c.args.events.now (c.checked.ensures.refuses _ (request c.asked.result c.asked.ensures c.fit_expire.ensures)) c.in_err-checked.was c.from_residual.ensures.1
 
-pub slice_bounds-change-end-2 : goal.slice_bounds-change-end-2
-slice_bounds-change-end-2 c = sym (lent (passed (semantics (Call.expire (length c.args.events.now) c.args.clock)).checks c.args.state.now (c.checked.ensures.refuses _ (request c.asked.result c.asked.ensures c.fit_expire.ensures)) c.in_ok-checked.was))
+pub slice_bounds-changed-end-2 : goal.slice_bounds-changed-end-2
+slice_bounds-changed-end-2 c = sym (lent (passed (semantics (Call.expire (length c.args.events.now) c.args.clock)).checks c.args.state.now (c.checked.ensures.refuses _ (request c.asked.result c.asked.ensures c.fit_expire.ensures)) c.in_ok-checked.was))
 
-pub expire-requires : goal.expire-requires
-expire-requires c =
+pub changed-requires : goal.changed-requires
+changed-requires c a h q e =
     let p = passed (semantics (Call.expire (length c.args.events.now) c.args.clock)).checks c.args.state.now (c.checked.ensures.refuses _ (request c.asked.result c.asked.ensures c.fit_expire.ensures)) c.in_ok-checked.was in
-    record { state = state_of c.args.state.now; fits = fitting p refl refl (leb-true event_room (length c.args.events.now) p.room) }
+    let some : SomeRoom potential a = record { state = state_of c.args.state.now; fits = fitting p h (leb-true event_room (length c.args.events.now) p.room) } in
+    search (rules, some, e)
 
 pub returns : goal.returns
 unfolding expire_call
 returns c =
     let p = passed (semantics (Call.expire (length c.args.events.now) c.args.clock)).checks c.args.state.now (c.checked.ensures.refuses _ (request c.asked.result c.asked.ensures c.fit_expire.ensures)) c.in_ok-checked.was in
     answers-passed (semantics (Call.expire (length c.args.events.now) c.args.clock)) c.args.state.now p
-    (goes-answers refl refl (λ z. search (rules, z)) (λ z. search (rules, z)) c.args.state.now (expire allowance c.args.clock (state_of c.args.state.now)) (expire-roomy allowance c.args.clock (state_of c.args.state.now) p.good)
-    (c.expire.ensures (state_of c.args.state.now) (fitting p refl refl (leb-true event_room (length c.args.events.now) p.room))).emits)
+    (ran-answers (goes (expire allowance c.args.clock (state_of c.args.state.now))) p c.changed.ensures tt
+    (λ a b d h m. whole_goes (state_of c.args.state.now) (expire-roomy allowance c.args.clock (state_of c.args.state.now) p.good) (search (rules, m)) (search (rules, m, fitting p h (leb-true event_room (length c.args.events.now) p.room)))))

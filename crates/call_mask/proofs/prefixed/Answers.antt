@@ -1,10 +1,12 @@
 -- `call_mask::prefixed` meets its contract.
-use Rattle.std.proofs.Common.{refl, sym, ap, set}
-use Rattle.netmask.specs.Laws.{prefix-good, prefix_bad}
+use Rattle.std.proofs.Common.{refl, sym, ap, set, ◌∙◌}
+use Rattle.netmask.specs.Laws.{prefix-good}
+use Rattle.call_read.specs.Laws.{exit}
+use Rattle.call_mask.specs.Laws.{bad-prefix}
 use Rattle.call_mask.proofs.prefixed.Goals as goal
 
-pub returns-in-Refused : goal.returns-in-Refused
-returns-in-Refused g c = (refl, (prefix_bad _ _ (sym c.in-Refused.ensures)).0)
+pub returns-in_err-own : goal.returns-in_err-own
+returns-in_err-own g c = rw (exit c.from_residual.ensures.1) (bad-prefix _ (sym c.prefix_of.ensures ∙ c.in_err-own.was))
 
-pub returns-in-Length : goal.returns-in-Length
-returns-in-Length g c = let k = prefix-good _ _ (sym c.in-Length.ensures) in (k.0, ap (set c.args.q.now c.args.at) (sym k.1))
+pub returns : goal.returns
+returns g c = let k = prefix-good _ _ (sym c.prefix_of.ensures ∙ c.in_ok-own.was) in (k.0, ap (set c.args.q.now c.args.at) (sym k.1))

@@ -1,30 +1,16 @@
 -- `interface4::masks::interface4_add_v4_mask` meets its contract.
 -- Assumes nothing.
-use mathlib.Core.Path.{refl, ap}
-use Rattle.layout.specs.Request.{add_v4_size}
-use Rattle.endian.specs.Endian.{words_of}
-use Rattle.endian.specs.Laws.{words-whole}
-use Rattle.definition.specs.Step.{event_room}
+use Rattle.std.proofs.Common.{rules}
 use Rattle.call_mask.specs.Masked.{add_v4_mask_call}
-use Rattle.call_reply.specs.Answer.{numbers_in}
-use Rattle.interface4.specs.Mask.{mask-unsized, bad_on, good-on, add_v4_asking}
-use borrow.Author.Rules.{rules}
+use Rattle.interface4.specs.Mask.{good-on, refused-on, add_v4_asking}
 use Rattle.interface4.proofs.masks.interface4_add_v4_mask.Goals as goal
 
-pub returns-then-request-ne-ADD_V4_BYTES : goal.returns-then-request-ne-ADD_V4_BYTES
-returns-then-request-ne-ADD_V4_BYTES c =
-    mask-unsized add_v4_size c.args.request.now c.args.state.now c.args.events.now (add_v4_mask_call (words_of c.args.request.now) event_room c.args.clock (words_of c.args.state.now)) c.if-request-ne-ADD_V4_BYTES.true (ap numbers_in c.refused.ensures)
-
-pub returns-then-n-ne0 : goal.returns-then-n-ne0
+pub returns-in-Ok : goal.returns-in-Ok
 unfolding add_v4_mask_call
-returns-then-n-ne0 c =
-    bad_on (add_v4_asking c.args.clock) c.args.request.now c.args.state.now c.args.events.now c.if-request-ne-ADD_V4_BYTES.false (λ i. (c.slice_known-1.given i).fits)
-    (words-whole add_v4_size c.args.request.now _ _ c.if-request-ne-ADD_V4_BYTES.false refl c.words_of.ensures) c.to_prefix-n.ensures.value c.if-n-ne0.true
-    (ap numbers_in c.refuse.ensures)
+returns-in-Ok c =
+    good-on (add_v4_asking c.args.clock) c.args.request.now c.args.state.now c.args.events.now c.in-Ok.ensures.0 c.in-Ok.ensures.1 c.in-Ok.ensures.2 (search rules) c.interface4_add_v4.ensures
 
-pub returns : goal.returns
+pub returns-in-Err : goal.returns-in-Err
 unfolding add_v4_mask_call
-returns c =
-    good-on (add_v4_asking c.args.clock) c.args.request.now c.args.state.now c.args.events.now c.if-request-ne-ADD_V4_BYTES.false
-    (words-whole add_v4_size c.args.request.now _ _ c.if-request-ne-ADD_V4_BYTES.false refl c.words_of.ensures) c.to_prefix-n.ensures.value c.if-n-ne0.false
-    c.to_prefix-n.ensures.q_after c.as_bytes.ensures (search rules) c.interface4_add_v4.ensures
+returns-in-Err c =
+    refused-on (add_v4_asking c.args.clock) c.args.request.now c.args.state.now c.args.events.now (λ i. (c.slice_known-1.given i).fits) c.in-Err.ensures

@@ -13,7 +13,7 @@ use Rattle.interface4.proofs.messages.interface4_read.Goals as goal
 
 pub returns-then-request-lt-REQUEST_BYTES : goal.returns-then-request-lt-REQUEST_BYTES
 returns-then-request-lt-REQUEST_BYTES c =
-    record { value = c.refused.ensures ∙ ap reply_of (sym (unread (length c.args.request.now) c.args.up c.args.message.now c.if-request-lt-REQUEST_BYTES.true)); request_after = unread-rows (length c.args.request.now) c.args.up c.args.message.now c.if-request-lt-REQUEST_BYTES.true c.args.request.now }
+    record { value = c.from.ensures ∙ ap reply_of (sym (unread (length c.args.request.now) c.args.up c.args.message.now c.if-request-lt-REQUEST_BYTES.true)); request_after = unread-rows (length c.args.request.now) c.args.up c.args.message.now c.if-request-lt-REQUEST_BYTES.true c.args.request.now }
 
 pub give_rows-requires : goal.give_rows-requires
 give_rows-requires c =

@@ -18,7 +18,7 @@ use Rattle.interface4.proofs.reading.interface4_check.Goals as goal
 pub returns-then-state-ne-STATE_BYTES : goal.returns-then-state-ne-STATE_BYTES
 returns-then-state-ne-STATE_BYTES c =
     let short = ne_eqb (length c.args.state.now) (4 * state_size) c.if-state-ne-STATE_BYTES.true in
-    c.refused.ensures ∙ ap reply_of (sym (cond-false (state_fits c.args.state.now) (check_reply (words_of c.args.state.now)) (refusal 200) short))
+    c.from.ensures ∙ ap reply_of (sym (cond-false (state_fits c.args.state.now) (check_reply (words_of c.args.state.now)) (refusal 200) short))
 
 pub returns : goal.returns
 returns c =

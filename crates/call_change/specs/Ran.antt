@@ -1,0 +1,37 @@
+-- What a step on a change that had told nothing was, by what it left in the places that it was lent.
+use Rattle.std.specs.Prelude.{ℕ, ◌≡◌, List, Ok, Err}
+use Rattle.std.specs.Prelude.{Result as Answer}
+use denote.Ref.{MutBor}
+use Rattle.std.specs.Fn.{Once, FnOnceTakesAtMut, FnOnceReturnsAtMut}
+use Rattle.refusal.specs.declared.Refusal.{Refusal}
+use Rattle.step_events.specs.declared.change.Change.{Change}
+
+-- a change of the words w and the event buffer ev, of which nothing is told
+pub record Begins (w ev : List ℕ) (a : Change) : Type 0 where
+  pub words : a.state.now ≡ w
+  pub buffer : a.events.now ≡ ev
+  pub none : a.told ≡ 0
+
+-- what a step answers, with how many rows it told
+abbrev pub counted : Change → Answer (Unit {0}) Refusal → Answer ℕ Refusal
+counted b (Ok u) = Ok b.told
+counted b (Err e) = Err e
+
+-- the predicates of a step
+abbrev pub Step : Type 0 → Type 1
+Step F = Once F (MutBor Change × Unit {0}) (Answer (Unit {0}) Refusal × (MutBor Change × Unit {0}))
+
+module _ {F : Type 0} (g : Step F) (f : F) where
+  abbrev pub Takes : List ℕ → List ℕ → Type 0
+  Takes w ev = (a : Change) → Begins w ev a → FnOnceTakesAtMut g f a
+
+  -- it went from one change to another; where that still is on the places of the first, they hold what it left
+  pub record Ran (w w' ev ev' : List ℕ) (r : Answer ℕ Refusal) : Type 0 where
+    pub from : Change
+    pub to : Change
+    pub gave : Answer (Unit {0}) Refusal
+    pub begins : Begins w ev from
+    pub ran : FnOnceReturnsAtMut g f from gave to
+    pub left : from.state.ghost_name ≡ to.state.ghost_name → w' ≡ to.state.now
+    pub rows : from.events.ghost_name ≡ to.events.ghost_name → ev' ≡ to.events.now
+    pub answer : r ≡ counted to gave
