@@ -1,6 +1,6 @@
 -- What is found among records is what the reference finds among their rows.
 -- Assumes nothing.
-use Rattle.std.specs.Prelude.{ℕ, ◌+◌, ◌≤◌, ◌<◌, ◌≡◌, ◌≢◌, refl, true, false, Bool, cond, ◌&&◌, List, [], ◌∷◌, ◌++◌, map, length, get_or, take, set, eqb, Option, Some, None, Ok, Err, MatchOption}
+use Rattle.std.specs.Prelude.{ℕ, ◌+◌, ◌<◌, ◌≡◌, ◌≢◌, refl, true, false, Bool, cond, ◌&&◌, List, [], ◌∷◌, ◌++◌, map, length, get_or, take, set, eqb, Option, Some, None, Ok, Err, MatchOption}
 use Rattle.std.specs.Prelude.{Result as Answer}
 use Rattle.std.specs.Bool.{then_some}
 use Rattle.std.proofs.Common.{arith, sym, ap, subst, ◌∙◌, add-one, take-suc, take-suc-set}
@@ -21,10 +21,9 @@ use Rattle.refusal.specs.Refusal.{Refuses}
 use Rattle.layout.specs.Address.{fit_address}
 use Rattle.lists.specs.Bools.{test-case}
 use Rattle.definition.specs.Preservation.Fit.{length-address}
-use Rattle.definition.specs.Words.{state_size, formed, address_count}
+use Rattle.definition.specs.Words.{state_size, formed}
 use Rattle.definition.specs.Call.{optionally}
 use Rattle.definition.specs.Step.{checked}
-use Rattle.state.specs.Represents.{RepresentsSome, sizes-valid}
 use Rattle.call_read.specs.Answer.{Says, optional}
 
 -- the first of the rows is the row of the first that is found
@@ -83,10 +82,6 @@ read_more rows i l v b c e sofar =
     ∙ ap (λ (h : List Row). h ++ (row_of v ∷ [])) sofar
     ∙ ap (λ (r : Row). take i l ++ (r ∷ [])) e
     ∙ sym (ap (λ (k : ℕ). take k l) (add-one i) ∙ take-suc l i [] c)
-
--- the addresses in use are 64 at most
-pub few : {w : List ℕ} (n : ℕ) → RepresentsSome w → n ≡ address_count w → n ≤ 64
-few n v e = omega (arith, (sizes-valid v).addresses)
 
 -- ---- the calls
 -- a destination with its mark
