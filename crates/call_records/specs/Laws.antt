@@ -84,18 +84,6 @@ read_more rows i l v b c e sofar =
     ∙ sym (ap (λ (k : ℕ). take k l) (add-one i) ∙ take-suc l i [] c)
 
 -- ---- the calls
--- a destination with its mark
-pub own-present : (mark value : ℕ) → own (then_some (eqb mark 1) value) ≡ present mark value
-own-present mark value = go (eqb mark 1)
-  where
-    go : (b : Bool) → own (then_some b value) ≡ cond b (some value) none
-    go true = refl
-    go false = refl
-
-pub optional-own : (o : Own.Option ℕ) (r : Option ℕ) → own r ≡ o → Says optional (optionally o) (Ok r)
-optional-own o None e = rw (← e) (record { refuses = refl; says = refl })
-optional-own o (Some a) e = rw (← e) (record { refuses = refl; says = refl })
-
 -- a row that is read with the request is refused as one that is handed over
 pub row-request : {A : Type 0} (r : Answer A Refusal) (row : Bool) (w : List ℕ) → Refuses r (checked (record { buffers = true; row = true; request = cond row 0 201 }) w)
     → Refuses r (checked (record { buffers = true; row = row; request = 0 }) w)

@@ -146,7 +146,7 @@ pub fn select4_words(
         state,
         true,
         true,
-        call_read::asked(request_fit::fit_select(dst_present, dst, scope)),
+        request_fit::fit_select(dst_present, dst, scope),
     )?;
     let dst = (dst_present == 1).then_some(dst);
     Ok(select4_in(&state[..BASE_WORDS], dst, scope))
