@@ -14,21 +14,29 @@ use Rattle.call_records.proofs.select4_words.Goals as goal
 pub returns-in_err-checked : goal.returns-in_err-checked
 unfolding select4_call
 returns-in_err-checked c =
-    says-refused (semantics (Call.select4 c.args.dst_present c.args.dst c.args.scope)) c.args.state.now (c.checked.ensures.refuses _ (request c.asked.result c.asked.ensures c.fit_select.ensures)) c.in_err-checked.was c.from_residual.ensures.1
+    let call = semantics (Call.select4 c.args.dst_present c.args.dst c.args.scope) in
+    let refuses = c.checked.ensures.refuses _ (request c.asked.result c.asked.ensures c.fit_select.ensures) in
+    says-refused call c.args.state.now refuses c.in_err-checked.was c.from_residual.ensures.1
 
 pub slice_bounds-select4_in-end : goal.slice_bounds-select4_in-end
 slice_bounds-select4_in-end c =
-    sym (lent (passed (semantics (Call.select4 c.args.dst_present c.args.dst c.args.scope)).checks c.args.state.now (c.checked.ensures.refuses _ (request c.asked.result c.asked.ensures c.fit_select.ensures)) c.in_ok-checked.was))
+    let call = semantics (Call.select4 c.args.dst_present c.args.dst c.args.scope) in
+    let refuses = c.checked.ensures.refuses _ (request c.asked.result c.asked.ensures c.fit_select.ensures) in
+    sym (lent (passed call.checks c.args.state.now refuses c.in_ok-checked.was))
 
 pub select4_in-requires : goal.select4_in-requires
 select4_in-requires c =
-    valid (passed (semantics (Call.select4 c.args.dst_present c.args.dst c.args.scope)).checks c.args.state.now (c.checked.ensures.refuses _ (request c.asked.result c.asked.ensures c.fit_select.ensures)) c.in_ok-checked.was)
+    let call = semantics (Call.select4 c.args.dst_present c.args.dst c.args.scope) in
+    let refuses = c.checked.ensures.refuses _ (request c.asked.result c.asked.ensures c.fit_select.ensures) in
+    valid (passed call.checks c.args.state.now refuses c.in_ok-checked.was)
 
 pub returns : goal.returns
 unfolding select4_call
 returns c =
-    let p = passed (semantics (Call.select4 c.args.dst_present c.args.dst c.args.scope)).checks c.args.state.now (c.checked.ensures.refuses _ (request c.asked.result c.asked.ensures c.fit_select.ensures)) c.in_ok-checked.was in
+    let call = semantics (Call.select4 c.args.dst_present c.args.dst c.args.scope) in
+    let refuses = c.checked.ensures.refuses _ (request c.asked.result c.asked.ensures c.fit_select.ensures) in
+    let p = passed call.checks c.args.state.now refuses c.in_ok-checked.was in
     let st = state_of c.args.state.now in
     let dst = ap own c.then_some-dst.ensures ∙ own-present c.args.dst_present c.args.dst in
-    says-passed (semantics (Call.select4 c.args.dst_present c.args.dst c.args.scope)) c.args.state.now p
+    says-passed call c.args.state.now p
     (optional-own _ c.select4_in.result (c.select4_in.ensures st p.holds ∙ ap (λ (o : Option ℕ). select4 st.addresses o c.args.scope) dst))
