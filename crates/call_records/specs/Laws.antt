@@ -1,6 +1,7 @@
 -- What is found among records is what the reference finds among their rows.
 -- Assumes nothing.
-use Rattle.std.specs.Prelude.{ℕ, ◌+◌, ◌<◌, ◌≡◌, ◌≢◌, refl, true, false, Bool, cond, ◌&&◌, List, [], ◌∷◌, ◌++◌, map, length, get_or, take, set, eqb, Option, Some, None, Ok, Err, MatchOption}
+use Rattle.std.specs.Prelude.{ℕ, ◌+◌, ◌<◌, ◌≡◌, ◌≢◌, refl, true, false, Bool, cond, ◌&&◌, List, []}
+use Rattle.std.specs.Prelude.{◌∷◌, ◌++◌, map, length, get_or, take, set, eqb, Option, Some, None, Ok, Err, MatchOption}
 use Rattle.std.specs.Prelude.{Result as Answer}
 use Rattle.std.specs.Bool.{then_some}
 use Rattle.std.proofs.Common.{arith, sym, ap, subst, ◌∙◌, add-one, take-suc, take-suc-set}
@@ -50,7 +51,8 @@ module _ (scope : ℕ) where
   first-any [] = refl
   first-any (a ∷ l) = go (eligible scope a) (first-any l)
     where
-      go : (b : Bool) → first (eligible scope) l ≡ first (λ a. eligible scope a && reaches none a) l → cond b (some a) (first (eligible scope) l) ≡ cond (b && true) (some a) (first (λ a. eligible scope a && reaches none a) l)
+      go : (b : Bool) → first (eligible scope) l ≡ first (λ a. eligible scope a && reaches none a) l
+          → cond b (some a) (first (eligible scope) l) ≡ cond (b && true) (some a) (first (λ a. eligible scope a && reaches none a) l)
       go true h = refl
       go false h = h
 

@@ -17,8 +17,10 @@ pub returns-in_err-unless-2 : goal.returns-in_err-unless-2
 returns-in_err-unless-2 c =
     let long = eqb-true _ _ (passed _ _ c.in_ok-unless.ensures) in
     let s = words-whole state_size c.args.bytes.now _ _ long refl c.words_of.ensures in
-    refused _ c.from_residual-in_err-unless-2.result c.in_err-unless-2.field-0.0 c.args.bytes.now _ _ c.from_residual-in_err-unless-2.ensures c.in_err-unless-2.ensures
-    (λ e. shown-words c.args.bytes.now long ∙ shown_ill (words_of c.args.bytes.now) (ap formed (sym s) ∙ ap well_formed (base-whole _ c.args.bytes.now s long) ∙ sym c.well_formed-fit.ensures ∙ e))
+    let form = ap formed (sym s) ∙ ap well_formed (base-whole _ c.args.bytes.now s long) ∙ sym c.well_formed-fit.ensures in
+    refused _ c.from_residual-in_err-unless-2.result c.in_err-unless-2.field-0.0 c.args.bytes.now _ _
+    c.from_residual-in_err-unless-2.ensures c.in_err-unless-2.ensures
+    (λ e. shown-words c.args.bytes.now long ∙ shown_ill (words_of c.args.bytes.now) (form ∙ e))
 
 pub returns : goal.returns
 returns c =
