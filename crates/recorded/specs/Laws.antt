@@ -1,8 +1,9 @@
 -- Laws of a record's parts.
 -- Assumes nothing.
-use Rattle.std.specs.Prelude.{ℕ, zero, suc, ◌+◌, ◌-◌, ◌*◌, ◌%◌, ◌≤◌, ◌<◌, ◌≡◌, refl, Bool, true, false, cond, ◌&&◌, List, [], ◌∷◌, ◌++◌, eqb, leb, length, get_or, set, take, drop}
+use Rattle.std.specs.Prelude.{ℕ, zero, suc, ◌+◌, ◌-◌, ◌*◌, ◌/◌, ◌%◌, ◌≤◌, ◌<◌, ◌≡◌, refl, Bool, true, false, cond, ◌&&◌, List, [], ◌∷◌, ◌++◌, eqb, leb, length, get_or, set, take, drop}
 use Rattle.std.proofs.Common.{sym, ap, ◌∙◌, arith, add-one, length-set, drop_of_length-le, drop-cons, length-take-le, leb-true, le-leb}
 use Rattle.std.specs.List.{fold}
+use Rattle.std.specs.Simd.{first_chunks}
 use Rattle.lists.specs.Lists.{Row, flat, put, zeros, eq_row}
 use Rattle.lists.specs.Bools.{and_left, and_right, cond-case, cond-true, cond-false}
 use Rattle.lists.specs.Rows.{length-put, length-zeros}
@@ -18,30 +19,37 @@ use Rattle.call_dispatch.specs.Laws.{named}
 use Rattle.recorded.specs.declared.Verdict.TheVariants.{Damaged, Other, Same}
 use Rattle.recorded.specs.Record.{held_size, check_from, fit, Bounds, set_all, sets_of, restarted, before_of, lent_of, changes_of, rows_of, result_of, held_by, buffer_by, part, check_of, after_of, same_reply, agrees, verdict_of, held_after, buffer_after}
 
--- the check is the sum of words that wrap around
-abbrev pub summed : ℕ → ℕ → ℕ
-summed sum w = (sum * 16777619 % 4294967296 + w) % 4294967296
+-- one word more, as the code reckons it
+abbrev pub checked : ℕ → ℕ → ℕ
+checked sum w = (sum * 16777619 % 4294967296 + w) % 4294967296
 
-pub check-fold : (l : List ℕ) (sum : ℕ) → fold summed sum l ≡ check_from sum l
+more : (sum w : ℕ) → checked sum w ≡ (sum * 16777619 + w) % 4294967296
+more sum w = omega arith
+
+pub fold-check : (l : List ℕ) (sum : ℕ) → fold checked sum l ≡ check_from sum l
 unfolding check_from
-check-fold [] sum = refl
-check-fold (w ∷ l) sum = let wraps : summed sum w ≡ (sum * 16777619 + w) % 4294967296 = omega arith in rw wraps (check-fold l ((sum * 16777619 + w) % 4294967296))
+fold-check [] sum = refl
+fold-check (w ∷ l) sum = rw (more sum w) (fold-check l ((sum * 16777619 + w) % 4294967296))
+
+-- the word of a pair put in its place
+abbrev pub set_pair : List ℕ → List ℕ → List ℕ
+set_pair w p = set w (get_or p 0 0) (get_or p 1 0)
+
+pub fold-pairs : (n : ℕ) (l w : List ℕ) → n ≡ length l / 2 → fold set_pair w (first_chunks 2 n l) ≡ set_all l w
+unfolding set_all
+fold-pairs zero [] w h = refl
+fold-pairs zero (p ∷ []) w h = refl
+fold-pairs zero (p ∷ v ∷ l) w h = absurd (omega (arith, h))
+fold-pairs (suc n) [] w h = absurd (omega (arith, h))
+fold-pairs (suc n) (p ∷ []) w h = absurd (omega (arith, h))
+fold-pairs (suc n) (p ∷ v ∷ l) w h = fold-pairs n l (set w p v) (omega (arith, h))
 
 -- the pairs from the k-th on
-pub set_next : (l w : List ℕ) (k : ℕ) → 2 * k + 1 < length l → set_all (drop (2 * k) l) w ≡ set_all (drop (2 * (k + 1)) l) (set w (get_or l (2 * k) 0) (get_or l (2 * k + 1) 0))
-unfolding set_all
-set_next l w k h =
-    let n : 2 * (k + 1) ≡ suc (suc (2 * k)) = omega arith in
-    let m : 2 * k + 1 ≡ suc (2 * k) = omega arith in
-    let g : 2 * k < length l = omega arith in
-    let f : suc (2 * k) < length l = omega arith in
-    rw (n, m, drop-cons l (2 * k) 0, drop-cons l (suc (2 * k)) 0)
+pub next-pair : (l : List (List ℕ)) (w : List ℕ) (k : ℕ) → k < length l → fold set_pair w (drop k l) ≡ fold set_pair (set_pair w (get_or l k [])) (drop (k + 1) l)
+next-pair l w k h = rw (add-one, drop-cons l k [])
 
-pub set_rest : (l w : List ℕ) → length l ≤ 1 → set_all l w ≡ w
-unfolding set_all
-set_rest [] w h = refl
-set_rest (p ∷ []) w h = refl
-set_rest (p ∷ v ∷ l) w h = absurd (omega arith)
+pub no-pairs : (l : List (List ℕ)) (w : List ℕ) (k : ℕ) → length l ≤ k → w ≡ fold set_pair w (drop k l)
+no-pairs l w k h = rw (drop_of_length-le l {i = k} h)
 
 pub length-set_all : (l w : List ℕ) → length (set_all l w) ≡ length w
 unfolding set_all

@@ -26,9 +26,9 @@ const FIRST_SET: u32 = record::HEAD as u32;
 pub fn check(words: &[u32]) -> u32
     ensures { result ≡ check_of words.now }
 {
-    words
-        .iter()
-        .fold(1, |sum: u32, w| sum.wrapping_mul(16777619).wrapping_add(*w))
+    words.iter().fold(1u32, |sum, word| {
+        sum.wrapping_mul(16777619).wrapping_add(*word)
+    })
 }
 
 // The record's words are all there, and its parts lie in it.
@@ -79,8 +79,9 @@ fn set_word(s: &mut [u32], at: u32, v: u32)
 fn set_pairs(s: &mut [u32], pairs: &[u32])
     ensures { s.new ≡ set_all pairs.now s.old }
 {
-    for k in 0..pairs.len() / 2 {
-        set_word(s, pairs[2 * k], pairs[2 * k + 1]);
+    let (pairs, _) = pairs.as_chunks::<2>();
+    for [at, word] in pairs {
+        set_word(s, *at, *word);
     }
 }
 

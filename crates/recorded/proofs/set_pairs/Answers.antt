@@ -1,26 +1,19 @@
--- `recorded::set_pairs` meets its contract: the pairs that are left, put in what is there, give the words.
--- Assumes nothing.
-use lib.ListN.{length-set}
-use Prim.Native.Nat.{◌-◌, ◌+◌, ◌*◌}
-use mathlib.Core.Path.{refl, sym, ap, ◌∙◌}
-use native.Mathlib.Omega.{arith}
-use lib.ListN.{length, drop, length-drop}
-use Rattle.recorded.specs.Record.{set_all}
-use Rattle.recorded.specs.Laws.{set_next, set_rest}
+-- The pairs that are left, put in what is there, give the words.
+use Rattle.std.proofs.Common.{sym, refl, ap, ◌∙◌, ◌+◌, drop, List, ℕ}
+use Rattle.std.specs.List.{fold}
+use Rattle.recorded.specs.Laws.{set_pair, next-pair, no-pairs, fold-pairs}
 use Rattle.recorded.proofs.set_pairs.Goals as goal
 
-pub loop-k-init : goal.loop-k-init
-loop-k-init c = (refl, refl)
-
-pub loop-k-preserved : goal.loop-k-preserved
-loop-k-preserved c = (
-  ap length c.set_word.ensures ∙ simp length-set c.loop-k.invariant.0,
-  ap (set_all (drop (2 * (c.loop-k.k + 1)) c.args.pairs.now)) c.set_word.ensures ∙ sym (set_next c.args.pairs.now c.loop-k.s c.loop-k.k (omega arith)) ∙ c.loop-k.invariant.1,
-)
-
-pub shape_of-s : goal.shape_of-s
-shape_of-s c = c.loop-k.invariant.0
+pub loop-at-preserved : goal.loop-at-preserved
+loop-at-preserved c =
+    let pairs = c.as_chunks.result.0.now in
+    ap (λ (w : List ℕ). fold set_pair w (drop (c.loop-at.at-index + 1) pairs)) c.set_word.ensures
+    ∙ sym (next-pair pairs c.loop-at.s c.loop-at.at-index c.loop-at-test.true)
+    ∙ c.loop-at.invariant
 
 pub returns : goal.returns
 returns c =
-    sym (set_rest (drop (2 * c.loop-k.k) c.args.pairs.now) c.loop-k.s (omega (arith, length-drop (2 * c.loop-k.k) c.args.pairs.now))) ∙ c.loop-k.invariant.1
+    no-pairs c.as_chunks.result.0.now c.loop-at.s c.loop-at.at-index c.loop-at-test.false
+    ∙ c.loop-at.invariant
+    ∙ ap (fold set_pair c.args.s.now) c.as_chunks.ensures.front
+    ∙ fold-pairs _ c.args.pairs.now c.args.s.now refl

@@ -1,8 +1,8 @@
--- `recorded::set_pairs` meets its contract: the pairs that are left, put in what is there, give the words.
--- Assumes nothing.
-use Rattle.std.specs.Prelude.{◌*◌, ◌≡◌, length, drop}
-use Rattle.recorded.specs.Record.{set_all}
+-- The pairs that are left, put in what is there, give the words.
+use Rattle.std.proofs.Common.{◌≡◌, length, drop}
+use Rattle.std.specs.List.{fold}
+use Rattle.recorded.specs.Laws.{set_pair}
 use Rattle.recorded.proofs.set_pairs.Given as goal
 
-abbrev pub invariant-loop-k : goal.invariant-loop-k
-invariant-loop-k l = (length l.s ≡ length l.initial.s) × (set_all (drop (2 * l.k) l.pairs) l.s ≡ set_all l.pairs l.initial.s)
+abbrev pub invariant-loop-at : goal.invariant-loop-at
+invariant-loop-at l = fold set_pair l.s (drop l.at-index l.pairs) ≡ fold set_pair l.initial.s l.pairs
