@@ -27,10 +27,8 @@ pub fn check(words: &[u32]) -> u32
     ensures { result ≡ check_of words.now }
 {
     let mut sum = 1u64;
-    let mut i = 0usize;
-    while i < words.len() {
-        sum = (sum * 16777619 + words::long(words[i])) % 4294967296;
-        i += 1;
+    for w in words {
+        sum = (sum * 16777619 + words::long(*w)) % 4294967296;
     }
     sum as u32
 }
@@ -83,11 +81,8 @@ fn set_word(s: &mut [u32], at: u32, v: u32)
 fn set_pairs(s: &mut [u32], pairs: &[u32])
     ensures { s.new ≡ set_all pairs.now s.old }
 {
-    let n = pairs.len() / 2;
-    let mut k = 0usize;
-    while k < n {
+    for k in 0..pairs.len() / 2 {
         set_word(s, pairs[2 * k], pairs[2 * k + 1]);
-        k += 1;
     }
 }
 
@@ -170,10 +165,13 @@ fn same_reply(r: &[u32], reply: Reply) -> bool
     requires { 16 ≤ length r.now }
     ensures { result ≡ same_reply r.now reply }
 {
-    (reply.number == r[record::NUMBER])
-        & (reply.present == r[record::PRESENT])
-        & (reply.value == r[record::VALUE])
-        & (reply.second == r[record::SECOND])
+    reply
+        == Reply {
+            number: r[record::NUMBER],
+            present: r[record::PRESENT],
+            value: r[record::VALUE],
+            second: r[record::SECOND],
+        }
 }
 
 // Whether the call answers, changes and writes what the record says, and nothing else. The held words are afterwards as recorded.
@@ -194,7 +192,7 @@ fn agrees(r: &[u32], held: &mut [u32], buffer: &mut [u32]) -> bool
     same_reply(r, reply) & words::same_words(&left, held) & words::same_words(buffer, &wanted)
 }
 
-#[derive(Clone, Copy)]
+#[derive(Clone, Copy, Debug, PartialEq, Eq)]
 pub enum Verdict {
     // It is no whole record.
     Damaged,

@@ -1,13 +1,7 @@
--- `recorded::set_pairs` meets its contract: the pairs that are left, put in what is there, give the words.
--- Assumes nothing.
-use Prim.Native.Nat.{◌-◌, ◌*◌, ◌/◌, ◌≤◌}
-use mathlib.Core.Path.{◌≡◌}
-use lib.ListN.{length, drop}
+-- The pairs that are left, put in what is there, give the words.
+use Rattle.std.specs.Prelude.{◌≡◌, ◌*◌, drop}
 use Rattle.recorded.specs.Record.{set_all}
 use Rattle.recorded.proofs.set_pairs.Given as goal
 
 abbrev pub invariant-loop-k : goal.invariant-loop-k
-invariant-loop-k l = (l.n ≡ length l.pairs / 2) × (l.k ≤ l.n) × (length l.s ≡ length l.initial.s) × (set_all (drop (2 * l.k) l.pairs) l.s ≡ set_all l.pairs l.initial.s)
-
-abbrev pub decreases-loop-k : goal.decreases-loop-k
-decreases-loop-k l = l.n - l.k
+invariant-loop-k l = set_all (drop (2 * l.k) l.pairs) l.s ≡ set_all l.pairs l.initial.s
