@@ -5,6 +5,7 @@
 ghost use Rattle.std.specs.Prelude.{◌≡◌, ℕ, ◌+◌, ◌*◌, ◌%◌, ◌^◌, ◌<◌, ◌≤◌, length, take, slice_index, slice_set, IfSome};
 ghost use Rattle.definition.specs.Step.{event_room};
 
+use call_dispatch::numbered::Call;
 use layout::EVENT_BUFFER;
 use recorded::{HELD_WORDS, Verdict, record};
 use std::env::FillError;
@@ -59,26 +60,6 @@ fn fill(buffer: &mut [u32])
     }
 }
 
-fn name(code: u32) -> &'static str {
-    match code {
-        1 => "up",
-        2 => "down",
-        3 => "add_v4",
-        4 => "del_v4",
-        5 => "expire",
-        6 => "add_route4",
-        7 => "del_route4",
-        8 => "dump4",
-        9 => "lookup4",
-        10 => "lookup4_flow",
-        11 => "local4",
-        12 => "source4",
-        13 => "source",
-        14 => "select4",
-        _ => "left",
-    }
-}
-
 // One more of a kind of call.
 fn count(counts: &mut [u64; CALLS], code: u32)
     ensures { code < 16 → counts.new ≡ slice_set counts.old code ((slice_index counts.old code + 1) % 2 ^ 64) }
@@ -90,7 +71,7 @@ fn count(counts: &mut [u64; CALLS], code: u32)
 }
 
 // Why a list can't be read on.
-#[derive(Clone, Copy)]
+#[derive(Clone, Copy, Debug, PartialEq, Eq)]
 enum Unread {
     NotThere,
     Damaged,
@@ -122,7 +103,9 @@ impl Replay {
         match recorded::judge(record, &mut self.held, &mut buffer) {
             Verdict::Damaged => return Err(Unread::Damaged),
             Verdict::Other => {
-                let _ = println!(rt; "record {i}, {}, is not as recorded", name(code));
+                if let Ok(call) = Call::try_from(code) {
+                    let _ = println!(rt; "record {i}, {call}, is not as recorded");
+                }
                 count(&mut self.other, code);
             }
             Verdict::Same => count(&mut self.same, code),
@@ -152,8 +135,10 @@ impl Replay {
         let mut total = 0u64;
         for code in 1..CALLS {
             let (same, other) = (self.same[code], self.other[code]);
-            if same != 0 || other != 0 {
-                let _ = println!(rt; "{}: {same} as recorded, {other} not", name(code as u32));
+            if let Ok(call) = Call::try_from(code as u32)
+                && (same != 0 || other != 0)
+            {
+                let _ = println!(rt; "{call}: {same} as recorded, {other} not");
             }
             total = total.wrapping_add(same);
         }
