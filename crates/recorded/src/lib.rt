@@ -164,10 +164,13 @@ fn same_reply(r: &[u32], reply: Reply) -> bool
     requires { 16 ≤ length r.now }
     ensures { result ≡ same_reply r.now reply }
 {
-    (reply.number == r[record::NUMBER])
-        & (reply.present == r[record::PRESENT])
-        & (reply.value == r[record::VALUE])
-        & (reply.second == r[record::SECOND])
+    reply
+        == Reply {
+            number: r[record::NUMBER],
+            present: r[record::PRESENT],
+            value: r[record::VALUE],
+            second: r[record::SECOND],
+        }
 }
 
 // Whether the call answers, changes and writes what the record says, and nothing else. The held words are afterwards as recorded.

@@ -14,6 +14,7 @@ pub fn read_full<R: Read>(input: &mut R, bytes: &mut [u8]) -> io::Result<usize>
     ensures taken { IfOk result (λ n. Consumes (R.remaining input.old) (R.remaining input.new) (take n bytes.new)) }
     ensures end { IfOk result (λ n. n < length bytes.old → IsAtEnd (R.remaining input.new)) }
 {
+    // A for has nothing to go over: how far each turn goes is what a read answers.
     let mut n = 0usize;
     while n < bytes.len() {
         let more = input.read(&mut bytes[n..])?;
