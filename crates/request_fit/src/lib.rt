@@ -1,14 +1,15 @@
-// Which requests are fit: every field within its width, and what is absent 0.
+// Which requests are fit: every field within its width, and what is absent 0. Of other words than its own a request is unfit.
 #![tactic(auto)]
 
-ghost use Rattle.std.specs.Prelude.{◌≡◌, cond, ◌&&◌, leb, ltb, ◌≤◌, length};
+ghost use Rattle.std.specs.Prelude.{◌≡◌, ◌&&◌, leb, ltb, ◌≤◌, length};
 ghost use Rattle.refusal.specs.Refusal.{Refuses};
-ghost use Rattle.layout.specs.Request.{fit_del_v4, fit_route_words, pairs, fit_pairs, pair_count, fit_add_route4, fit_del_route4};
+ghost use Rattle.layout.specs.Request.{add_v4_size, del_v4_size, add_route4_size, del_route4_size, fit_del_v4, fit_route_words, pairs, fit_pairs, pair_count, fit_add_route4, fit_del_route4};
 ghost use Rattle.layout.specs.Address.{optional};
-ghost use Rattle.definition.specs.Step.{unless, invalid, add_v4_refusal, clock_limit};
+ghost use Rattle.definition.specs.Step.{unless, add_v4_refusal, clock_limit};
 
 use layout::{
-    AddRoute4, AddV4, DelRoute4, DelV4, add_route4, add_v4, address, del_route4, del_v4, route,
+    ADD_ROUTE4_WORDS, ADD_V4_WORDS, DEL_ROUTE4_WORDS, DEL_V4_WORDS, DelRoute4, add_route4, add_v4,
+    address, del_route4, del_v4, route,
 };
 use refusal::Refusal;
 use row_address::Label;
@@ -41,9 +42,12 @@ pub fn fit_expire(clock: u64) -> Result<(), Refusal>
 
 // A request's fields come first, then what Linux turns down (document 02, Paper 2).
 #[tactic(auto, unfolding(layout::specs::Request::fit_add_v4))]
-pub fn fit_add_v4(q: &AddV4) -> Result<(), Refusal>
-    ensures { Refuses result (add_v4_refusal q.now) }
+pub fn fit_add_v4(q: &[u32]) -> Result<(), Refusal>
+    ensures { length q.now ≡ add_v4_size → Refuses result (add_v4_refusal q.now) }
 {
+    let Some(q) = q.as_array::<ADD_V4_WORDS>() else {
+        return Err(Refusal::Unfit);
+    };
     let fit = (q[address::PREFIX] <= 32)
         & row_address::fit_optional(q[address::BROADCAST_PRESENT], q[address::BROADCAST])
         & (q[address::SCOPE] < 256)
@@ -66,9 +70,12 @@ pub fn fit_add_v4(q: &AddV4) -> Result<(), Refusal>
 }
 
 #[tactic(auto, unfolding(layout::specs::Request::fit_del_v4))]
-pub fn fit_del_v4(q: &DelV4) -> Result<(), Refusal>
-    ensures { Refuses result (unless (fit_del_v4 q.now) 202) }
+pub fn fit_del_v4(q: &[u32]) -> Result<(), Refusal>
+    ensures { length q.now ≡ del_v4_size → Refuses result (unless (fit_del_v4 q.now) 202) }
 {
+    let Some(q) = q.as_array::<DEL_V4_WORDS>() else {
+        return Err(Refusal::Unfit);
+    };
     let fit = (q[del_v4::PREFIX] <= 32)
         & row_address::fit_optional(q[del_v4::LOCAL_PRESENT], q[del_v4::LOCAL])
         & row_address::fit_optional(q[del_v4::ADDRESS_PRESENT], q[del_v4::ADDRESS])
@@ -104,9 +111,12 @@ fn fit_route_words(q: &[u32]) -> bool
 const GREATEST_ERRNO: u32 = 133;
 
 #[tactic(auto, unfolding(layout::specs::Request::fit_add_route4))]
-pub fn fit_add_route4(q: &AddRoute4) -> Result<(), Refusal>
-    ensures { Refuses result (unless (fit_add_route4 q.now) 202) }
+pub fn fit_add_route4(q: &[u32]) -> Result<(), Refusal>
+    ensures { length q.now ≡ add_route4_size → Refuses result (unless (fit_add_route4 q.now) 202) }
 {
+    let Some(q) = q.as_array::<ADD_ROUTE4_WORDS>() else {
+        return Err(Refusal::Unfit);
+    };
     let fit = fit_route_words(q)
         & (q[add_route4::REQUEST] < 65536)
         & (q[add_route4::METRICS_ERROR] <= GREATEST_ERRNO)
@@ -133,9 +143,12 @@ fn fit_pairs(q: &DelRoute4) -> bool
 
 // The count is looked at before the pairs that it counts.
 #[tactic(auto, unfolding(layout::specs::Request::fit_del_route4))]
-pub fn fit_del_route4(q: &DelRoute4) -> Result<(), Refusal>
-    ensures { Refuses result (unless (fit_del_route4 q.now) 202) }
+pub fn fit_del_route4(q: &[u32]) -> Result<(), Refusal>
+    ensures { length q.now ≡ del_route4_size → Refuses result (unless (fit_del_route4 q.now) 202) }
 {
+    let Some(q) = q.as_array::<DEL_ROUTE4_WORDS>() else {
+        return Err(Refusal::Unfit);
+    };
     let fields = fit_route_words(q)
         & row_address::fit_optional(q[del_route4::LIST_PRESENT], q[del_route4::PAIR_COUNT]);
     let counted = q[del_route4::PAIR_COUNT] <= 17 && fit_pairs(q);

@@ -9,7 +9,7 @@ use Rattle.definition.specs.Words.{state_of}
 use Rattle.call_read.specs.Laws.{passed, lent, valid}
 use Rattle.definition.specs.Step.{unless, events_fit, semantics, del_route4_call}
 use Rattle.state.specs.Represents.{RepresentsSome}
-use Rattle.call_change.specs.Laws.{unsized, request-checked, answers-unsized, answers-refused, answers-passed, room}
+use Rattle.call_change.specs.Laws.{unsized, request-checked, long, answers-unsized, answers-refused, answers-passed, room}
 use Rattle.call_change.specs.Steps.{ran-answers, taken}
 use Rattle.call_change.proofs.del_route4_lent.Goals as goal
 
@@ -23,13 +23,13 @@ pub returns-in_err-checked : goal.returns-in_err-checked
 unfolding del_route4_call
 returns-in_err-checked c =
     answers-refused (semantics (Call.del_route4 c.args.q.now c.args.room)) c.args.state.now c.args.events.now
-    (request-checked del_route4_size c.args.q.now c.args.state.now c.in_ok-q.ensures c.checked.result (events_fit c.args.room) (λ q. unless (fit_del_route4 q) 202) (c.checked.ensures.refuses _ c.fit_del_route4-fit.ensures)) c.in_err-checked.was c.from_residual-in_err-checked.ensures.1
+    (request-checked del_route4_size c.args.q.now c.args.state.now c.in_ok-q.ensures c.checked.result (events_fit c.args.room) (λ q. unless (fit_del_route4 q) 202) (c.checked.ensures.refuses _ (c.fit_del_route4-fit.ensures (long del_route4_size c.args.q.now c.args.state.now c.in_ok-q.ensures)))) c.in_err-checked.was c.from_residual-in_err-checked.ensures.1
 
 pub slice_bounds-changed-end-2 : goal.slice_bounds-changed-end-2
 slice_bounds-changed-end-2 c =
     let p =
     passed (semantics (Call.del_route4 c.args.q.now c.args.room)).checks c.args.state.now
-    (request-checked del_route4_size c.args.q.now c.args.state.now c.in_ok-q.ensures c.checked.result (events_fit c.args.room) (λ q. unless (fit_del_route4 q) 202) (c.checked.ensures.refuses _ c.fit_del_route4-fit.ensures)) c.in_ok-checked.was
+    (request-checked del_route4_size c.args.q.now c.args.state.now c.in_ok-q.ensures c.checked.result (events_fit c.args.room) (λ q. unless (fit_del_route4 q) 202) (c.checked.ensures.refuses _ (c.fit_del_route4-fit.ensures (long del_route4_size c.args.q.now c.args.state.now c.in_ok-q.ensures)))) c.in_ok-checked.was
     in
     sym (lent p)
 
@@ -37,7 +37,7 @@ pub changed-requires : goal.changed-requires
 changed-requires c a h q e =
     let p =
     passed (semantics (Call.del_route4 c.args.q.now c.args.room)).checks c.args.state.now
-    (request-checked del_route4_size c.args.q.now c.args.state.now c.in_ok-q.ensures c.checked.result (events_fit c.args.room) (λ q. unless (fit_del_route4 q) 202) (c.checked.ensures.refuses _ c.fit_del_route4-fit.ensures)) c.in_ok-checked.was
+    (request-checked del_route4_size c.args.q.now c.args.state.now c.in_ok-q.ensures c.checked.result (events_fit c.args.room) (λ q. unless (fit_del_route4 q) 202) (c.checked.ensures.refuses _ (c.fit_del_route4-fit.ensures (long del_route4_size c.args.q.now c.args.state.now c.in_ok-q.ensures)))) c.in_ok-checked.was
     in
     let held : RepresentsSome a.state.now = rw h.words (valid p) in
     let room : 34 * (a.told + 1) ≤ length a.events.now = omega (arith, c.requires (room del_route4_size c.args.q.now c.args.room p.room), ap length h.buffer, h.none) in
@@ -49,7 +49,7 @@ unfolding del_route4_call
 returns c =
     let p =
     passed (semantics (Call.del_route4 c.args.q.now c.args.room)).checks c.args.state.now
-    (request-checked del_route4_size c.args.q.now c.args.state.now c.in_ok-q.ensures c.checked.result (events_fit c.args.room) (λ q. unless (fit_del_route4 q) 202) (c.checked.ensures.refuses _ c.fit_del_route4-fit.ensures)) c.in_ok-checked.was
+    (request-checked del_route4_size c.args.q.now c.args.state.now c.in_ok-q.ensures c.checked.result (events_fit c.args.room) (λ q. unless (fit_del_route4 q) 202) (c.checked.ensures.refuses _ (c.fit_del_route4-fit.ensures (long del_route4_size c.args.q.now c.args.state.now c.in_ok-q.ensures)))) c.in_ok-checked.was
     in
     answers-passed (semantics (Call.del_route4 c.args.q.now c.args.room)) c.args.state.now p
     (ran-answers (del_route4_request c.args.q.now (state_of c.args.state.now)) p c.changed.ensures (del_route4-number c.args.q.now (state_of c.args.state.now))

@@ -9,7 +9,7 @@ use Rattle.definition.specs.Words.{state_of}
 use Rattle.call_read.specs.Laws.{passed, lent}
 use Rattle.definition.specs.Step.{unless, events_fit, semantics, del_v4_call}
 use Rattle.step_events.specs.EmitsWithin.{SomeRoom}
-use Rattle.call_change.specs.Laws.{unsized, request-checked, answers-unsized, answers-refused, answers-passed, room}
+use Rattle.call_change.specs.Laws.{unsized, request-checked, long, answers-unsized, answers-refused, answers-passed, room}
 use Rattle.call_change.specs.Steps.{fitting, ran-answers, taken}
 use Rattle.call_change.proofs.del_v4.Goals as goal
 
@@ -23,13 +23,13 @@ pub returns-in_err-checked : goal.returns-in_err-checked
 unfolding del_v4_call
 returns-in_err-checked c =
     answers-refused (semantics (Call.del_v4 c.args.q.now (length c.args.events.now))) c.args.state.now c.args.events.now
-    (request-checked del_v4_size c.args.q.now c.args.state.now c.in_ok-q.ensures c.checked.result (events_fit (length c.args.events.now)) (λ q. unless (fit_del_v4 q) 202) (c.checked.ensures.refuses _ c.fit_del_v4-fit.ensures)) c.in_err-checked.was c.from_residual-in_err-checked.ensures.1
+    (request-checked del_v4_size c.args.q.now c.args.state.now c.in_ok-q.ensures c.checked.result (events_fit (length c.args.events.now)) (λ q. unless (fit_del_v4 q) 202) (c.checked.ensures.refuses _ (c.fit_del_v4-fit.ensures (long del_v4_size c.args.q.now c.args.state.now c.in_ok-q.ensures)))) c.in_err-checked.was c.from_residual-in_err-checked.ensures.1
 
 pub slice_bounds-changed-end-2 : goal.slice_bounds-changed-end-2
 slice_bounds-changed-end-2 c =
     let p =
     passed (semantics (Call.del_v4 c.args.q.now (length c.args.events.now))).checks c.args.state.now
-    (request-checked del_v4_size c.args.q.now c.args.state.now c.in_ok-q.ensures c.checked.result (events_fit (length c.args.events.now)) (λ q. unless (fit_del_v4 q) 202) (c.checked.ensures.refuses _ c.fit_del_v4-fit.ensures)) c.in_ok-checked.was
+    (request-checked del_v4_size c.args.q.now c.args.state.now c.in_ok-q.ensures c.checked.result (events_fit (length c.args.events.now)) (λ q. unless (fit_del_v4 q) 202) (c.checked.ensures.refuses _ (c.fit_del_v4-fit.ensures (long del_v4_size c.args.q.now c.args.state.now c.in_ok-q.ensures)))) c.in_ok-checked.was
     in
     sym (lent p)
 
@@ -37,7 +37,7 @@ pub changed-requires : goal.changed-requires
 changed-requires c a h q e =
     let p =
     passed (semantics (Call.del_v4 c.args.q.now (length c.args.events.now))).checks c.args.state.now
-    (request-checked del_v4_size c.args.q.now c.args.state.now c.in_ok-q.ensures c.checked.result (events_fit (length c.args.events.now)) (λ q. unless (fit_del_v4 q) 202) (c.checked.ensures.refuses _ c.fit_del_v4-fit.ensures)) c.in_ok-checked.was
+    (request-checked del_v4_size c.args.q.now c.args.state.now c.in_ok-q.ensures c.checked.result (events_fit (length c.args.events.now)) (λ q. unless (fit_del_v4 q) 202) (c.checked.ensures.refuses _ (c.fit_del_v4-fit.ensures (long del_v4_size c.args.q.now c.args.state.now c.in_ok-q.ensures)))) c.in_ok-checked.was
     in
     let room = fitting p h (room del_v4_size c.args.q.now (length c.args.events.now) p.room) in
     let some : SomeRoom potential a = record { state = state_of c.args.state.now; fits = room } in
@@ -48,7 +48,7 @@ unfolding del_v4_call
 returns c =
     let p =
     passed (semantics (Call.del_v4 c.args.q.now (length c.args.events.now))).checks c.args.state.now
-    (request-checked del_v4_size c.args.q.now c.args.state.now c.in_ok-q.ensures c.checked.result (events_fit (length c.args.events.now)) (λ q. unless (fit_del_v4 q) 202) (c.checked.ensures.refuses _ c.fit_del_v4-fit.ensures)) c.in_ok-checked.was
+    (request-checked del_v4_size c.args.q.now c.args.state.now c.in_ok-q.ensures c.checked.result (events_fit (length c.args.events.now)) (λ q. unless (fit_del_v4 q) 202) (c.checked.ensures.refuses _ (c.fit_del_v4-fit.ensures (long del_v4_size c.args.q.now c.args.state.now c.in_ok-q.ensures)))) c.in_ok-checked.was
     in
     answers-passed (semantics (Call.del_v4 c.args.q.now (length c.args.events.now))) c.args.state.now p
     (ran-answers (del_v4 c.args.q.now (state_of c.args.state.now)) p c.changed.ensures (del_v4-number c.args.q.now (state_of c.args.state.now))
