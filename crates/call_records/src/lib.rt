@@ -116,10 +116,7 @@ fn primary_of_in(s: &[u32], row: &AddressRow) -> u32
     ensures { (st : State) → Represents s.now st → result ≡ primary_of st.addresses row.now }
 {
     let mut room = room();
-    primary_of(
-        records(state::addresses(s), &mut room),
-        V4::from(row),
-    )
+    primary_of(records(state::addresses(s), &mut room), V4::from(row))
 }
 
 // A row that could stand in a well-formed state, of any words.

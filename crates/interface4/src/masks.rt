@@ -16,8 +16,8 @@ ghost use Rattle.interface4.specs.Mask.{MadeOn, BadBytes};
 
 use crate::{EVENT_BYTES, STATE_BYTES, changing};
 use call_reply::Reply;
-use refusal::Refusal;
 use layout::{ADD_V4_WORDS, DEL_V4_WORDS, STATE_WORDS, address, del_v4};
+use refusal::Refusal;
 
 const ADD_V4_BYTES: usize = 4 * ADD_V4_WORDS;
 

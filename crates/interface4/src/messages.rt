@@ -8,8 +8,8 @@ ghost use Rattle.interface4.specs.Answer.{sizes_reply};
 
 use crate::given;
 use call_reply::Reply;
-use refusal::Refusal;
 use layout::{DEL_ROUTE4_WORDS, EVENT_ROWS, STATE_WORDS};
+use refusal::Refusal;
 
 // The bytes of the longest request.
 const REQUEST_BYTES: usize = 4 * DEL_ROUTE4_WORDS;

@@ -14,8 +14,8 @@ ghost use Rattle.interface4.specs.Reading.{row_size, Asks, local4-asks, source4-
 
 use crate::{ADDRESS_BYTES, LISTING_BYTES, ROUTE_BYTES, STATE_BYTES, given, on_words};
 use call_reply::Reply;
-use refusal::Refusal;
 use layout::{ADDRESS_WORDS, LISTING_BUFFER, ROUTE_WORDS, STATE_WORDS};
+use refusal::Refusal;
 
 #[unsafe(no_mangle)]
 pub extern "C" fn interface4_dump4(state: &[u8], listing: &mut [u8]) -> Reply
