@@ -66,7 +66,8 @@ fn install_at(change: &mut Change<'_>, i: usize) -> Result<(), Refusal>
     )
 }
 
-// The routes of every address, in order.
+// The routes of every address, in order. Out of line, so that its routes don't stand on the stack of `up` while an address is added.
+#[inline(never)]
 fn install_all(change: &mut Change<'_>) -> Result<(), Refusal>
     requires represents_fit { RepresentsFit change.old.state.now }
     requires in_bounds { 34 * (change.old.told + 324) ≤ length change.old.events.now }
