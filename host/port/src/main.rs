@@ -122,7 +122,7 @@ fn run(options: &Options) -> Result<(), String> {
     let mut messages = Comparison::new(options.seed);
     let mut masks = masks::Comparison::new(options.seed);
     let begin = Instant::now();
-    let found = compare(&mut campaign, &mut messages, &mut masks, options, begin);
+    let found = compare(&mut campaign, &mut messages, &mut masks, options);
     say(&campaign.summary, begin.elapsed(), options.seed);
     if options.read {
         let Summary {
@@ -172,7 +172,6 @@ fn compare(
     messages: &mut Comparison,
     masks: &mut masks::Comparison,
     options: &Options,
-    begin: Instant,
 ) -> Result<(), String> {
     campaign.by_hand()?;
     let mut readers = boundaries(options);
@@ -191,6 +190,8 @@ fn compare(
     match options.counts {
         Some(counts) => part(counts)?,
         None => {
+            // all masks take as long as they take
+            let begin = Instant::now();
             while begin.elapsed() < Duration::from_secs(options.seconds) {
                 part([BATCH, PAIRS_PER_BATCH, BATCH])?;
             }
