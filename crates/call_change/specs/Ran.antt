@@ -8,7 +8,7 @@ use Rattle.step_events.specs.declared.change.Change.{Change}
 
 -- a change of the words w and the event buffer ev, of which nothing is told
 pub record Begins (w ev : List ℕ) (a : Change) : Type 0 where
-  pub words : a.state.now ≡ w
+  pub words : a.state.words.now ≡ w
   pub buffer : a.events.now ≡ ev
   pub none : a.told ≡ 0
 
@@ -32,6 +32,6 @@ module _ {F : Type 0} (g : Step F) (f : F) where
     pub gave : Answer (Unit {0}) Refusal
     pub begins : Begins w ev from
     pub ran : FnOnceReturnsAtMut g f from gave to
-    pub left : from.state.ghost_name ≡ to.state.ghost_name → w' ≡ to.state.now
+    pub left : from.state.words.ghost_name ≡ to.state.words.ghost_name → w' ≡ to.state.words.now
     pub rows : from.events.ghost_name ≡ to.events.ghost_name → ev' ≡ to.events.now
     pub answer : r ≡ counted to gave

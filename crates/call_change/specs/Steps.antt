@@ -45,7 +45,7 @@ down_answers w ev p h = answers-made (goes (down (state_of w))) w (down-roomy (s
 
 -- ---- a step on a change that had told nothing
 module _ {u v ev ev' : List ℕ} {a b : Change} (begins : Begins u ev a)
-    (words : a.state.ghost_name ≡ b.state.ghost_name → v ≡ b.state.now) (rows : a.events.ghost_name ≡ b.events.ghost_name → ev' ≡ b.events.now) where
+    (words : a.state.words.ghost_name ≡ b.state.words.ghost_name → v ≡ b.state.words.now) (rows : a.events.ghost_name ≡ b.events.ghost_name → ev' ≡ b.events.now) where
   module _ {o : Out} (s : Emits o a b) where
     left : v ≡ encode o.state
     left = words (sym s.tells.places.state) ∙ s.holds.words

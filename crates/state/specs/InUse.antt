@@ -3,12 +3,12 @@ use Rattle.std.specs.Prelude.{ℕ, ◌+◌, ◌-◌, ◌*◌, ◌≤◌, ◌≡�
 use Rattle.std.proofs.Common.{arith, sym, ap, ◌∙◌, append_assoc, take_at, drop_at}
 use Rattle.lists.specs.Lists.{flat, pad, zeros}
 use Rattle.lists.specs.Rows.{length-flat}
-use Rattle.lists.specs.Laid.{Laid, Lays, laid-length}
+use Rattle.lists.specs.Laid.{Laid, Lays}
 use Rattle.layout.specs.Address.{fit_address}
 use Rattle.layout.specs.Route.{fit_route}
 use Rattle.definition.specs.State.{State}
 use Rattle.definition.specs.Words.{address_count, route_count, addresses_size, routes_at, routes_size}
-use Rattle.state.specs.Represents.{Represents, RepresentsSome, counts, behind_addresses, before_routes, encode-addresses, encode-routes, sized_a, sized_r, at_routes, count-addresses, count-routes, sizes-valid}
+use Rattle.state.specs.Represents.{Represents, counts, behind_addresses, before_routes, encode-addresses, encode-routes, sized_a, sized_r, at_routes, count-addresses, count-routes, sizes_of}
 
 -- the words of the rows in use, as they are lent
 abbrev pub address_part : List ℕ → List ℕ
@@ -46,27 +46,16 @@ module _ {w : List ℕ} {st : State} (h : Represents w st) where
         fitting = h.routes_fit;
       }
 
--- the same of some state
-pub lays_addresses : {w : List ℕ} → RepresentsSome w → Lays 20 fit_address (address_part w)
-lays_addresses v = record { list = v.state.addresses; laid = laid-addresses v.holds }
+  -- the same of some state
+  pub lays_addresses : Lays 20 fit_address (address_part w)
+  lays_addresses = record { list = st.addresses; laid = laid-addresses }
 
-pub lays_routes : {w : List ℕ} → RepresentsSome w → Lays 32 fit_route (route_part w)
-lays_routes v = record { list = v.state.routes; laid = laid-routes v.holds }
+  pub lays_routes : Lays 32 fit_route (route_part w)
+  lays_routes = record { list = st.routes; laid = laid-routes }
 
--- where the parts end
-pub route-end : {w : List ℕ} → RepresentsSome w → (routes_at + 32 * route_count w ≤ length w) × (route_count w ≤ 256)
-route-end v =
-    let s = sizes-valid v in
-    (omega (arith, s.long, s.routes), s.routes)
+  -- where the parts end
+  pub address-end : (3 + 20 * address_count w ≤ length w) × (address_count w ≤ 64)
+  address-end = let s = sizes_of h in (omega (arith, s.long, s.addresses), s.addresses)
 
-pub address-end : {w : List ℕ} → RepresentsSome w → (3 + 20 * address_count w ≤ length w) × (address_count w ≤ 64)
-address-end v =
-    let s = sizes-valid v in
-    (omega (arith, s.long, s.addresses), s.addresses)
-
--- how long the parts are
-pub length-routes : {w : List ℕ} → RepresentsSome w → length (route_part w) ≡ 32 * route_count w
-length-routes v = laid-length (laid-routes v.holds) ∙ ap (λ (n : ℕ). 32 * n) (sym (count-routes v.holds))
-
-pub length-addresses : {w : List ℕ} → RepresentsSome w → length (address_part w) ≡ 20 * address_count w
-length-addresses v = laid-length (laid-addresses v.holds) ∙ ap (λ (n : ℕ). 20 * n) (sym (count-addresses v.holds))
+  pub route-end : (routes_at + 32 * route_count w ≤ length w) × (route_count w ≤ 256)
+  route-end = let s = sizes_of h in (omega (arith, s.long, s.routes), s.routes)

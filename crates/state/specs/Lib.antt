@@ -2,3 +2,4 @@ pub mod Represents
 pub mod Change
 pub mod InUse
 pub mod Held
+pub mod Stored

@@ -1,17 +1,17 @@
 -- Words that hold a state: its encoding, each list within its limit and each row fit. What the lists' order must be is said of the state alone.
 -- Assumes nothing.
-use Rattle.std.specs.Prelude.{ℕ, ◌≤◌, ◌≡◌, true}
+use Rattle.std.specs.Prelude.{ℕ, ◌≤◌, ◌≡◌, Bool, true, ◌&&◌}
 use Rattle.std.proofs.Math.Path.{refl, ap}
 use Rattle.std.proofs.Common.{sym, ◌∙◌, arith, length-append, leb-true}
 use mathlib.Core.List.{List, [], ◌∷◌, ◌++◌, append_assoc, append-nil}
 use Rattle.std.proofs.Math.ListN.{length, get_or}
-use Rattle.lists.specs.Lists.{all, flat, pad}
+use Rattle.lists.specs.Lists.{all, flat, pad, eq_row}
 use Rattle.lists.specs.Bools.{and_iff}
 use Rattle.lists.specs.Rows.{sized, length-pad, length-flat}
 use Rattle.layout.specs.Address.{fit_address}
 use Rattle.layout.specs.Route.{fit_route}
-use Rattle.definition.specs.State.{State}
-use Rattle.definition.specs.Words.{encode, decode, well_formed, address_count, route_count, table_count, fit_state, addresses_size, base_size, routes_at, routes_size, tables_at}
+use Rattle.definition.specs.State.{State, sizes}
+use Rattle.definition.specs.Words.{encode, decode, within, well_formed, address_count, route_count, table_count, addresses_size, base_size, routes_at, routes_size, tables_at}
 use Rattle.definition.specs.Preservation.Fit.{fit-state, sized-addresses, sized-routes}
 use Rattle.definition.specs.Preservation.Encode.{Admissible, encode-decode, good-decode}
 
@@ -23,19 +23,13 @@ pub record Represents (w : List ℕ) (st : State) : Type 0 where
   pub addresses_fit : all fit_address st.addresses ≡ true
   pub routes_fit : all fit_route st.routes ≡ true
 
--- some state is held
-pub record RepresentsSome (w : List ℕ) : Type 0 where
-  pub state : State
-  pub holds : Represents w state
-
--- some fit state is held
-pub record RepresentsFit (w : List ℕ) : Type 0 where
-  pub state : State
-  pub holds : Represents w state
-  pub fits : fit_state state ≡ true
-
-pub fit-some : {w : List ℕ} → RepresentsFit w → RepresentsSome w
-fit-some s = record { state = s.state; holds = s.holds }
+-- they hold some state, that which they encode
+unfoldable pub represents : List ℕ → Bool
+represents w =
+    eq_row w (encode (decode w))
+    && within (sizes (decode w))
+    && all fit_address (decode w).addresses
+    && all fit_route (decode w).routes
 
 -- ---- well-formed words hold what they encode
 pub holds-encode : (st : State) → Admissible st → Represents (encode st) st
@@ -136,12 +130,3 @@ sizes_of h =
       routes = omega (arith, count-routes h, h.routes_within);
       tables = omega (arith, count-tables h, h.tables_within);
     }
-
-pub sizes-valid : {w : List ℕ} → RepresentsSome w → Sized w
-sizes-valid v = sizes_of v.holds
-
-pub sound-long : {w : List ℕ} → RepresentsFit w → length w ≡ base_size
-sound-long s = holds-long s.holds
-
-pub sound-few : {w : List ℕ} → RepresentsFit w → address_count w ≤ 64
-sound-few s = (sizes_of s.holds).addresses

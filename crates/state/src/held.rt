@@ -6,9 +6,10 @@ ghost use Rattle.layout.specs.Address.{fit_address};
 ghost use Rattle.layout.specs.Route.{fit_route};
 ghost use Rattle.definition.specs.State.{State, with_addresses, with_routes};
 ghost use Rattle.definition.specs.Words.{addresses_at, routes_at};
-ghost use Rattle.state.specs.Represents.{Represents, RepresentsSome};
+ghost use Rattle.state.specs.Stored.{Becomes};
 ghost use Rattle.state.specs.Held.{Held, addresses_held, routes_held};
 
+use crate::stored::StoredMut;
 use layout::{ADDRESS_COUNT, ADDRESS_WORDS, ADDRESSES_AT, ROUTE_COUNT, ROUTE_WORDS, ROUTES_AT};
 
 // A row of which a state holds a list.
@@ -103,44 +104,43 @@ impl Held for [u32; ROUTE_WORDS] {
 }
 
 // A row before row i.
-pub(crate) fn insert<R: Held>(s: &mut [u32], i: usize, row: &R)
-    requires represents_some { RepresentsSome s.old }
-    requires i_bound { (i ≤ slice_index s.old R.COUNT) × (slice_index s.old R.COUNT < R.limit) }
+pub(crate) fn insert<R: Held>(s: &mut StoredMut<'_>, i: usize, row: &R)
+    requires i_bound { (i ≤ slice_index s.old.words.now R.COUNT) × (slice_index s.old.words.now R.COUNT < R.limit) }
     requires row_value { R.fits (R.words row.now) ≡ true }
-    ensures { (st : State) → Represents s.old st → Represents s.new (R.with (insert_at i (R.words row.now) (R.rows st)) st) }
+    ensures { Becomes (λ st. R.with (insert_at i (R.words row.now) (R.rows st)) st) s.old s.new }
 {
-    let n = s[R::COUNT];
+    let words = &mut *s.words;
+    let n = words[R::COUNT];
     words::insert(
-        s,
+        words,
         R::AT + R::WIDTH * i,
         R::WIDTH * (words::wide(n) - i),
         row.words(),
     );
-    s[R::COUNT] = n + 1;
+    words[R::COUNT] = n + 1;
 }
 
 // Row i goes.
-pub(crate) fn remove<R: Held>(s: &mut [u32], i: usize)
-    requires represents_some { RepresentsSome s.old }
-    requires i_bound { i < slice_index s.old R.COUNT }
-    ensures { (st : State) → Represents s.old st → Represents s.new (R.with (remove_at i (R.rows st)) st) }
+pub(crate) fn remove<R: Held>(s: &mut StoredMut<'_>, i: usize)
+    requires i_bound { i < slice_index s.old.words.now R.COUNT }
+    ensures { Becomes (λ st. R.with (remove_at i (R.rows st)) st) s.old s.new }
 {
-    let n = s[R::COUNT] - 1;
+    let words = &mut *s.words;
+    let n = words[R::COUNT] - 1;
     words::remove(
-        s,
+        words,
         R::AT + R::WIDTH * i,
         R::WIDTH,
         R::WIDTH * (words::wide(n) - i),
     );
-    s[R::COUNT] = n;
+    words[R::COUNT] = n;
 }
 
 // Another row in place of row i.
-pub(crate) fn replace<R: Held>(s: &mut [u32], i: usize, row: &R)
-    requires represents_some { RepresentsSome s.old }
-    requires i_bound { i < slice_index s.old R.COUNT }
+pub(crate) fn replace<R: Held>(s: &mut StoredMut<'_>, i: usize, row: &R)
+    requires i_bound { i < slice_index s.old.words.now R.COUNT }
     requires row_value { R.fits (R.words row.now) ≡ true }
-    ensures { (st : State) → Represents s.old st → Represents s.new (R.with (set (R.rows st) i (R.words row.now)) st) }
+    ensures { Becomes (λ st. R.with (set (R.rows st) i (R.words row.now)) st) s.old s.new }
 {
-    words::store(s, R::AT + R::WIDTH * i, row.words());
+    words::store(s.words, R::AT + R::WIDTH * i, row.words());
 }

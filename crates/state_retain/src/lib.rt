@@ -79,7 +79,7 @@ fn retain(s: &mut [u32], host: bool)
     requires { RepresentsSome s.old }
     ensures { (st : State) → Represents s.old st → Represents s.new (with_routes (keep (remains host) st.routes) st) }
 {
-    let n = state::route_count(s);
+    let n = s.route_count();
     let mut j = 0usize;
     for i in 0..n {
         j = iteration(s, i, j, host);
@@ -100,7 +100,7 @@ pub fn disable(s: &mut [u32])
     requires { RepresentsSome s.old }
     ensures { (st : State) → Represents s.old st → Represents s.new (disable st).state }
 {
-    if state::address_count(s) == 0 {
+    if s.address_count() == 0 {
         retain(s, false);
     }
 }

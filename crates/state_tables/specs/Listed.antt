@@ -8,7 +8,7 @@ use Rattle.lists.specs.Split.{among-more}
 use Rattle.definition.specs.State.{State, with_tables}
 use Rattle.definition.specs.Words.{table_count, tables_at}
 use Rattle.definition.specs.Reference.Insert.{add_table, list_table, create4}
-use Rattle.state.specs.Represents.{Represents, RepresentsSome, count-tables, sizes-valid}
+use Rattle.state.specs.Represents.{Represents, count-tables, sizes_of}
 use Rattle.state.specs.Change.{tables-at, append_table}
 
 -- the tables that the words list
@@ -72,11 +72,11 @@ pub create_two : {w : List ℕ} (st : State) (t : ℕ) → t ≡ 255 → Represe
 unfolding create4
 create_two st t e h = rw (list-local t st.tables e) h
 
-pub at_most : {w : List ℕ} (t : ℕ) → RepresentsSome w → length (add_table t (tables_of w)) ≤ 33
-at_most {w} t v = go (among t (tables_of w)) refl
+pub at_most : {w : List ℕ} {st : State} (t : ℕ) → Represents w st → length (add_table t (tables_of w)) ≤ 33
+at_most {w} t h = go (among t (tables_of w)) refl
   where
     within : length (tables_of w) ≤ 32
-    within = omega (arith, sizes-valid v, length-listed v.holds)
+    within = omega (arith, sizes_of h, length-listed h)
 
     go : (b : Bool) → among t (tables_of w) ≡ b → length (add_table t (tables_of w)) ≤ 33
     go true e = omega (arith, length-there t (tables_of w) e, within)

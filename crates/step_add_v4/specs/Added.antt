@@ -38,7 +38,7 @@ module _ (q : Row) (clock : ℕ) (st : State) where
     unfolding add_v4
     added-change e c = rw (there, eq-eqb (replace_asked q) 1 e) c
 
-    pub added-refused : replace_asked q ≢ 1 → {a : Change} → Represents a.state.now st → Comes (add_v4 q clock st) a a (Err (Errno 17))
+    pub added-refused : replace_asked q ≢ 1 → {a : Change} → Represents a.state.words.now st → Comes (add_v4 q clock st) a a (Err (Errno 17))
     unfolding add_v4
     added-refused e h = rw (there, ne_eqb (replace_asked q) 1 e) (refused-made 17 h)
 

@@ -59,11 +59,11 @@ pub turns-start : (a : Change) → Brought 0 a a
 turns-start a = record { adds = λ st h f. adds-start (iteration st.addresses) st.addresses st h }
 
 module _ {i : ℕ} {a b : Change} (s : Brought i a b) where
-  module _ (st : State) (h : Represents a.state.now st) (f : fit_state st ≡ true) where
+  module _ (st : State) (h : Represents a.state.words.now st) (f : fit_state st ≡ true) where
     abbrev later : State
     later = (first_turns i st).state
 
-    later-holds : Represents b.state.now later
+    later-holds : Represents b.state.words.now later
     later-holds = (comes-ok (s.adds st h f)).1.holds
 
     later-fit : fit_state later ≡ true
@@ -72,8 +72,8 @@ module _ {i : ℕ} {a b : Change} (s : Brought i a b) where
     later_same : later.addresses ≡ st.addresses
     later_same = (through-leaves (iteration st.addresses) (take i st.addresses) (iteration-leaves st.addresses)).same st
 
-  module _ (v : RepresentsFit a.state.now) where
-    pub turns-sound : RepresentsFit b.state.now
+  module _ (v : RepresentsFit a.state.words.now) where
+    pub turns-sound : RepresentsFit b.state.words.now
     turns-sound =
         record {
           state = later v.state v.holds v.fits;
@@ -92,11 +92,11 @@ module _ {i : ℕ} {a b : Change} (s : Brought i a b) where
     pub turns-long : length b.events.now ≡ length a.events.now
     turns-long = (comes-ok (s.adds v.state v.holds v.fits)).1.tells.long
 
-    pub turns-count : address_count b.state.now ≡ address_count a.state.now
+    pub turns-count : address_count b.state.words.now ≡ address_count a.state.words.now
     turns-count =
         count-addresses (later-holds v.state v.holds v.fits) ∙ ap length (later_same v.state v.holds v.fits) ∙ sym (count-addresses v.holds)
 
-  pub turns-next : i < address_count a.state.now → {c : Change} {r : Answer} → AddsFrom (turn_at i) b c r → AddsFrom (first_turns (i + 1)) a c r
+  pub turns-next : i < address_count a.state.words.now → {c : Change} {r : Answer} → AddsFrom (turn_at i) b c r → AddsFrom (first_turns (i + 1)) a c r
   turns-next n {c} {r} u st h f =
       let n' : i < length st.addresses = omega (arith, count-addresses h) in
       let here : Comes (goes (iteration st.addresses (get_or st.addresses i []) (later st h f))) b c r =
@@ -104,7 +104,7 @@ module _ {i : ℕ} {a b : Change} (s : Brought i a b) where
       in
       adds-next (iteration st.addresses) st.addresses st (iteration-covered st.addresses) (holds-within h) i [] n' (s.adds st h f) here
 
-  pub turns-end : address_count a.state.now ≤ i → AddsFrom every a b (Ok tt)
+  pub turns-end : address_count a.state.words.now ≤ i → AddsFrom every a b (Ok tt)
   turns-end n st h f = adds-end (iteration st.addresses) st.addresses st i (omega (arith, count-addresses h)) (s.adds st h f)
 
 -- a list had no room: none comes back
@@ -122,7 +122,7 @@ module _ (clock : ℕ) {a b : Change} {r : Answer} (s : AddsFrom (λ st. out_of 
     came : AddsFrom (λ st. out_of (add_v4 loopback clock st)) a b (Ok tt)
     came = rw q at s
 
-    pub up-sound : RepresentsFit a.state.now → RepresentsFit b.state.now
+    pub up-sound : RepresentsFit a.state.words.now → RepresentsFit b.state.words.now
     up-sound v = adds-sound (λ st. out_of (add_v4 loopback clock st)) came (loopback_keeps clock) v
 
     pub up_done : {c : Change} {t : Answer} → AddsFrom every b c t → AddsFrom (up clock) a c t

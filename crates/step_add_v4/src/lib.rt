@@ -31,13 +31,13 @@ fn step_of(came: Result<(), Refusal>) -> Result<(), Refusal>
 
 // A requested address put in, or the one that is there changed, where the request says so.
 pub fn add_v4(change: &mut Change<'_>, q: &AddV4, clock: Nanoseconds) -> Result<(), Refusal>
-    requires represents_fit { RepresentsFit change.old.state.now }
+    requires represents_fit { RepresentsFit change.old.state.words.now }
     requires q_fit { fit_add_v4 q.now ≡ true }
     requires in_bounds { 34 * (change.old.told + 5) ≤ length change.old.events.now }
     ensures told { change.new.told ≤ change.old.told + 5 }
-    ensures comes { (st : State) → Represents change.old.state.now st → fit_state st ≡ true → Comes (add_v4 q.now clock.0 st) change.old change.new result }
+    ensures comes { (st : State) → Represents change.old.state.words.now st → fit_state st ≡ true → Comes (add_v4 q.now clock.0 st) change.old change.new result }
 {
-    let there = state::addresses(change.words());
+    let there = change.state.stored().addresses();
     if let Some(i) = rows_place::same_at(there, q) {
         if q[add_v4::REPLACE] != 1 {
             return Err(Refusal::Errno(layout::EXISTS));
@@ -50,13 +50,13 @@ pub fn add_v4(change: &mut Change<'_>, q: &AddV4, clock: Nanoseconds) -> Result<
 
 // The routes of address i.
 fn install_at(change: &mut Change<'_>, i: usize) -> Result<(), Refusal>
-    requires represents_fit { RepresentsFit change.old.state.now }
-    requires i_bound { i < address_count change.old.state.now }
+    requires represents_fit { RepresentsFit change.old.state.words.now }
+    requires i_bound { i < address_count change.old.state.words.now }
     requires in_bounds { 34 * (change.old.told + 4) ≤ length change.old.events.now }
     ensures told { change.new.told ≤ change.old.told + 4 }
     ensures adds_from { AddsFrom (turn_at i) change.old change.new result }
 {
-    let addresses = state::addresses(change.words());
+    let addresses = change.state.stored().addresses();
     let block = row_candidates::candidates(addresses, &addresses.rows[i], true);
     step_new_address::install(
         change,
@@ -69,12 +69,12 @@ fn install_at(change: &mut Change<'_>, i: usize) -> Result<(), Refusal>
 // The routes of every address, in order. Out of line, so that its routes don't stand on the stack of `up` while an address is added.
 #[inline(never)]
 fn install_all(change: &mut Change<'_>) -> Result<(), Refusal>
-    requires represents_fit { RepresentsFit change.old.state.now }
+    requires represents_fit { RepresentsFit change.old.state.words.now }
     requires in_bounds { 34 * (change.old.told + 324) ≤ length change.old.events.now }
     ensures told { OnOk result (change.new.told ≤ change.old.told + 320) }
     ensures adds_from { AddsFrom every change.old change.new result }
 {
-    let n = state::addresses(change.words()).rows.len();
+    let n = change.state.stored().addresses().rows.len();
     for i in 0..n {
         install_at(change, i)?;
     }
@@ -83,7 +83,7 @@ fn install_all(change: &mut Change<'_>) -> Result<(), Refusal>
 
 // 127.0.0.1 if it isn't there, with its routes; then the routes that every address has.
 pub fn up(change: &mut Change<'_>, clock: Nanoseconds) -> Result<(), Refusal>
-    requires represents_fit { RepresentsFit change.old.state.now }
+    requires represents_fit { RepresentsFit change.old.state.words.now }
     requires in_bounds { 34 * (change.old.told + event_limit) ≤ length change.old.events.now }
     ensures told { OnOk result (change.new.told ≤ change.old.told + 325) }
     ensures adds_from { AddsFrom (up clock.0) change.old change.new result }

@@ -19,14 +19,14 @@ use Rattle.step_events.specs.declared.change.Change.{Change}
 
 -- b holds what t holds, and tells behind what a tells what t tells
 pub record CopiedBack (t a b : Change) : Type 0 where
-  pub state : b.state.now ≡ t.state.now
+  pub state : b.state.words.now ≡ t.state.words.now
   pub told : b.told ≡ a.told + t.told
   pub words : b.events.now ≡ put (34 * a.told) (take (34 * t.told) t.events.now) a.events.now
   pub long : length b.events.now ≡ length a.events.now
   pub places : SamePlaces a b
 
 -- what was tried holds a state, and so is as long as the words
-pub tried-long : {u : Outcome} {t₀ t : Change} {r : Answer} → r ≡ Ok tt → Comes u t₀ t r → {w : List ℕ} → RepresentsFit w → length t.state.now ≡ length w
+pub tried-long : {u : Outcome} {t₀ t : Change} {r : Answer} → r ≡ Ok tt → Comes u t₀ t r → {w : List ℕ} → RepresentsFit w → length t.state.words.now ≡ length w
 tried-long e c v = holds-long (comes-ok (rw e at c)).1.holds ∙ sym (sound-long v)
 
 -- the rows at the start of a buffer
@@ -60,7 +60,7 @@ module _ {t₀ t a b : Change} (none : t₀.told ≡ 0) (k : CopiedBack t a b) w
       whole-made st d.0 (record { answer = sym e ∙ c.answer; does = λ _. does-back (out_of u) d.1 })
 
 -- ---- left as they were
-pub whole-left : {t₀ t a : Change} {r : Answer} {e : Refusal} → r ≡ Err e → (st : State) (u : Outcome) → Represents a.state.now st → Leaves st u → Comes u t₀ t r → ComesWhole st u a a r
+pub whole-left : {t₀ t a : Change} {r : Answer} {e : Refusal} → r ≡ Err e → (st : State) (u : Outcome) → Represents a.state.words.now st → Leaves st u → Comes u t₀ t r → ComesWhole st u a a r
 whole-left {t₀} {t} {a} {r} f st u h l c =
     test-case (roomy u)
     (λ e. fits u l c e (c.answer ∙ cond-true (roomy u) (made u) (Err Full) e))

@@ -31,15 +31,15 @@ fn has_room(s: &[u32], rows: usize) -> bool
     requires { RepresentsSome s.now }
     ensures { result ≡ has_room s.now rows }
 {
-    state::addresses(s).rows.len() < ADDRESS_LIMIT
+    s.addresses().rows.len() < ADDRESS_LIMIT
         && rows <= ROUTE_LIMIT
-        && state::routes(s).rows.len() <= ROUTE_LIMIT - rows
+        && s.routes().rows.len() <= ROUTE_LIMIT - rows
         && words::wide(s[TABLE_COUNT]) <= TABLES_BEFORE
 }
 
 // What was tried on a copy: its words are taken over, and what it told is told behind what was told before.
 fn copy_back(change: &mut Change<'_>, tried: &Change<'_>)
-    requires same_length { length tried.now.state.now ≡ length change.old.state.now }
+    requires same_length { length tried.now.state.words.now ≡ length change.old.state.words.now }
     requires in_bounds { 34 * (change.old.told + tried.now.told) ≤ length change.old.events.now }
     ensures { CopiedBack tried.now change.old change.new }
 {
@@ -55,14 +55,14 @@ fn copy_back(change: &mut Change<'_>, tried: &Change<'_>)
 
 // It and `try_up` stay two: what differs is the call and its buffer, and a closure over a lent change would say more than both.
 fn try_add_v4(change: &mut Change<'_>, q: &AddV4, clock: Nanoseconds) -> Result<(), Refusal>
-    requires represents_fit { RepresentsFit change.old.state.now }
+    requires represents_fit { RepresentsFit change.old.state.words.now }
     requires q_fit { fit_add_v4 q.now ≡ true }
     requires in_bounds { 34 * (change.old.told + 5) ≤ length change.old.events.now }
     ensures told { change.new.told ≤ change.old.told + 5 }
-    ensures comes_whole { (st : State) → Represents change.old.state.now st → fit_state st ≡ true → ComesWhole st (add_v4 q.now clock.0 st) change.old change.new result }
+    ensures comes_whole { (st : State) → Represents change.old.state.words.now st → fit_state st ≡ true → ComesWhole st (add_v4 q.now clock.0 st) change.old change.new result }
 {
     let mut copy = [0; BASE_WORDS];
-    words::copy(&mut copy, change.words());
+    words::copy(&mut copy, change.state.stored());
     let mut rows = [0; ADDED_BUFFER];
     let mut tried = Change {
         state: &mut copy,
@@ -76,26 +76,26 @@ fn try_add_v4(change: &mut Change<'_>, q: &AddV4, clock: Nanoseconds) -> Result<
 
 // A requested address put in, or the one that is there changed, where the request says so.
 pub fn add_v4(change: &mut Change<'_>, q: &AddV4, clock: Nanoseconds) -> Result<(), Refusal>
-    requires represents_fit { RepresentsFit change.old.state.now }
+    requires represents_fit { RepresentsFit change.old.state.words.now }
     requires q_fit { fit_add_v4 q.now ≡ true }
     requires in_bounds { 34 * (change.old.told + 5) ≤ length change.old.events.now }
     ensures told { change.new.told ≤ change.old.told + 5 }
-    ensures comes_whole { (st : State) → Represents change.old.state.now st → fit_state st ≡ true → ComesWhole st (add_v4 q.now clock.0 st) change.old change.new result }
+    ensures comes_whole { (st : State) → Represents change.old.state.words.now st → fit_state st ≡ true → ComesWhole st (add_v4 q.now clock.0 st) change.old change.new result }
 {
-    if has_room(change.words(), 4) {
+    if has_room(change.state.stored(), 4) {
         return step_add_v4::add_v4(change, q, clock);
     }
     try_add_v4(change, q, clock)
 }
 
 fn try_up(change: &mut Change<'_>, clock: Nanoseconds) -> Result<(), Refusal>
-    requires represents_fit { RepresentsFit change.old.state.now }
+    requires represents_fit { RepresentsFit change.old.state.words.now }
     requires in_bounds { 34 * (change.old.told + event_limit) ≤ length change.old.events.now }
     ensures told { OnOk result (change.new.told ≤ change.old.told + 325) }
-    ensures comes_whole { (st : State) → Represents change.old.state.now st → fit_state st ≡ true → ComesWhole st (goes (up clock.0 st)) change.old change.new result }
+    ensures comes_whole { (st : State) → Represents change.old.state.words.now st → fit_state st ≡ true → ComesWhole st (goes (up clock.0 st)) change.old change.new result }
 {
     let mut copy = [0; BASE_WORDS];
-    words::copy(&mut copy, change.words());
+    words::copy(&mut copy, change.state.stored());
     let mut rows = [0; EVENT_BUFFER];
     let mut tried = Change {
         state: &mut copy,
@@ -109,13 +109,13 @@ fn try_up(change: &mut Change<'_>, clock: Nanoseconds) -> Result<(), Refusal>
 
 // 127.0.0.1 if it isn't there, with its routes; then the routes that every address has.
 pub fn up(change: &mut Change<'_>, clock: Nanoseconds) -> Result<(), Refusal>
-    requires represents_fit { RepresentsFit change.old.state.now }
+    requires represents_fit { RepresentsFit change.old.state.words.now }
     requires in_bounds { 34 * (change.old.told + event_limit) ≤ length change.old.events.now }
     ensures told { OnOk result (change.new.told ≤ change.old.told + 325) }
-    ensures comes_whole { (st : State) → Represents change.old.state.now st → fit_state st ≡ true → ComesWhole st (goes (up clock.0 st)) change.old change.new result }
+    ensures comes_whole { (st : State) → Represents change.old.state.words.now st → fit_state st ≡ true → ComesWhole st (goes (up clock.0 st)) change.old change.new result }
 {
-    let most = 4 * (state::addresses(change.words()).rows.len() + 2);
-    if has_room(change.words(), most) {
+    let most = 4 * (change.state.stored().addresses().rows.len() + 2);
+    if has_room(change.state.stored(), most) {
         return step_add_v4::up(change, clock);
     }
     try_up(change, clock)

@@ -48,7 +48,7 @@ pub fn del_v4(change: &mut Change<'_>, q: &DelV4) -> Result<(), Refusal>
     requires { SomeRoom potential change.old }
     ensures { (st : State) → RoomFor potential st change.old → ComesWhole st (del_v4 q.now st) change.old change.new result }
 {
-    let Some(a) = find(state::addresses(change.words()), q) else {
+    let Some(a) = find(change.state.stored().addresses(), q) else {
         return Err(Refusal::Errno(layout::NO_SUCH_ADDRESS));
     };
     let a = *a;

@@ -9,11 +9,11 @@ use Rattle.state.specs.Represents.{RepresentsSome, count-routes}
 use Rattle.step_events.specs.EmitsWithin.{SomeRoom, EmitsWithin, step_same}
 use Rattle.step_events.specs.declared.change.Change.{Change}
 
-pub ready_valid : {a : Change} → SomeRoom potential a → RepresentsSome a.state.now
+pub ready_valid : {a : Change} → SomeRoom potential a → RepresentsSome a.state.words.now
 ready_valid y = record { state = y.state; holds = y.fits.holds }
 
 -- room for as many rows as there are routes
-pub ready_room : {a : Change} → SomeRoom potential a → 34 * (a.told + route_count a.state.now) ≤ length a.events.now
+pub ready_room : {a : Change} → SomeRoom potential a → 34 * (a.told + route_count a.state.words.now) ≤ length a.events.now
 ready_room y = omega (arith, y.fits.room, count-routes y.fits.holds)
 
 -- a step known by an equation

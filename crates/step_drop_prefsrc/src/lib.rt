@@ -15,11 +15,11 @@ use step_events::Change;
 // Row i, behind j that remain, is told if it is a main row with the preferred source ip, and becomes row j otherwise:
 // how many remain with it.
 fn dependent_iteration(change: &mut Change<'_>, i: usize, j: usize, ip: u32) -> usize
-    requires s_len { (length change.old.state.now ≡ base_size) × (j ≤ i) × (i < 256) }
+    requires s_len { (length change.old.state.words.now ≡ base_size) × (j ≤ i) × (i < 256) }
     requires in_bounds { 34 * (change.old.told + 1) ≤ length change.old.events.now }
     ensures { Swept (dependent_on ip) i j change.old change.new result }
 {
-    let row = state_retain::route_row(change.words(), i);
+    let row = state_retain::route_row(change.state.stored(), i);
     if rows_wanted::dependents_from(row, ip) {
         let row = *row;
         change.del_route4(&row);
@@ -34,7 +34,7 @@ pub fn drop_dependents(change: &mut Change<'_>, ip: u32)
     requires { SomeRoom potential change.old }
     ensures { (st : State) → RoomFor potential st change.old → EmitsWithin potential st (dependents_go ip st) change.old change.new }
 {
-    let n = state::route_count(change.words());
+    let n = change.state.stored().route_count();
     let mut j = 0usize;
     for i in 0..n {
         j = dependent_iteration(change, i, j, ip);

@@ -30,7 +30,7 @@ pub unwanted-goes : {st : State} {a b : Change} (r : Row) → wanted st.addresse
 unfolding unless_wanted
 unwanted-goes {st} r e t = step_eq (cond-false (wanted st.addresses r) (stays st) (kernel_del4 r st) e) t
 
-pub step-valid : {st : State} {o : Out} {a b : Change} → EmitsWithin potential st o a b → RepresentsSome b.state.now
+pub step-valid : {st : State} {o : Out} {a b : Change} → EmitsWithin potential st o a b → RepresentsSome b.state.words.now
 step-valid {o = o} t = record { state = o.state; holds = t.emits.holds }
 
 -- how many rows may still come of a state that words hold
@@ -97,7 +97,7 @@ unless_away r st = cond-case (Away st) (wanted st.addresses r) (λ e. stays_away
 pub lost_later : (l : List Row) (st : State) → any (loses (through unless_wanted l st).state.addresses) l ≡ any (loses st.addresses) l
 lost_later l st = ap (λ (m : List Row). any (loses m) l) (through_away unless_wanted l unless_away st).same_addresses
 
-pub disabled : {st : State} {o : Out} {a b c : Change} → EmitsWithin potential st o a b → Represents c.state.now (disable o.state).state → Tells o.emitted a c
+pub disabled : {st : State} {o : Out} {a b c : Change} → EmitsWithin potential st o a b → Represents c.state.words.now (disable o.state).state → Tells o.emitted a c
     → EmitsWithin potential st (also o disable) a c
 disabled {o = o} t h k = let q = disable-quiet o.state in step-quiet disable t h k q.0 q.1
 
@@ -105,7 +105,7 @@ pub routes-gone : {st : State} {a b c d : Change} (ip : ℕ) (l : List Row) (los
     → EmitsWithin potential st (through unless_wanted l st) a b
     → lost ≡ any (loses (through unless_wanted l st).state.addresses) l
     → EmitsWithin potential (through unless_wanted l st).state (fall_from ip lost (through unless_wanted l st).state) b c
-    → ((m : State) → Represents c.state.now m → Represents d.state.now (disable m).state)
+    → ((m : State) → Represents c.state.words.now m → Represents d.state.words.now (disable m).state)
     → ((rows : List Row) → Tells rows a c → Tells rows a d)
     → EmitsWithin potential st (routes_go ip l st) a d
 routes-gone {st} ip l lost t e u d k =

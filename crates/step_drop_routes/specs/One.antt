@@ -73,7 +73,7 @@ fall-from a left l st = rw (loses-any left l)
 
 -- a step that says nothing, behind another
 pub step-quiet : {st : State} {o : Out} {a b : Change} (f : State → Out) {c : Change} → EmitsWithin potential st o a b
-    → Represents c.state.now (f o.state).state → Tells o.emitted a c → (f o.state).emitted ≡ [] → potential (f o.state).state ≤ potential o.state → EmitsWithin potential st (also o f) a c
+    → Represents c.state.words.now (f o.state).state → Tells o.emitted a c → (f o.state).emitted ≡ [] → potential (f o.state).state ≤ potential o.state → EmitsWithin potential st (also o f) a c
 unfolding also
 step-quiet {o = o} f t h k e l =
     let emitted : o.emitted ++ (f o.state).emitted ≡ o.emitted = ap (λ (x : List Row). o.emitted ++ x) e ∙ append-nil o.emitted in

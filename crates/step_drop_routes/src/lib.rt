@@ -19,7 +19,7 @@ fn unless_wanted(change: &mut Change<'_>, r: &RouteRow)
     requires { SomeRoom potential change.old }
     ensures { (st : State) → RoomFor potential st change.old → EmitsWithin potential st (unless_wanted r.now st) change.old change.new }
 {
-    let stays = rows_wanted::wanted(state::addresses(change.words()), r);
+    let stays = rows_wanted::wanted(change.state.stored().addresses(), r);
     if stays {
         return;
     }
@@ -56,7 +56,7 @@ fn falls(s: &[u32], ip: u32, lost: bool) -> bool
     requires { RepresentsSome s.now }
     ensures { (st : State) → Represents s.now st → result ≡ falls ip lost st }
 {
-    lost && rows_wanted::dependents(state::routes(s), ip)
+    lost && rows_wanted::dependents(s.routes(), ip)
         && !state_read::local4(s, ip)
         && state_tables::listed(s, layout::TABLE_MAIN)
 }
@@ -65,7 +65,7 @@ fn fall(change: &mut Change<'_>, ip: u32, lost: bool)
     requires { SomeRoom potential change.old }
     ensures { (st : State) → RoomFor potential st change.old → EmitsWithin potential st (fall_from ip lost st) change.old change.new }
 {
-    if falls(change.words(), ip, lost) {
+    if falls(change.state.stored(), ip, lost) {
         step_drop_prefsrc::drop_dependents(change, ip);
     }
 }
@@ -76,7 +76,7 @@ pub fn take_routes(change: &mut Change<'_>, rows: &[RouteRow], ip: u32)
     ensures { (st : State) → RoomFor potential st change.old → EmitsWithin potential st (routes_go ip rows.now st) change.old change.new }
 {
     delete_unwanted(change, rows);
-    let lost = loses(state::addresses(change.words()), rows);
+    let lost = loses(change.state.stored().addresses(), rows);
     fall(change, ip, lost);
-    state_retain::disable(change.state);
+    state_retain::disable(&mut change.state);
 }

@@ -82,7 +82,7 @@ module _ {u : Outcome} {a b : Change} where
   pub whole-made : {r : Answer} (st : State) → roomy u ≡ true → Comes u a b r → ComesWhole st u a b r
   whole-made st e c = record { comes = c; kept = λ h. absurd (true-false (roomy u) e h) }
 
-pub whole-full : {u : Outcome} {st : State} {a : Change} → roomy u ≡ false → Represents a.state.now st → ComesWhole st u a a (Err Full)
+pub whole-full : {u : Outcome} {st : State} {a : Change} → roomy u ≡ false → Represents a.state.words.now st → ComesWhole st u a a (Err Full)
 whole-full {st = st} {a = a} e h = record { comes = comes-full e; kept = λ _. does-none st a h }
 
 -- ---- by the answer
@@ -117,13 +117,13 @@ other-past {o} {e = e} c =
 pub goes-made : {o : Out} {a b : Change} → within o.peak ≡ true → Emits o a b → Comes (goes o) a b (Ok tt)
 goes-made e d = comes-made e refl d
 
-pub refused-made : (n : ℕ) {st : State} {a : Change} → Represents a.state.now st → Comes (refused n st) a a (Err (Errno n))
+pub refused-made : (n : ℕ) {st : State} {a : Change} → Represents a.state.words.now st → Comes (refused n st) a a (Err (Errno n))
 refused-made n {st} {a} h = comes-made (holds-within h) refl (does-none st a h)
 
-pub adds-quiet : (st : State) {a b : Change} → Represents b.state.now st → Tells [] a b → Comes (goes (stays st)) a b (Ok tt)
+pub adds-quiet : (st : State) {a b : Change} → Represents b.state.words.now st → Tells [] a b → Comes (goes (stays st)) a b (Ok tt)
 adds-quiet st h t = goes-made (holds-within h) (does-quiet st h t)
 
-pub adds_none : (st : State) {a : Change} → Represents a.state.now st → Comes (goes (stays st)) a a (Ok tt)
+pub adds_none : (st : State) {a : Change} → Represents a.state.words.now st → Comes (goes (stays st)) a a (Ok tt)
 adds_none st {a} h = goes-made (holds-within h) (does-none st a h)
 
 -- ---- one step after another

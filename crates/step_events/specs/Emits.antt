@@ -15,7 +15,7 @@ use Rattle.step_events.specs.declared.change.Change.{Change}
 
 -- b holds o's state, and tells the rows that o emits more than a
 pub record Emits (o : Out) (a b : Change) : Type 0 where
-  pub holds : Represents b.state.now o.state
+  pub holds : Represents b.state.words.now o.state
   pub wide : sized 34 o.emitted ≡ true
   pub tells : Tells o.emitted a b
 
@@ -58,15 +58,15 @@ tells-also {l} {m} {a} {b} {c} w x t u =
       places = record { state = u.places.state ∙ t.places.state; events = u.places.events ∙ t.places.events };
     }
 
-pub does-none : (st : State) (a : Change) → Represents a.state.now st → Emits (stays st) a a
+pub does-none : (st : State) (a : Change) → Represents a.state.words.now st → Emits (stays st) a a
 does-none st a h = record { holds = h; wide = refl; tells = tells-none a }
 
 -- another state, of which nothing is told
-pub does-quiet : (st : State) {a b : Change} → Represents b.state.now st → Tells [] a b → Emits (stays st) a b
+pub does-quiet : (st : State) {a b : Change} → Represents b.state.words.now st → Tells [] a b → Emits (stays st) a b
 does-quiet st h t = record { holds = h; wide = refl; tells = t }
 
 -- one row
-pub does-one : (st : State) (row : Row) {a b : Change} → Represents b.state.now st → length row ≡ 34 → Tells (row ∷ []) a b → Emits (becomes st (row ∷ [])) a b
+pub does-one : (st : State) (row : Row) {a b : Change} → Represents b.state.words.now st → length row ≡ 34 → Tells (row ∷ []) a b → Emits (becomes st (row ∷ [])) a b
 does-one st row h e t =
     record { holds = h; wide = and_both (eqb (length row) 34) true (eq-eqb (length row) 34 e) refl; tells = t }
 
@@ -81,7 +81,7 @@ does-also {o} t f u =
     }
 
 -- what is told, whatever became of the state behind it
-pub tells-behind : {rows : List Row} {a m b : Change} → Tells rows a m → b.told ≡ m.told → b.events.now ≡ m.events.now → b.state.ghost_name ≡ m.state.ghost_name → b.events.ghost_name ≡ m.events.ghost_name → Tells rows a b
+pub tells-behind : {rows : List Row} {a m b : Change} → Tells rows a m → b.told ≡ m.told → b.events.now ≡ m.events.now → b.state.words.ghost_name ≡ m.state.words.ghost_name → b.events.ghost_name ≡ m.events.ghost_name → Tells rows a b
 tells-behind t e f g h =
     record {
       told = e ∙ t.told;
@@ -91,7 +91,7 @@ tells-behind t e f g h =
     }
 
 -- or before
-pub tells-ahead : {rows : List Row} {a m b : Change} → Tells rows m b → m.told ≡ a.told → m.events.now ≡ a.events.now → m.state.ghost_name ≡ a.state.ghost_name → m.events.ghost_name ≡ a.events.ghost_name → Tells rows a b
+pub tells-ahead : {rows : List Row} {a m b : Change} → Tells rows m b → m.told ≡ a.told → m.events.now ≡ a.events.now → m.state.words.ghost_name ≡ a.state.words.ghost_name → m.events.ghost_name ≡ a.events.ghost_name → Tells rows a b
 tells-ahead {rows} {a} {m} {b} t e f g h =
     record {
       told = rw e at t.told;

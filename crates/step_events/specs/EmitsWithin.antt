@@ -12,7 +12,7 @@ use Rattle.step_events.specs.declared.change.Change.{Change}
 
 -- the words hold a state, and there is room for as many rows more as its weight
 pub record RoomFor (potential : State → ℕ) (st : State) (a : Change) : Type 0 where
-  pub holds : Represents a.state.now st
+  pub holds : Represents a.state.words.now st
   pub room : 34 * (a.told + potential st) ≤ length a.events.now
 
 -- some state does
@@ -33,7 +33,7 @@ module _ (potential : State → ℕ) {st : State} where
   pub step-none : {a : Change} → RoomFor potential st a → EmitsWithin potential st (stays st) a a
   step-none {a} f = record { emits = does-none st a f.holds; less = omega arith; room = f.room }
 
-  pub step-one : {a b : Change} (st' : State) (row : Row) → RoomFor potential st a → Represents b.state.now st' → length row ≡ 34 → 1 + potential st' ≤ potential st
+  pub step-one : {a b : Change} (st' : State) (row : Row) → RoomFor potential st a → Represents b.state.words.now st' → length row ≡ 34 → 1 + potential st' ≤ potential st
       → Tells (row ∷ []) a b → EmitsWithin potential st (becomes st' (row ∷ [])) a b
   step-one st' row f h e l t = record { emits = does-one st' row h e t; less = l; room = f.room }
 

@@ -86,7 +86,7 @@ module _ (potential : State → ℕ) {st : State} {goal : Out} where
 
     pub going-iteration : (turn next' : State → Out) (held' : State → Type 0) {c : Change}
         → ((m : State) → held m → RoomFor potential m b → EmitsWithin potential m (turn m) b c)
-        → ((m : State) → held m → Represents b.state.now m → Like (next m) (also (turn m) next') × held' (turn m).state)
+        → ((m : State) → held m → Represents b.state.words.now m → Like (next m) (also (turn m) next') × held' (turn m).state)
         → Going potential st goal next' held' a c
     going-iteration turn next' held' made on =
         let o = g.sofar in
@@ -102,7 +102,7 @@ module _ (potential : State → ℕ) {st : State} {goal : Out} where
           holding = unfold also in more.1;
         }
 
-    pub going_end : ((m : State) → held m → Represents b.state.now m → Like (next m) (stays m)) → EmitsWithin potential st goal a b
+    pub going_end : ((m : State) → held m → Represents b.state.words.now m → Like (next m) (stays m)) → EmitsWithin potential st goal a b
     going_end none =
         let o = g.sofar in
         let whole = like_trans (like_sym (like_trans (also_like next stays (like_refl o) (none o.state g.holding g.step.emits.holds)) (also-stays o))) g.goes in

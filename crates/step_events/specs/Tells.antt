@@ -1,11 +1,11 @@
 -- What a change to a state has told.
-use Rattle.std.specs.Prelude.{◌+◌, ◌*◌, ◌≡◌, List, length}
+use Rattle.std.specs.Prelude.{ℕ, ◌+◌, ◌*◌, ◌≤◌, ◌≡◌, List, length}
 use Rattle.lists.specs.Lists.{Row, flat, put}
 use Rattle.step_events.specs.declared.change.Change.{Change}
 
 -- b is lent the same words as a
 pub record SamePlaces (a b : Change) : Type 0 where
-  pub state : b.state.ghost_name ≡ a.state.ghost_name
+  pub state : b.state.words.ghost_name ≡ a.state.words.ghost_name
   pub events : b.events.ghost_name ≡ a.events.ghost_name
 
 -- b tells these rows more than a, behind those that a tells
@@ -14,3 +14,8 @@ pub record Tells (rows : List Row) (a b : Change) : Type 0 where
   pub words : b.events.now ≡ put (34 * a.told) (flat rows) a.events.now
   pub long : length b.events.now ≡ length a.events.now
   pub places : SamePlaces a b
+
+-- b tells n rows more than a at most, and may tell as many in all
+pub record TellsAtMost (n : ℕ) (a b : Change) : Type 0 where
+  pub told : b.told ≤ a.told + n
+  pub long : length b.events.now ≡ length a.events.now

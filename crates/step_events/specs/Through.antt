@@ -110,7 +110,7 @@ module _ {A : Type 0} (f : A → State → Out) (l : List A) (st : State) where
     pub adds-other-end : (i : ℕ) {a b c d : Change} {e : Refusal} → Comes (goes (through f (take i l) st)) a b (Err e) → Comes (goes (through f l st)) c d (Err e)
     adds-other-end i t = let p = other-past t in rw p.0 (comes-full (full-later f k i l st s p.1))
 
-  pub adds-start : {a : Change} → Represents a.state.now st → Comes (goes (through f (take 0 l) st)) a a (Ok tt)
+  pub adds-start : {a : Change} → Represents a.state.words.now st → Comes (goes (through f (take 0 l) st)) a a (Ok tt)
   unfolding through
   adds-start h = adds_none st h
 

@@ -1,10 +1,12 @@
 // The words that a change to a state is made on.
 ghost use Rattle.std.specs.Prelude.{◌*◌, ◌≤◌, length};
 
-// The state's words, and the words lent for events, at whose start the rows told so far stand.
+use state::StoredMut;
+
+// The state, and the words lent for events, at whose start the rows told so far stand.
 #[derive(Drop)]
 pub struct Change<'a> {
-    pub state: &'a mut [u32],
+    pub state: StoredMut<'a>,
     pub events: &'a mut [u32],
     pub told: usize,
     ghost within: { 34 * told ≤ length events.now },

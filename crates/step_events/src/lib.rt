@@ -32,18 +32,11 @@ fn route_event(kind: u32, flags: u32, r: &RouteRow) -> EventRow
 }
 
 impl Change<'_> {
-    // The words that hold the state, to read.
-    pub fn words(&self) -> &[u32]
-        ensures { result.now ≡ self.now.state.now }
-    {
-        self.state
-    }
-
     // One row more.
     fn tell(&mut self, row: &EventRow)
         requires { 34 * (self.old.told + 1) ≤ length self.old.events.now }
         ensures tells { Tells (row.now ∷ []) self.old self.new }
-        ensures state { self.new.state.now ≡ self.old.state.now }
+        ensures state { self.new.state.words.now ≡ self.old.state.words.now }
     {
         words::store(self.events, EVENT_WORDS * self.told, row);
         self.told += 1;
@@ -52,7 +45,7 @@ impl Change<'_> {
     pub fn new_addr4(&mut self, a: &AddressRow)
         requires { 34 * (self.old.told + 1) ≤ length self.old.events.now }
         ensures tells { Tells (new_addr4 a.now ∷ []) self.old self.new }
-        ensures state { self.new.state.now ≡ self.old.state.now }
+        ensures state { self.new.state.words.now ≡ self.old.state.words.now }
     {
         self.tell(&address_event(event::NEW_ADDR4, a));
     }
@@ -60,7 +53,7 @@ impl Change<'_> {
     pub fn del_addr4(&mut self, a: &AddressRow)
         requires { 34 * (self.old.told + 1) ≤ length self.old.events.now }
         ensures tells { Tells (del_addr4 a.now ∷ []) self.old self.new }
-        ensures state { self.new.state.now ≡ self.old.state.now }
+        ensures state { self.new.state.words.now ≡ self.old.state.words.now }
     {
         self.tell(&address_event(event::DEL_ADDR4, a));
     }
@@ -68,7 +61,7 @@ impl Change<'_> {
     pub fn new_route4(&mut self, r: &RouteRow, flags: u32)
         requires { 34 * (self.old.told + 1) ≤ length self.old.events.now }
         ensures tells { Tells (new_route4 r.now flags ∷ []) self.old self.new }
-        ensures state { self.new.state.now ≡ self.old.state.now }
+        ensures state { self.new.state.words.now ≡ self.old.state.words.now }
     {
         self.tell(&route_event(event::NEW_ROUTE4, flags, r));
     }
@@ -76,7 +69,7 @@ impl Change<'_> {
     pub fn del_route4(&mut self, r: &RouteRow)
         requires { 34 * (self.old.told + 1) ≤ length self.old.events.now }
         ensures tells { Tells (del_route4 r.now ∷ []) self.old self.new }
-        ensures state { self.new.state.now ≡ self.old.state.now }
+        ensures state { self.new.state.words.now ≡ self.old.state.words.now }
     {
         self.tell(&route_event(event::DEL_ROUTE4, 0, r));
     }

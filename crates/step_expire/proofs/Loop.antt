@@ -43,10 +43,10 @@ next-less i n left j b m l q =
     (λ e. let z : j ≡ i + 1 = q ∙ rw e in let h : n ≤ left = ltb-false left n e in omega arith)
 
 -- ---- the three turns
-pub some-room : {a : Change} → SomeRoom potential a → (i : ℕ) → i < address_count a.state.now → 34 * (a.told + 1) ≤ length a.events.now
+pub some-room : {a : Change} → SomeRoom potential a → (i : ℕ) → i < address_count a.state.words.now → 34 * (a.told + 1) ≤ length a.events.now
 some-room y i b = omega (arith, y.fits.room, count-addresses y.fits.holds)
 
-module _ {st : State} {a : Change} {i : ℕ} (b : i < address_count a.state.now) (f : RoomFor potential st a) where
+module _ {st : State} {a : Change} {i : ℕ} (b : i < address_count a.state.words.now) (f : RoomFor potential st a) where
   abbrev row : Row
   row = get_or st.addresses i []
 
@@ -60,11 +60,11 @@ module _ {st : State} {a : Change} {i : ℕ} (b : i < address_count a.state.now)
   iteration-fits = all-at fit_address i st.addresses [] in_use f.holds.addresses_fit
 
   -- a removal leaves fewer
-  pub removal-fewer : {c : Change} → EmitsWithin potential st (remove_v4 row st) a c → address_count c.state.now < address_count a.state.now
+  pub removal-fewer : {c : Change} → EmitsWithin potential st (remove_v4 row st) a c → address_count c.state.words.now < address_count a.state.words.now
   removal-fewer t = omega (arith, count-addresses f.holds, count-addresses t.emits.holds, removed_fewer row st iteration-there)
 
   -- a mark as many
-  pub marked-same : (c : Change) → Represents c.state.now (with_addresses (set st.addresses i (deprecate row)) st) → address_count c.state.now ≡ address_count a.state.now
+  pub marked-same : (c : Change) → Represents c.state.words.now (with_addresses (set st.addresses i (deprecate row)) st) → address_count c.state.words.now ≡ address_count a.state.words.now
   marked-same c h = omega (arith, count-addresses f.holds, count-addresses h, length-set st.addresses i (deprecate row))
 
   module _ (allowance now : ℕ) where
@@ -77,7 +77,7 @@ module _ {st : State} {a : Change} {i : ℕ} (b : i < address_count a.state.now)
     iteration-stays d e = step_eq (cond-false (due allowance now row) (remove_v4 row st) _ d ∙ cond-false (deprecates allowance now row) _ (stays st) e) (step-none potential f)
 
     pub iteration-deprecates : {c : Change} → due allowance now row ≡ false → deprecates allowance now row ≡ true
-        → Represents c.state.now (with_addresses (set st.addresses i (deprecate row)) st) → Tells (new_addr4 (deprecate row) ∷ []) a c → EmitsWithin potential st (expire_turn allowance now i st) a c
+        → Represents c.state.words.now (with_addresses (set st.addresses i (deprecate row)) st) → Tells (new_addr4 (deprecate row) ∷ []) a c → EmitsWithin potential st (expire_turn allowance now i st) a c
     unfolding expire_turn new_addr4
     iteration-deprecates d e h w =
         step_eq (cond-false (due allowance now row) (remove_v4 row st) _ d ∙ cond-true (deprecates allowance now row) _ (stays st) e)
@@ -94,13 +94,13 @@ expiring_start allowance now {st} f =
     going_start potential (expire allowance now) (Quiet allowance now 0) f (like_refl (expire allowance now st)) (record { clean = refl; within = omega arith })
 
 module _ (allowance now i : ℕ) {st : State} {a b : Change} (g : Expiring allowance now st i a b) where
-  pub expiring_facts : (i ≤ address_count b.state.now) × (address_count b.state.now ≤ 64)
+  pub expiring_facts : (i ≤ address_count b.state.words.now) × (address_count b.state.words.now ≤ 64)
   expiring_facts =
       let h = g.step.emits.holds in
       (omega (arith, count-addresses h, g.holding.within), omega (arith, count-addresses h, h.addresses_within))
 
-  module _ (h : i < address_count b.state.now) {c : Change} (t : (m : State) → RoomFor potential m b → EmitsWithin potential m (expire_turn allowance now i m) b c) where
-    pub expiring_next : (j : ℕ) → j ≡ next_place i (address_count b.state.now) (address_count c.state.now) → Expiring allowance now st j a c
+  module _ (h : i < address_count b.state.words.now) {c : Change} (t : (m : State) → RoomFor potential m b → EmitsWithin potential m (expire_turn allowance now i m) b c) where
+    pub expiring_next : (j : ℕ) → j ≡ next_place i (address_count b.state.words.now) (address_count c.state.words.now) → Expiring allowance now st j a c
     unfolding also
     expiring_next j e =
         let o = g.sofar in
@@ -109,7 +109,7 @@ module _ (allowance now i : ℕ) {st : State} {a b : Change} (g : Expiring allow
         let done = t m (going-fits potential g) in
         let turn : State → Out = expire_turn allowance now i in
         let place : j ≡ next_place i (length m.addresses) (length (turn m).state.addresses) =
-        e ∙ ap (λ (x : ℕ). next_place i x (address_count c.state.now)) (count-addresses k) ∙ ap (next_place i (length m.addresses)) (count-addresses done.emits.holds)
+        e ∙ ap (λ (x : ℕ). next_place i x (address_count c.state.words.now)) (count-addresses k) ∙ ap (next_place i (length m.addresses)) (count-addresses done.emits.holds)
         in
         let more = expire-iteration allowance now i m g.holding k.addresses_fit (omega (arith, count-addresses k)) j place in
         record {
@@ -122,12 +122,12 @@ module _ (allowance now i : ℕ) {st : State} {a b : Change} (g : Expiring allow
         }
 
     -- no address comes
-    pub expiring_fewer : address_count c.state.now ≤ address_count b.state.now
+    pub expiring_fewer : address_count c.state.words.now ≤ address_count b.state.words.now
     expiring_fewer =
         let m = g.sofar.state in
         let k = g.step.emits.holds in
         let done = t m (going-fits potential g) in
         omega (arith, count-addresses k, count-addresses done.emits.holds, iteration_fewer allowance now i m (omega (arith, count-addresses k)))
 
-  pub expiring_end : address_count b.state.now ≤ i → EmitsWithin potential st (expire allowance now st) a b
+  pub expiring_end : address_count b.state.words.now ≤ i → EmitsWithin potential st (expire allowance now st) a b
   expiring_end h = going_end potential g (λ m q w. expire-none allowance now m i q.clean (omega (arith, count-addresses w)))

@@ -59,24 +59,24 @@ impl Clock {
 
 // The address at i becomes the row a, marked, and is told.
 fn mark(change: &mut Change<'_>, i: usize, a: &AddressRow)
-    requires represents_some { RepresentsSome change.old.state.now }
-    requires i_bound { (i < address_count change.old.state.now) × (34 * (change.old.told + 1) ≤ length change.old.events.now) × (fit_address a.now ≡ true) }
+    requires represents_some { RepresentsSome change.old.state.words.now }
+    requires i_bound { (i < address_count change.old.state.words.now) × (34 * (change.old.told + 1) ≤ length change.old.events.now) × (fit_address a.now ≡ true) }
     ensures tells { Tells (new_addr4 (deprecate a.now) ∷ []) change.old change.new }
-    ensures represents { (st : State) → Represents change.old.state.now st → Represents change.new.state.now (with_addresses (set st.addresses i (deprecate a.now)) st) }
+    ensures represents { (st : State) → Represents change.old.state.words.now st → Represents change.new.state.words.now (with_addresses (set st.addresses i (deprecate a.now)) st) }
 {
     let row = row_update::deprecate(a);
     change.new_addr4(&row);
-    state::replace_address(change.state, i, &row);
+    change.state.replace_address(i, &row);
 }
 
 // What comes of the address at i, and the place that is next: the first one again where addresses went.
 fn iteration(change: &mut Change<'_>, clock: Clock, i: usize) -> usize
     requires some_room { SomeRoom potential change.old }
-    requires i_bound { i < address_count change.old.state.now }
-    ensures next { result ≡ next_place i (address_count change.old.state.now) (address_count change.new.state.now) }
+    requires i_bound { i < address_count change.old.state.words.now }
+    ensures next { result ≡ next_place i (address_count change.old.state.words.now) (address_count change.new.state.words.now) }
     ensures emits { (st : State) → RoomFor potential st change.old → EmitsWithin potential st (expire_turn clock.allowance.0 clock.time.0 i st) change.old change.new }
 {
-    let row = state::addresses(change.words()).rows[i];
+    let row = change.state.stored().addresses().rows[i];
     if clock.due(&row) {
         step_remove_v4::remove_v4(change, &row);
         return 0;
@@ -98,7 +98,7 @@ pub fn expire(change: &mut Change<'_>, allowance: Nanoseconds, clock: Nanosecond
         allowance,
     };
     let mut i = 0usize;
-    while i < state::address_count(change.words()) {
+    while i < change.state.stored().address_count() {
         i = iteration(change, clock, i);
     }
 }

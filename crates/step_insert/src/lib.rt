@@ -188,17 +188,17 @@ pub fn insert4(s: &mut [u32], new: &RouteRow, flags: u32) -> Result<Option<u32>,
     ensures represents_some_2 { RepresentsSome s.new }
     ensures inserted_into { (st : State) → Represents s.old st → fit_state st ≡ true → InsertedInto new.now flags st s.new result }
 {
-    let n = state::route_count(s);
-    match plan4(state::routes(s), new, flags)? {
+    let n = s.route_count();
+    match plan4(s.routes(), new, flags)? {
         Some(Placement::Add(place, emitted)) => {
             if n == ROUTE_LIMIT {
                 return Err(Refusal::Full);
             }
-            state::insert_route(s, place, new);
+            s.insert_route(place, new);
             Ok(Some(emitted))
         }
         Some(Placement::Replace(place)) => {
-            state::replace_route(s, place, new);
+            s.replace_route(place, new);
             Ok(Some(REPLACE))
         }
         None => Ok(None),

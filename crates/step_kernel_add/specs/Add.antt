@@ -41,14 +41,14 @@ created-fit t st h = state-fit (create4 t st) (create4-fit t st (fit-state st h)
 
 -- ---- by what came of the insertion into the state with the table listed
 module _ (new : Row) (made : State) where
-  after-put : (i : Insert.Inserted) (flags : ℕ) {a b : Change} → Ok (Some flags) ≡ answer_of i → Represents b.state.now (with_routes (rows_after i made.routes) made)
+  after-put : (i : Insert.Inserted) (flags : ℕ) {a b : Change} → Ok (Some flags) ≡ answer_of i → Represents b.state.words.now (with_routes (rows_after i made.routes) made)
       → length new ≡ 32 → Tells (new_route4 new flags ∷ []) a b → Comes (goes (inserted new i made)) a b (Ok tt)
   after-put (Insert.placed rows emitted) flags {a} {b} e h n t =
       test-case (leb (length rows) 256)
       (λ f.
       let same : ◌≡◌ {A = Inserted} (Ok (Some flags)) (Ok (Some emitted)) = rw f at e in
       let is : flags ≡ emitted = cc in
-      let k : Represents b.state.now (with_routes rows made) = rw f at h in
+      let k : Represents b.state.words.now (with_routes rows made) = rw f at h in
       goes-made (holds-within k) (does-one (with_routes rows made) (new_route4 new emitted) k (new_route-long new emitted n) (rw is at t)))
       (λ f. let same : ◌≡◌ {A = Inserted} (Ok (Some flags)) (Err Full) = rw f at e in cc)
   after-put Insert.nothing flags e h n t = cc
@@ -56,7 +56,7 @@ module _ (new : Row) (made : State) where
 
   -- nothing was put in, and no list was full
   after_none : (i : Insert.Inserted) (r : Inserted) {a b : Change} → r ≡ answer_of i → ((flags : ℕ) → r ≡ Ok (Some flags) → ⊥) → (r ≡ Err Full → ⊥)
-      → Represents b.state.now (with_routes (rows_after i made.routes) made) → Tells [] a b → Comes (goes (inserted new i made)) a b (Ok tt)
+      → Represents b.state.words.now (with_routes (rows_after i made.routes) made) → Tells [] a b → Comes (goes (inserted new i made)) a b (Ok tt)
   after_none (Insert.placed rows emitted) r e put full h t =
       test-case (leb (length rows) 256)
       (λ f. absurd (put emitted (rw f at e)))
@@ -88,7 +88,7 @@ module _ (new : Row) (st : State) {a b : Change} where
       tables-full new (create4 (table new) st) (insert4 new 0xc00 st.routes) (rw (tables-at h) at n)
 
   module _ {w : List ℕ} {r : Inserted} (i : InsertedInto new 0xc00 (create4 (table new) st) w r) where
-    pub add_put : (flags : ℕ) → r ≡ Ok (Some flags) → w ≡ b.state.now → length new ≡ 32 → Tells (new_route4 new flags ∷ []) a b → Comes (goes (kernel_add4 new st)) a b (Ok tt)
+    pub add_put : (flags : ℕ) → r ≡ Ok (Some flags) → w ≡ b.state.words.now → length new ≡ 32 → Tells (new_route4 new flags ∷ []) a b → Comes (goes (kernel_add4 new st)) a b (Ok tt)
     unfolding kernel_add4
     add_put flags e f n t =
         after-put new (create4 (table new) st) (insert4 new 0xc00 (create4 (table new) st).routes) flags (sym e ∙ i.answer) (rw f at i.holds) n t
@@ -97,7 +97,7 @@ module _ (new : Row) (st : State) {a b : Change} where
     unfolding kernel_add4
     add_full e = after-full new (create4 (table new) st) (insert4 new 0xc00 (create4 (table new) st).routes) (sym e ∙ i.answer)
 
-    pub add_none : ((flags : ℕ) → r ≡ Ok (Some flags) → ⊥) → (r ≡ Err Full → ⊥) → w ≡ b.state.now → Tells [] a b → Comes (goes (kernel_add4 new st)) a b (Ok tt)
+    pub add_none : ((flags : ℕ) → r ≡ Ok (Some flags) → ⊥) → (r ≡ Err Full → ⊥) → w ≡ b.state.words.now → Tells [] a b → Comes (goes (kernel_add4 new st)) a b (Ok tt)
     unfolding kernel_add4
     add_none put full f t =
         after_none new (create4 (table new) st) (insert4 new 0xc00 (create4 (table new) st).routes) r i.answer put full (rw f at i.holds) t

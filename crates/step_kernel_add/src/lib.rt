@@ -18,19 +18,19 @@ const CREATE_APPEND: u32 = 0xc00;
 
 // Its table is listed, and it is put behind the rows alike it and told, unless it is there.
 pub fn kernel_add4(change: &mut Change<'_>, new: &RouteRow) -> Result<(), Refusal>
-    requires represents_some { RepresentsSome change.old.state.now }
+    requires represents_some { RepresentsSome change.old.state.words.now }
     requires value { fit_route new.now ≡ true }
     requires in_bounds { 34 * (change.old.told + 1) ≤ length change.old.events.now }
-    ensures represents_some_2 { RepresentsSome change.new.state.now }
+    ensures represents_some_2 { RepresentsSome change.new.state.words.now }
     ensures told { change.new.told ≤ change.old.told + 1 }
-    ensures comes { (st : State) → Represents change.old.state.now st → fit_state st ≡ true → Comes (goes (kernel_add4 new.now st)) change.old change.new result }
+    ensures comes { (st : State) → Represents change.old.state.words.now st → fit_state st ≡ true → Comes (goes (kernel_add4 new.now st)) change.old change.new result }
 {
     let table = new[route::TABLE];
-    if TABLE_LIMIT < state_tables::tables_after(change.words(), table) {
+    if TABLE_LIMIT < state_tables::tables_after(change.state.stored(), table) {
         return Err(Refusal::Full);
     }
-    state_tables::list_table(change.state, table);
-    match step_insert::insert4(change.state, new, CREATE_APPEND) {
+    state_tables::list_table(&mut change.state, table);
+    match step_insert::insert4(&mut change.state, new, CREATE_APPEND) {
         Ok(Some(flags)) => change.new_route4(new, flags),
         Ok(None) => {}
         Err(refusal) => match refusal {

@@ -30,7 +30,7 @@ matches_far p r h =
     sym (fails (matches p r) (λ k. h (sym (eqb-true (dst r) (dst p) (simp and_iff at k).0.0.0.0.0.0.0.0.0.1))))
 
 -- ---- the deletion
-module _ (p : Row) (st : State) {a : Change} (h : Represents a.state.now st) where
+module _ (p : Row) (st : State) {a : Change} (h : Represents a.state.words.now st) where
   pub none-matches : position (matches p) st.routes ≡ None → Emits (kernel_del4 p st) a a
   unfolding kernel_del4
   none-matches e =
@@ -39,7 +39,7 @@ module _ (p : Row) (st : State) {a : Change} (h : Represents a.state.now st) whe
       in
       rw missing (does-none st a h)
 
-  pub one-matches : {b : Change} (i : ℕ) → position (matches p) st.routes ≡ Some i → Represents b.state.now (with_routes (remove_at i st.routes) st)
+  pub one-matches : {b : Change} (i : ℕ) → position (matches p) st.routes ≡ Some i → Represents b.state.words.now (with_routes (remove_at i st.routes) st)
       → Tells (del_route4 (get_or st.routes i []) ∷ []) a b → Emits (kernel_del4 p st) a b
   unfolding kernel_del4 remove_at
   one-matches i e k t =
@@ -55,5 +55,5 @@ deletes {st} p f d =
     let away = kernel_del4_away p st in
     does-step potential d f (omega (arith, away.shrunk, ap (λ (l : List Row). length l + count live l) away.same_addresses))
 
-pub ready_row : {a : Change} → SomeRoom potential a → 0 < route_count a.state.now → 34 * (a.told + 1) ≤ length a.events.now
+pub ready_row : {a : Change} → SomeRoom potential a → 0 < route_count a.state.words.now → 34 * (a.told + 1) ≤ length a.events.now
 ready_row y b = omega (arith, y.fits.room, count-routes y.fits.holds)

@@ -41,17 +41,17 @@ fn find_match(routes: Routes<'_>, p: &RouteRow) -> Option<usize>
 
 // The first row that p names goes, if there is one. Where there is no route there need be no room for its event.
 pub fn kernel_del4(change: &mut Change<'_>, p: &RouteRow)
-    requires represents_some { RepresentsSome change.old.state.now }
-    requires in_bounds { 0 < route_count change.old.state.now → 34 * (change.old.told + 1) ≤ length change.old.events.now }
-    ensures represents_some_2 { RepresentsSome change.new.state.now }
+    requires represents_some { RepresentsSome change.old.state.words.now }
+    requires in_bounds { 0 < route_count change.old.state.words.now → 34 * (change.old.told + 1) ≤ length change.old.events.now }
+    ensures represents_some_2 { RepresentsSome change.new.state.words.now }
     ensures upper_bound { change.new.told ≤ change.old.told + 1 }
-    ensures emits { (st : State) → Represents change.old.state.now st → Emits (kernel_del4 p.now st) change.old change.new }
+    ensures emits { (st : State) → Represents change.old.state.words.now st → Emits (kernel_del4 p.now st) change.old change.new }
 {
-    let routes = state::routes(change.words());
+    let routes = change.state.stored().routes();
     let Some(i) = find_match(routes, p) else {
         return;
     };
     let row = routes.rows[i];
     change.del_route4(&row);
-    state::remove_route(change.state, i);
+    change.state.remove_route(i);
 }

@@ -15,14 +15,14 @@ use Rattle.step_events.specs.Comes.{Answer, Comes, comes-ok}
 use Rattle.step_events.specs.declared.change.Change.{Change}
 
 abbrev pub AddsFrom : (State → Out) → Change → Change → Answer → Type 0
-AddsFrom f a b r = (st : State) → Represents a.state.now st → fit_state st ≡ true → Comes (goes (f st)) a b r
+AddsFrom f a b r = (st : State) → Represents a.state.words.now st → fit_state st ≡ true → Comes (goes (f st)) a b r
 
 module _ (f : State → Out) {a b : Change} (t : AddsFrom f a b (Ok tt)) where
   -- a step that had room leaves words that hold a fit state
-  pub adds-holds : (st : State) → Represents a.state.now st → fit_state st ≡ true → Represents b.state.now (f st).state
+  pub adds-holds : (st : State) → Represents a.state.words.now st → fit_state st ≡ true → Represents b.state.words.now (f st).state
   adds-holds st h g = (comes-ok (t st h g)).1.holds
 
-  pub adds-sound : Keeps f → RepresentsFit a.state.now → RepresentsFit b.state.now
+  pub adds-sound : Keeps f → RepresentsFit a.state.words.now → RepresentsFit b.state.words.now
   adds-sound k s =
       record {
         state = (f s.state).state;
@@ -31,7 +31,7 @@ module _ (f : State → Out) {a b : Change} (t : AddsFrom f a b (Ok tt)) where
       }
 
   -- and as much room for events
-  pub adds-long : RepresentsFit a.state.now → length b.events.now ≡ length a.events.now
+  pub adds-long : RepresentsFit a.state.words.now → length b.events.now ≡ length a.events.now
   adds-long s = (comes-ok (t s.state s.holds s.fits)).1.tells.long
 
 -- ---- steps that leave the addresses

@@ -56,7 +56,7 @@ module _ (q old : Row) where
     unfolding moved
     moved_other u st h g = rw e (adds-stop (u st h g) (kernel_del4 (prefix_route (local old) old)))
 
-    pub moved-both : AddsFrom (kernel_add4 route_in) a b (Ok tt) → {c : Change} → ((st : State) → Represents b.state.now st → Emits (kernel_del4 route_out st) b c) → AddsFrom (moved q old) a c (Ok tt)
+    pub moved-both : AddsFrom (kernel_add4 route_in) a b (Ok tt) → {c : Change} → ((st : State) → Represents b.state.words.now st → Emits (kernel_del4 route_out st) b c) → AddsFrom (moved q old) a c (Ok tt)
     unfolding moved prefix_route
     moved-both u d st h g =
         let first = u st h g in
@@ -78,21 +78,21 @@ module _ (q : Row) (clock : ℕ) (old : Row) (g : fit_add_v4 q ≡ true) (fit : 
   changed-fit = changed_to-fit q old clock g fit
 
   module _ {a b : Change} where
-    pub change-other : {r : Refusal} → AddsFrom (moved q old) a b (Err r) → {c : Change} (st : State) → Represents a.state.now st → fit_state st ≡ true → Comes (goes (change_v4 q old clock st)) a c (Err r)
+    pub change-other : {r : Refusal} → AddsFrom (moved q old) a b (Err r) → {c : Change} (st : State) → Represents a.state.words.now st → fit_state st ≡ true → Comes (goes (change_v4 q old clock st)) a c (Err r)
     unfolding change_v4
     change-other m st h f =
         adds-stop (m st h f) (λ later. becomes (with_addresses (replace_first (same_address q) (changed_to q old clock) later.addresses) later) (new_addr4 (changed_to q old clock) ∷ []))
 
     module _ (m : AddsFrom (moved q old) a b (Ok tt)) where
-      pub change-sound : RepresentsFit a.state.now → RepresentsFit b.state.now
+      pub change-sound : RepresentsFit a.state.words.now → RepresentsFit b.state.words.now
       change-sound v = adds-sound (moved q old) m (moved_keeps q old fit) v
 
-      pub change-count : (st : State) → Represents a.state.now st → fit_state st ≡ true → address_count b.state.now ≡ address_count a.state.now
+      pub change-count : (st : State) → Represents a.state.words.now st → fit_state st ≡ true → address_count b.state.words.now ≡ address_count a.state.words.now
       change-count st h f =
           count-addresses (adds-holds (moved q old) m st h f) ∙ ap length (moved-leaves q old st) ∙ sym (count-addresses h)
 
-      pub change-done : (i : ℕ) {c : Change} → ((st : State) → Represents b.state.now st → Represents c.state.now (with_addresses (set st.addresses i (changed_to q old clock)) st))
-          → Tells (new_addr4 (changed_to q old clock) ∷ []) b c → (st : State) → Represents a.state.now st → fit_state st ≡ true → i ≡ place_of (same_address q) st.addresses
+      pub change-done : (i : ℕ) {c : Change} → ((st : State) → Represents b.state.words.now st → Represents c.state.words.now (with_addresses (set st.addresses i (changed_to q old clock)) st))
+          → Tells (new_addr4 (changed_to q old clock) ∷ []) b c → (st : State) → Represents a.state.words.now st → fit_state st ≡ true → i ≡ place_of (same_address q) st.addresses
           → Comes (goes (change_v4 q old clock st)) a c (Ok tt)
       unfolding change_v4
       change-done i {c} s t st h f at =
@@ -102,8 +102,8 @@ module _ (q : Row) (clock : ℕ) (old : Row) (g : fit_add_v4 q ≡ true) (fit : 
           let place : replace_first (same_address q) new later.addresses ≡ set later.addresses i new =
           replace_at (same_address q) new later.addresses ∙ ap (λ (n : ℕ). set later.addresses n new) (ap (place_of (same_address q)) (moved-leaves q old st) ∙ sym at)
           in
-          let there : Represents c.state.now (with_addresses (replace_first (same_address q) new later.addresses) later) =
-          subst (λ (l : List Row). Represents c.state.now (with_addresses l later)) (sym place) (s later (comes-ok first).1.holds)
+          let there : Represents c.state.words.now (with_addresses (replace_first (same_address q) new later.addresses) later) =
+          subst (λ (l : List Row). Represents c.state.words.now (with_addresses l later)) (sym place) (s later (comes-ok first).1.holds)
           in
           adds-also first (λ later. becomes (with_addresses (replace_first (same_address q) new later.addresses) later) (new_addr4 new ∷ []))
           (goes-made (holds-within there)

@@ -25,7 +25,7 @@ pub sofar-start : (rows : List Row) (a : Change) → AddsFrom (through kernel_ad
 sofar-start rows a st h f = adds-start kernel_add4 rows st h
 
 module _ (rows : List Row) (fit : all fit_route rows ≡ true) {a b : Change} (i : ℕ) (s : AddsFrom (through kernel_add4 (take i rows)) a b (Ok tt)) where
-  pub sofar-sound : RepresentsFit a.state.now → RepresentsFit b.state.now
+  pub sofar-sound : RepresentsFit a.state.words.now → RepresentsFit b.state.words.now
   sofar-sound v = adds-sound (through kernel_add4 (take i rows)) s (first-keep rows i fit) v
 
   pub sofar-next : i < length rows → {c : Change} {r : Answer} → AddsFrom (kernel_add4 (get_or rows i [])) b c r → AddsFrom (through kernel_add4 (take (i + 1) rows)) a c r

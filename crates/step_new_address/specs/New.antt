@@ -61,7 +61,7 @@ module _ (new : Row) (up : Bool) (st : State) where
       pub placed-holds : {w : List ℕ} → Represents w (with_addresses (insert_at i new st.addresses) st) → Represents w (placed new st)
       placed-holds {w} h = subst (λ (l : List Row). Represents w (with_addresses l st)) (sym e) h
 
-      pub new_done : fit_state st ≡ true → {a b c : Change} {r : Answer} → Represents b.state.now (placed new st) → Tells (new_addr4 new ∷ []) a b
+      pub new_done : fit_state st ≡ true → {a b c : Change} {r : Answer} → Represents b.state.words.now (placed new st) → Tells (new_addr4 new ∷ []) a b
           → AddsFrom (install (candidates (place4 new st.addresses) up new)) b c r → Comes (goes (new_address new up st)) a c r
       unfolding new_address
       new_done f {a} {b} h t u =

@@ -20,7 +20,7 @@ use step_events::Change;
 
 // The routes, in order.
 pub fn install(change: &mut Change<'_>, routes: Routes<'_>) -> Result<(), Refusal>
-    requires represents_fit { RepresentsFit change.old.state.now }
+    requires represents_fit { RepresentsFit change.old.state.words.now }
     requires in_bounds { 34 * (change.old.told + length routes.rows.now) ≤ length change.old.events.now }
     ensures told { change.new.told ≤ change.old.told + length routes.entry.rows.now }
     ensures adds_from { AddsFrom (install routes.entry.rows.now) change.old change.new result }
@@ -33,20 +33,20 @@ pub fn install(change: &mut Change<'_>, routes: Routes<'_>) -> Result<(), Refusa
 
 // An address put in its place and told, then the routes that it brings.
 pub fn new_address(change: &mut Change<'_>, new: &AddressRow, up: bool) -> Result<(), Refusal>
-    requires represents_fit { RepresentsFit change.old.state.now }
+    requires represents_fit { RepresentsFit change.old.state.words.now }
     requires value { fit_address new.now ≡ true }
     requires in_bounds { 34 * (change.old.told + 5) ≤ length change.old.events.now }
     ensures told { change.new.told ≤ change.old.told + 5 }
     ensures adds_from { AddsFrom (new_address new.now up) change.old change.new result }
 {
-    let addresses = state::addresses(change.words());
+    let addresses = change.state.stored().addresses();
     if ADDRESS_LIMIT <= addresses.rows.len() {
         return Err(Refusal::Full);
     }
     let place = rows_place::place4(addresses, new);
-    state::insert_address(change.state, place, new);
+    change.state.insert_address(place, new);
     change.new_addr4(new);
-    let block = row_candidates::candidates(state::addresses(change.words()), new, up);
+    let block = row_candidates::candidates(change.state.stored().addresses(), new, up);
     install(
         change,
         Rows {
@@ -57,7 +57,7 @@ pub fn new_address(change: &mut Change<'_>, new: &AddressRow, up: bool) -> Resul
 
 // An address's prefix route with a request's priority put in, and then the one with its own taken out.
 fn moved(change: &mut Change<'_>, q: &AddV4, old: &AddressRow) -> Result<(), Refusal>
-    requires represents_fit { RepresentsFit change.old.state.now }
+    requires represents_fit { RepresentsFit change.old.state.words.now }
     requires value { fit_address old.now ≡ true }
     requires in_bounds { 34 * (change.old.told + 2) ≤ length change.old.events.now }
     ensures told { change.new.told ≤ change.old.told + 2 }
@@ -80,17 +80,17 @@ pub fn change_v4(
     q: &AddV4,
     clock: Nanoseconds,
 ) -> Result<(), Refusal>
-    requires represents_fit { RepresentsFit change.old.state.now }
-    requires i_bound { i < address_count change.old.state.now }
+    requires represents_fit { RepresentsFit change.old.state.words.now }
+    requires i_bound { i < address_count change.old.state.words.now }
     requires q_value { fit_add_v4 q.now ≡ true }
     requires in_bounds { 34 * (change.old.told + 3) ≤ length change.old.events.now }
     ensures told { change.new.told ≤ change.old.told + 3 }
-    ensures comes { (st : State) → Represents change.old.state.now st → fit_state st ≡ true → i ≡ place_of (same_address q.now) st.addresses → Comes (goes (change_v4 q.now (get_or st.addresses i []) clock.0 st)) change.old change.new result }
+    ensures comes { (st : State) → Represents change.old.state.words.now st → fit_state st ≡ true → i ≡ place_of (same_address q.now) st.addresses → Comes (goes (change_v4 q.now (get_or st.addresses i []) clock.0 st)) change.old change.new result }
 {
-    let old = state::addresses(change.words()).rows[i];
+    let old = change.state.stored().addresses().rows[i];
     let row = row_update::changed_to(q, &old, clock);
     moved(change, q, &old)?;
-    state::replace_address(change.state, i, &row);
+    change.state.replace_address(i, &row);
     change.new_addr4(&row);
     Ok(())
 }

@@ -115,7 +115,7 @@ present-fit {r} p = go p.state.addresses p.fits.holds.addresses_fit p.there
 
 -- the address itself
 pub gone-step : {st : State} {a b : Change} (r : Row) (i : ℕ) → RoomFor potential st a → any (eq_row r) st.addresses ≡ true → fit_address r ≡ true
-    → position (eq_row r) st.addresses ≡ Some i → Represents b.state.now (with_addresses (remove_at i st.addresses) st) → Tells (del_addr4 r ∷ []) a b
+    → position (eq_row r) st.addresses ≡ Some i → Represents b.state.words.now (with_addresses (remove_at i st.addresses) st) → Tells (del_addr4 r ∷ []) a b
     → EmitsWithin potential st (gone_from r st) a b
 unfolding remove_at del_addr4
 gone-step {st} r i f t g e h w =
@@ -144,7 +144,7 @@ one-step {st} r t u =
     step_same potential e.leaves e.same_emitted (step-also potential t (routes_go (local r) (leaving st.addresses r)) u)
 
 -- ---- a primary and its secondaries
-module _ {st : State} {a : Change} (p : Row) (i : ℕ) (b : i < address_count a.state.now) (f : RoomFor potential st a) where
+module _ {st : State} {a : Change} (p : Row) (i : ℕ) (b : i < address_count a.state.words.now) (f : RoomFor potential st a) where
   there : i < length st.addresses
   there = omega (arith, count-addresses f.holds)
 
@@ -159,7 +159,7 @@ module _ {st : State} {a : Change} (p : Row) (i : ℕ) (b : i < address_count a.
       let r : Row = get_or st.addresses i [] in
       step_eq (cond-false (goes_with p r) (remove_one r st) (stays st) e) (step-none potential f)
 
-pub row-present : {a : Change} (y : SomeRoom potential a) (i : ℕ) → i < address_count a.state.now → Present (get_or y.state.addresses i []) a
+pub row-present : {a : Change} (y : SomeRoom potential a) (i : ℕ) → i < address_count a.state.words.now → Present (get_or y.state.addresses i []) a
 row-present y i b =
     let r : Row = get_or y.state.addresses i [] in
     record { state = y.state; fits = y.fits; there = any_here (eq_row r) y.state.addresses i [] (omega (arith, count-addresses y.fits.holds)) (eq_row-refl r) }
@@ -168,19 +168,19 @@ row-present y i b =
 abbrev pub Going1 : Row → State → ℕ → ℕ → Change → Change → Type 0
 Going1 p st n j a b = Going potential st (secondaries p st) (pass p n j) (Passed p n j) a b
 
-pub gone-start : {st : State} {a : Change} (p : Row) (n : ℕ) → n ≡ address_count a.state.now → RoomFor potential st a → Going1 p st n 0 a a
+pub gone-start : {st : State} {a : Change} (p : Row) (n : ℕ) → n ≡ address_count a.state.words.now → RoomFor potential st a → Going1 p st n 0 a a
 gone-start {st} p n e f =
     let all : n ≡ length st.addresses = e ∙ count-addresses f.holds in
     let q = pass-start p st in
     going_start potential (pass p n 0) (Passed p n 0) f (rw all q.0) (rw all q.1)
 
 module _ (p : Row) (n j : ℕ) {st : State} {a b : Change} (g : Going1 p st n j a b) where
-  pub gone-facts : (address_count b.state.now ≤ n) × (n ≤ j + address_count b.state.now)
+  pub gone-facts : (address_count b.state.words.now ≤ n) × (n ≤ j + address_count b.state.words.now)
   gone-facts =
       let c = count-addresses g.step.emits.holds in
       (omega (arith, c, g.holding.most), omega (arith, c, g.holding.least))
 
-  pub gone-next : j < n → (i : ℕ) → i + n ≡ j + address_count b.state.now → {c : Change} → ((m : State) → RoomFor potential m b → EmitsWithin potential m (gone_turn p i m) b c)
+  pub gone-next : j < n → (i : ℕ) → i + n ≡ j + address_count b.state.words.now → {c : Change} → ((m : State) → RoomFor potential m b → EmitsWithin potential m (gone_turn p i m) b c)
       → Going1 p st n (j + 1) a c
   gone-next h i e t =
       going-iteration potential g (gone_turn p i) (pass p n (j + 1)) (Passed p n (j + 1)) (λ m q f. t m f)

@@ -27,9 +27,9 @@ fn take_out(change: &mut Change<'_>, a: &AddressRow)
     requires { Present a.now change.old }
     ensures { (st : State) → RoomFor potential st change.old → any (eq_row a.now) st.addresses ≡ true → EmitsWithin potential st (gone_from a.now st) change.old change.new }
 {
-    if let Some(i) = place_of(state::addresses(change.words()), a) {
+    if let Some(i) = place_of(change.state.stored().addresses(), a) {
         change.del_addr4(a);
-        state::remove_address(change.state, i);
+        change.state.remove_address(i);
     }
 }
 
@@ -38,7 +38,7 @@ pub fn remove_one(change: &mut Change<'_>, a: &AddressRow)
     requires { Present a.now change.old }
     ensures { (st : State) → RoomFor potential st change.old → any (eq_row a.now) st.addresses ≡ true → EmitsWithin potential st (remove_one a.now st) change.old change.new }
 {
-    let routes = row_candidates::leaving(state::addresses(change.words()), a);
+    let routes = row_candidates::leaving(change.state.stored().addresses(), a);
     take_out(change, a);
     step_drop_routes::take_routes(change, routes.as_slice(), a[address::LOCAL]);
 }
@@ -53,10 +53,10 @@ fn goes_with(a: &AddressRow, b: &AddressRow) -> bool
 // The address at i goes if it goes with the primary a.
 fn gone_iteration(change: &mut Change<'_>, a: &AddressRow, i: usize)
     requires some_room { SomeRoom potential change.old }
-    requires i_bound { i < address_count change.old.state.now }
+    requires i_bound { i < address_count change.old.state.words.now }
     ensures { (st : State) → RoomFor potential st change.old → EmitsWithin potential st (gone_turn a.now i st) change.old change.new }
 {
-    let row = state::addresses(change.words()).rows[i];
+    let row = change.state.stored().addresses().rows[i];
     if goes_with(a, &row) {
         remove_one(change, &row);
     }
@@ -68,9 +68,9 @@ fn remove_secondaries(change: &mut Change<'_>, a: &AddressRow)
     requires { SomeRoom potential change.old }
     ensures { (st : State) → RoomFor potential st change.old → EmitsWithin potential st (secondaries a.now st) change.old change.new }
 {
-    let n = state::address_count(change.words());
+    let n = change.state.stored().address_count();
     for j in 0..n {
-        let i = j + state::address_count(change.words()) - n;
+        let i = j + change.state.stored().address_count() - n;
         gone_iteration(change, a, i);
     }
 }

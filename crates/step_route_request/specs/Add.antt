@@ -34,12 +34,12 @@ use Rattle.step_route_request.specs.Check.{check_all, goes_on, add_goes}
 
 -- ---- an insertion, then its table listed: by what came of it
 module _ (new : Row) (t : ℕ) (st : State) (d : Insert.Inserted) {a b : Change} where
-  pub added-put : (flags : ℕ) → ◌≡◌ {A = Inserted} (Ok (Some flags)) (answer_of d) → length new ≡ 32 → Represents b.state.now (create4 t (with_routes (rows_after d st.routes) st))
+  pub added-put : (flags : ℕ) → ◌≡◌ {A = Inserted} (Ok (Some flags)) (answer_of d) → length new ≡ 32 → Represents b.state.words.now (create4 t (with_routes (rows_after d st.routes) st))
       → Tells (new_route4 new flags ∷ []) a b → ComesWhole st (inserted_as new d (create4 t st)) a b (Ok tt)
   unfolding create4
   added-put flags e wide h k = go d e h
     where
-      go : (d : Insert.Inserted) → ◌≡◌ {A = Inserted} (Ok (Some flags)) (answer_of d) → Represents b.state.now (create4 t (with_routes (rows_after d st.routes) st)) → ComesWhole st (inserted_as new d (create4 t st)) a b (Ok tt)
+      go : (d : Insert.Inserted) → ◌≡◌ {A = Inserted} (Ok (Some flags)) (answer_of d) → Represents b.state.words.now (create4 t (with_routes (rows_after d st.routes) st)) → ComesWhole st (inserted_as new d (create4 t st)) a b (Ok tt)
       go (Insert.placed rows emitted) e h =
           test-case (leb (length rows) 256)
           (λ f.
@@ -50,11 +50,11 @@ module _ (new : Row) (t : ℕ) (st : State) (d : Insert.Inserted) {a b : Change}
       go Insert.nothing e h = cc
       go (Insert.unplaced m) e h = cc
 
-  pub added-none : ◌≡◌ {A = Inserted} (Ok None) (answer_of d) → Represents b.state.now (create4 t (with_routes (rows_after d st.routes) st)) → Tells [] a b → ComesWhole st (inserted_as new d (create4 t st)) a b (Ok tt)
+  pub added-none : ◌≡◌ {A = Inserted} (Ok None) (answer_of d) → Represents b.state.words.now (create4 t (with_routes (rows_after d st.routes) st)) → Tells [] a b → ComesWhole st (inserted_as new d (create4 t st)) a b (Ok tt)
   unfolding create4
   added-none e h k = go d e h
     where
-      go : (d : Insert.Inserted) → ◌≡◌ {A = Inserted} (Ok None) (answer_of d) → Represents b.state.now (create4 t (with_routes (rows_after d st.routes) st)) → ComesWhole st (inserted_as new d (create4 t st)) a b (Ok tt)
+      go : (d : Insert.Inserted) → ◌≡◌ {A = Inserted} (Ok None) (answer_of d) → Represents b.state.words.now (create4 t (with_routes (rows_after d st.routes) st)) → ComesWhole st (inserted_as new d (create4 t st)) a b (Ok tt)
       go (Insert.placed rows emitted) e h =
           test-case (leb (length rows) 256)
           (λ f. let same : ◌≡◌ {A = Inserted} (Ok None) (Ok (Some emitted)) = rw f at e in cc)
@@ -62,12 +62,12 @@ module _ (new : Row) (t : ℕ) (st : State) (d : Insert.Inserted) {a b : Change}
       go Insert.nothing e h = request-none st (create4 t st) h k
       go (Insert.unplaced m) e h = cc
 
-  pub added-refused : (r : Refusal) → (r ≡ Full → ⊥) → ◌≡◌ {A = Inserted} (Err r) (answer_of d) → Represents b.state.now (create4 t (with_routes (rows_after d st.routes) st)) → Tells [] a b
+  pub added-refused : (r : Refusal) → (r ≡ Full → ⊥) → ◌≡◌ {A = Inserted} (Err r) (answer_of d) → Represents b.state.words.now (create4 t (with_routes (rows_after d st.routes) st)) → Tells [] a b
       → ComesWhole st (inserted_as new d (create4 t st)) a b (Err r)
   unfolding create4
   added-refused r n e h k = go d e h
     where
-      go : (d : Insert.Inserted) → ◌≡◌ {A = Inserted} (Err r) (answer_of d) → Represents b.state.now (create4 t (with_routes (rows_after d st.routes) st)) → ComesWhole st (inserted_as new d (create4 t st)) a b (Err r)
+      go : (d : Insert.Inserted) → ◌≡◌ {A = Inserted} (Err r) (answer_of d) → Represents b.state.words.now (create4 t (with_routes (rows_after d st.routes) st)) → ComesWhole st (inserted_as new d (create4 t st)) a b (Err r)
       go (Insert.placed rows emitted) e h =
           test-case (leb (length rows) 256)
           (λ f. let same : ◌≡◌ {A = Inserted} (Err r) (Ok (Some emitted)) = rw f at e in cc)
@@ -76,11 +76,11 @@ module _ (new : Row) (t : ℕ) (st : State) (d : Insert.Inserted) {a b : Change}
       go (Insert.unplaced m) e h = let is : r ≡ Errno m = cc in rw is (request-refused st (create4 t st) h k m)
 
   -- no room for the row
-  pub row-full : ◌≡◌ {A = Inserted} (Err Full) (answer_of d) → Represents b.state.now (with_routes (rows_after d st.routes) st) → Tells [] a b → ComesWhole st (inserted_as new d (create4 t st)) a b (Err Full)
+  pub row-full : ◌≡◌ {A = Inserted} (Err Full) (answer_of d) → Represents b.state.words.now (with_routes (rows_after d st.routes) st) → Tells [] a b → ComesWhole st (inserted_as new d (create4 t st)) a b (Err Full)
   unfolding create4
   row-full e h k = go d e h
     where
-      go : (d : Insert.Inserted) → ◌≡◌ {A = Inserted} (Err Full) (answer_of d) → Represents b.state.now (with_routes (rows_after d st.routes) st) → ComesWhole st (inserted_as new d (create4 t st)) a b (Err Full)
+      go : (d : Insert.Inserted) → ◌≡◌ {A = Inserted} (Err Full) (answer_of d) → Represents b.state.words.now (with_routes (rows_after d st.routes) st) → ComesWhole st (inserted_as new d (create4 t st)) a b (Err Full)
       go (Insert.placed rows emitted) e h =
           test-case (leb (length rows) 256)
           (λ f. let same : ◌≡◌ {A = Inserted} (Err Full) (Ok (Some emitted)) = rw f at e in cc)
@@ -107,7 +107,7 @@ module _ (q : Row) (t : ℕ) (st : State) (long : 32 < length (list_table t st.t
   goes-full (Routes.unreached n) = over-tables st.routes
   goes-full (by linked) = inserted-full (asked_route q linked) (insert4 (asked_route q linked) (nlm_flags q) st.routes)
 
-pub table-full : (q : Row) (t : ℕ) {a : Change} {st : State} → t ≡ table_named q → Represents a.state.now st → 32 < length (list_table t (tables_of a.state.now))
+pub table-full : (q : Row) (t : ℕ) {a : Change} {st : State} → t ≡ table_named q → Represents a.state.words.now st → 32 < length (list_table t (tables_of a.state.words.now))
     → ComesWhole st (add_route4 q st) a a (Err Full)
 table-full q t {a} {st} e h long =
     let past : 32 < length (list_table (table_named q) st.tables) = rw (tables-at h, e) at long in
@@ -135,7 +135,7 @@ checked-linked (by l) g linked f = let same : ◌≡◌ {A = Result Bool Refusal
 checked-linked (Routes.unreached n) g linked f = let same : ◌≡◌ {A = Result Bool Refusal} (Ok linked) (Err (Errno n)) = sym f ∙ g in cc
 
 module _ (q : Row) (t : ℕ) (st : State) (x : Result Bool Refusal) (named : t ≡ table_named q) (e : x ≡ reached (check_all q (create4 (table_named q) st))) {a b : Change} where
-  pub way_refused : (r : Refusal) → x ≡ Err r → Represents b.state.now (create4 t st) → Tells [] a b → ComesWhole st (add_route4 q st) a b (Err r)
+  pub way_refused : (r : Refusal) → x ≡ Err r → Represents b.state.words.now (create4 t st) → Tells [] a b → ComesWhole st (add_route4 q st) a b (Err r)
   way_refused r f h k = rw (add_goes q st) (go (check_all q (create4 (table_named q) st)) e)
     where
       go : (c : Routes.Reached) → x ≡ reached c → ComesWhole st (goes_on q c (create4 (table_named q) st)) a b (Err r)

@@ -26,12 +26,12 @@ use Rattle.step_route_request.specs.Ways.{request-refused, request-emitted}
 on-off : (q : Row) {w : List ℕ} {st : State} → Represents w st → (t : ℕ) → t ≡ table_named q → (b : Bool) → b ≡ among t (tables_of w) → listed (table_named q) st ≡ b
 on-off q {st = st} h t e b f = ap (λ (n : ℕ). listed n st) (sym e) ∙ sym (listed-there h t) ∙ sym f
 
-module _ (q : Row) {st : State} {a : Change} (h : Represents a.state.now st) (t : ℕ) (e : t ≡ table_named q) where
-  pub del_unlisted : false ≡ among t (tables_of a.state.now) → ComesWhole st (del_route4_request q st) a a (Err (Errno 3))
+module _ (q : Row) {st : State} {a : Change} (h : Represents a.state.words.now st) (t : ℕ) (e : t ≡ table_named q) where
+  pub del_unlisted : false ≡ among t (tables_of a.state.words.now) → ComesWhole st (del_route4_request q st) a a (Err (Errno 3))
   unfolding del_route4_request
   del_unlisted f = rw (on-off q h t e false f) (request-refused st st h (tells-none a) 3)
 
-  module _ (f : true ≡ among t (tables_of a.state.now)) where
+  module _ (f : true ≡ among t (tables_of a.state.words.now)) where
     pub del_bad : true ≡ bad_prefix q → ComesWhole st (del_route4_request q st) a a (Err (Errno 22))
     unfolding del_route4_request
     del_bad k = rw (on-off q h t e true f, ← k) (request-refused st st h (tells-none a) 22)
@@ -45,7 +45,7 @@ module _ (q : Row) {st : State} {a : Change} (h : Represents a.state.now st) (t 
           in
           rw (on-off q h t e true f, ← k, none-there) (request-refused st st h (tells-none a) 3)
 
-      pub del_row : (i : ℕ) → position (selects q) st.routes ≡ Some i → {b : Change} → Represents b.state.now (with_routes (remove_at i st.routes) st) → Tells (del_route4 (get_or st.routes i []) ∷ []) a b
+      pub del_row : (i : ℕ) → position (selects q) st.routes ≡ Some i → {b : Change} → Represents b.state.words.now (with_routes (remove_at i st.routes) st) → Tells (del_route4 (get_or st.routes i []) ∷ []) a b
           → ComesWhole st (del_route4_request q st) a b (Ok tt)
       unfolding del_route4_request
       del_row i m {b} after told =

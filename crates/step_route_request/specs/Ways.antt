@@ -12,7 +12,7 @@ use Rattle.step_events.specs.Emits.{does-quiet, does-one}
 use Rattle.step_events.specs.Comes.{ComesWhole, holds-within, goes-made, comes-made, comes-full, adds-quiet, whole-made}
 use Rattle.step_events.specs.declared.change.Change.{Change}
 
-module _ (st : State) {a b : Change} (later : State) (h : Represents b.state.now later) where
+module _ (st : State) {a b : Change} (later : State) (h : Represents b.state.words.now later) where
   pub request-refused : Tells [] a b → (n : ℕ) → ComesWhole st (refused n later) a b (Err (Errno n))
   request-refused t n = whole-made st (holds-within h) (comes-made (holds-within h) refl (does-quiet later h t))
 
@@ -23,5 +23,5 @@ module _ (st : State) {a b : Change} (later : State) (h : Represents b.state.now
   request-emitted row e t = whole-made st (holds-within h) (goes-made (holds-within h) (does-one later row h e t))
 
 -- a list without room: all is as it was
-pub request-full : (u : Outcome) {st : State} {a b : Change} → roomy u ≡ false → Represents b.state.now st → Tells [] a b → ComesWhole st u a b (Err Full)
+pub request-full : (u : Outcome) {st : State} {a b : Change} → roomy u ≡ false → Represents b.state.words.now st → Tells [] a b → ComesWhole st u a b (Err Full)
 request-full u {st} e h t = record { comes = comes-full e; kept = λ _. does-quiet st h t }

@@ -21,25 +21,25 @@ use step_events::Change;
 
 // The first row that the request names goes. No table is listed.
 pub fn del_route4(change: &mut Change<'_>, q: &DelRoute4) -> Result<(), Refusal>
-    requires represents_some { RepresentsSome change.old.state.now }
+    requires represents_some { RepresentsSome change.old.state.words.now }
     requires fit { fit_del_route4 q.now ≡ true }
     requires in_bounds { 34 * (change.old.told + 1) ≤ length change.old.events.now }
-    ensures { (st : State) → Represents change.old.state.now st → ComesWhole st (del_route4_request q.now st) change.old change.new result }
+    ensures { (st : State) → Represents change.old.state.words.now st → ComesWhole st (del_route4_request q.now st) change.old change.new result }
 {
     let t = request_route::table_named(q);
-    if !state_tables::listed(change.words(), t) {
+    if !state_tables::listed(change.state.stored(), t) {
         return Err(Refusal::Errno(layout::NO_SUCH));
     }
     if request_route::bad_prefix(q) {
         return Err(Refusal::Errno(layout::INVALID));
     }
-    let routes = state::routes(change.words());
+    let routes = change.state.stored().routes();
     let Some(place) = request_select::select_route(routes, q) else {
         return Err(Refusal::Errno(layout::NO_SUCH));
     };
     let row = routes.rows[place];
     change.del_route4(&row);
-    state::remove_route(change.state, place);
+    change.state.remove_route(place);
     Ok(())
 }
 
@@ -60,7 +60,7 @@ fn prefsrc_check(
     }
     let own = request_prefsrc::prefsrc_table(t);
     let own_listed = state_tables::listed(s, own) | (own == t);
-    let routes = state::routes(s);
+    let routes = s.routes();
     if request_prefsrc::valid_prefsrc4(routes, q, own_listed, local) {
         return Ok(linked);
     }
@@ -77,23 +77,23 @@ fn check(s: &[u32], q: &AddRoute4) -> Result<bool, Refusal>
     let t = request_route::table_named(q);
     let local = state_tables::listed(s, layout::TABLE_LOCAL) | (layout::TABLE_LOCAL == t);
     let default = state_tables::listed(s, layout::TABLE_DEFAULT) | (layout::TABLE_DEFAULT == t);
-    let routes = state::routes(s);
+    let routes = s.routes();
     let linked = request_gateway::reach_check(routes, q, local, default)?;
     prefsrc_check(s, q, t, local, linked)
 }
 
 // The row is put in before its table is listed: where it has no room, nothing is written.
 fn add_checked(change: &mut Change<'_>, q: &AddRoute4, t: u32, linked: bool) -> Result<(), Refusal>
-    requires represents_fit { RepresentsFit change.old.state.now }
-    requires s_len_bound { length (list_table t (tables_of change.old.state.now)) ≤ 32 }
+    requires represents_fit { RepresentsFit change.old.state.words.now }
+    requires s_len_bound { length (list_table t (tables_of change.old.state.words.now)) ≤ 32 }
     requires fit { fit_route (asked_route q.now linked) ≡ true }
     requires in_bounds { 34 * (change.old.told + 1) ≤ length change.old.events.now }
-    ensures { (st : State) → Represents change.old.state.now st → fit_state st ≡ true → ComesWhole st (inserted_as (asked_route q.now linked) (insert4 (asked_route q.now linked) (nlm_flags q.now) st.routes) (create4 t st)) change.old change.new result }
+    ensures { (st : State) → Represents change.old.state.words.now st → fit_state st ≡ true → ComesWhole st (inserted_as (asked_route q.now linked) (insert4 (asked_route q.now linked) (nlm_flags q.now) st.routes) (create4 t st)) change.old change.new result }
 {
     let new = request_route::asked_route(q, linked);
-    match step_insert::insert4(change.state, &new, q[add_route4::REQUEST]) {
+    match step_insert::insert4(&mut change.state, &new, q[add_route4::REQUEST]) {
         Ok(told) => {
-            state_tables::list_table(change.state, t);
+            state_tables::list_table(&mut change.state, t);
             if let Some(flags) = told {
                 change.new_route4(&new, flags);
             }
@@ -102,7 +102,7 @@ fn add_checked(change: &mut Change<'_>, q: &AddRoute4, t: u32, linked: bool) -> 
         Err(refusal) => match refusal {
             Refusal::Full => Err(Refusal::Full),
             _ => {
-                state_tables::list_table(change.state, t);
+                state_tables::list_table(&mut change.state, t);
                 Err(refusal)
             }
         },
@@ -111,18 +111,18 @@ fn add_checked(change: &mut Change<'_>, q: &AddRoute4, t: u32, linked: bool) -> 
 
 // The table is listed whatever comes of it, unless a list has no room.
 pub fn add_route4(change: &mut Change<'_>, q: &AddRoute4) -> Result<(), Refusal>
-    requires represents_fit { RepresentsFit change.old.state.now }
+    requires represents_fit { RepresentsFit change.old.state.words.now }
     requires fit { fit_add_route4 q.now ≡ true }
     requires in_bounds { 34 * (change.old.told + 1) ≤ length change.old.events.now }
-    ensures { (st : State) → Represents change.old.state.now st → fit_state st ≡ true → ComesWhole st (add_route4 q.now st) change.old change.new result }
+    ensures { (st : State) → Represents change.old.state.words.now st → fit_state st ≡ true → ComesWhole st (add_route4 q.now st) change.old change.new result }
 {
     let t = request_route::table_named(q);
-    if TABLE_LIMIT < state_tables::tables_after(change.words(), t) {
+    if TABLE_LIMIT < state_tables::tables_after(change.state.stored(), t) {
         return Err(Refusal::Full);
     }
-    match check(change.words(), q) {
+    match check(change.state.stored(), q) {
         Err(refusal) => {
-            state_tables::list_table(change.state, t);
+            state_tables::list_table(&mut change.state, t);
             Err(refusal)
         }
         Ok(linked) => add_checked(change, q, t, linked),

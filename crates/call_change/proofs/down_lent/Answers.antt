@@ -11,19 +11,19 @@ use Rattle.call_change.proofs.down_lent.Goals as goal
 pub returns-in_err-checked : goal.returns-in_err-checked
 unfolding down_call
 returns-in_err-checked c =
-    answers-refused (semantics (Call.down c.args.room)) c.args.state.now c.args.events.now (c.checked.ensures.refuses 0 refl) c.in_err-checked.was c.from_residual.ensures.1
+    answers-refused (semantics (Call.down c.args.room)) c.args.state.words.now c.args.events.now (c.checked.ensures.refuses 0 refl) c.in_err-checked.was c.from_residual.ensures.1
 
 pub slice_bounds-down-end-2 : goal.slice_bounds-down-end-2
-slice_bounds-down-end-2 c = sym (lent (passed (semantics (Call.down c.args.room)).checks c.args.state.now (c.checked.ensures.refuses 0 refl) c.in_ok-checked.was))
+slice_bounds-down-end-2 c = sym (lent (passed (semantics (Call.down c.args.room)).checks c.args.state.words.now (c.checked.ensures.refuses 0 refl) c.in_ok-checked.was))
 
 pub down-requires : goal.down-requires
 down-requires c =
-    let p = passed (semantics (Call.down c.args.room)).checks c.args.state.now (c.checked.ensures.refuses 0 refl) c.in_ok-checked.was in
+    let p = passed (semantics (Call.down c.args.room)).checks c.args.state.words.now (c.checked.ensures.refuses 0 refl) c.in_ok-checked.was in
     valid p
 
 pub returns : goal.returns
 unfolding down_call
 returns c =
-    let p = passed (semantics (Call.down c.args.room)).checks c.args.state.now (c.checked.ensures.refuses 0 refl) c.in_ok-checked.was in
-    answers-passed (semantics (Call.down c.args.room)) c.args.state.now p
-    (down_answers c.args.state.now c.args.events.now p (c.down.ensures (state_of c.args.state.now) p.holds))
+    let p = passed (semantics (Call.down c.args.room)).checks c.args.state.words.now (c.checked.ensures.refuses 0 refl) c.in_ok-checked.was in
+    answers-passed (semantics (Call.down c.args.room)) c.args.state.words.now p
+    (down_answers c.args.state.words.now c.args.events.now p (c.down.ensures (state_of c.args.state.words.now) p.holds))

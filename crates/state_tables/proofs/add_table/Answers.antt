@@ -1,25 +1,41 @@
-use Rattle.std.proofs.Common.{arith, sym, ◌∙◌, length-set}
-use Rattle.state.specs.Represents.{sizes-valid}
+use Rattle.std.proofs.Common.{arith, sym, refl, ◌∙◌, length-set}
+use Rattle.definition.specs.State.{with_tables}
+use Rattle.definition.specs.Words.{decode}
+use Rattle.definition.specs.Reference.Insert.{add_table}
+use Rattle.state.specs.Represents.{sizes_of}
+use Rattle.state.specs.Stored.{represented, representing}
 use Rattle.state_tables.specs.Listed.{tables_of, add_there, add_new, length_new, length-listed}
 use Rattle.state_tables.proofs.add_table.Goals as goal
 
 pub returns-then-listed : goal.returns-then-listed
-returns-then-listed c = λ st h.
-    add_there h c.args.t (sym c.listed.ensures ∙ c.if-listed.true)
+returns-then-listed c =
+    record { holds = λ st h. add_there h c.args.t (sym (rw c.stored.ensures at c.listed.ensures) ∙ c.if-listed.true); place = refl }
 
-pub bounds-s-2 : goal.bounds-s-2
-bounds-s-2 c = omega (arith, sizes-valid c.requires.represents_some)
+pub bounds-words-2 : goal.bounds-words-2
+bounds-words-2 c = omega (arith, sizes_of (represented c.args.s.now.holds))
 
-pub bounds-s-wide : goal.bounds-s-wide
-bounds-s-wide c =
-    omega (arith, sizes-valid c.requires.represents_some, length-listed c.requires.represents_some.holds, length_new c.args.t (tables_of c.args.s.now) (sym c.listed.ensures ∙ c.if-listed.false), c.requires.s_len_bound)
+pub bounds-words-wide : goal.bounds-words-wide
+bounds-words-wide c =
+    let h = represented c.args.s.now.holds in
+    omega (arith, sizes_of h, length-listed h, length_new c.args.t (tables_of c.args.s.now.words.now) (sym (rw c.stored.ensures at c.listed.ensures) ∙ c.if-listed.false), c.requires)
 
-pub overflow_add-s-2 : goal.overflow_add-s-2
-overflow_add-s-2 c = omega (arith, sizes-valid c.requires.represents_some)
+pub overflow_add-words-2 : goal.overflow_add-words-2
+overflow_add-words-2 c = omega (arith, sizes_of (represented c.args.s.now.holds))
 
-pub bounds-s-2-2 : goal.bounds-s-2-2
-bounds-s-2-2 c = simp length-set (omega (arith, sizes-valid c.requires.represents_some))
+pub bounds-words-2-2 : goal.bounds-words-2-2
+bounds-words-2-2 c = simp length-set (omega (arith, sizes_of (represented c.args.s.now.holds)))
+
+pub invariant_of-s : goal.invariant_of-s
+invariant_of-s c =
+    let st = decode c.args.s.now.words.now in
+    record {
+      holds = representing {st = with_tables (add_table c.args.t st.tables) st}
+          (rw c.wide.ensures (add_new (represented c.args.s.now.holds) c.args.t (sym (rw c.stored.ensures at c.listed.ensures) ∙ c.if-listed.false) c.requires));
+    }
 
 pub returns : goal.returns
-returns c = λ st h.
-    rw c.wide.ensures (add_new h c.args.t (sym c.listed.ensures ∙ c.if-listed.false) c.requires.s_len_bound)
+returns c =
+    record {
+      holds = λ st h. rw c.wide.ensures (add_new h c.args.t (sym (rw c.stored.ensures at c.listed.ensures) ∙ c.if-listed.false) c.requires);
+      place = refl;
+    }

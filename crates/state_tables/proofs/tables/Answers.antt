@@ -1,18 +1,19 @@
 use Rattle.std.proofs.Common.{arith, ap, ◌∙◌}
 use Rattle.std.specs.Prelude.{ℕ, ◌≡◌, ◌+◌, ◌-◌, take, drop}
 use Rattle.lists.specs.Lists.{span}
-use Rattle.state.specs.Represents.{sizes-valid}
+use Rattle.state.specs.Represents.{sizes_of}
+use Rattle.state.specs.Stored.{represented}
 use Rattle.definition.specs.Words.{tables_at}
 use Rattle.state_tables.proofs.tables.Goals as goal
 
 pub bounds-s-2 : goal.bounds-s-2
-bounds-s-2 c = omega (arith, sizes-valid c.requires)
+bounds-s-2 c = omega (arith, sizes_of (represented c.args.s.holds))
 
 pub slice_bounds-result-end : goal.slice_bounds-result-end
-slice_bounds-result-end c = omega (arith, sizes-valid c.requires)
+slice_bounds-result-end c = omega (arith, sizes_of (represented c.args.s.holds))
 
 pub returns : goal.returns
 unfolding span
 returns c =
     let size : tables_at + c.wide-end.result - tables_at ≡ c.wide-end.result = omega arith in
-    ap (λ (m : ℕ). take m (drop tables_at c.args.s.now)) (size ∙ c.wide-end.ensures)
+    ap (λ (m : ℕ). take m (drop tables_at c.args.s.words.now)) (size ∙ c.wide-end.ensures)

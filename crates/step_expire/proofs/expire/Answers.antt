@@ -25,7 +25,7 @@ pub loop-i-smaller : goal.loop-i-smaller
 loop-i-smaller c =
     let n = c.address_count.ensures ∙ ap address_count c.words.ensures in
     let g = c.loop-i.invariant c.requires.state c.requires.fits in
-    next-less c.loop-i.i (address_count c.loop-i.change.state.now) (address_count c.iteration-i.new.change.state.now) c.iteration-i.result
+    next-less c.loop-i.i (address_count c.loop-i.change.state.words.now) (address_count c.iteration-i.new.change.state.words.now) c.iteration-i.result
     (omega (arith, c.loop-i-test.true)) (expiring_facts c.args.allowance.0 c.args.clock.0 c.loop-i.i g).1
     (expiring_fewer c.args.allowance.0 c.args.clock.0 c.loop-i.i g (omega (arith, c.loop-i-test.true)) c.iteration-i.ensures.emits) c.iteration-i.ensures.next
 

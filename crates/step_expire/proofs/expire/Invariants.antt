@@ -11,4 +11,4 @@ invariant-loop-i l = (st : State) → RoomFor potential st l.initial.change → 
 
 -- a removal begins again with an address less, and there are never more than 64
 abbrev pub decreases-loop-i : goal.decreases-loop-i
-decreases-loop-i l = 66 * address_count l.change.state.now - l.i
+decreases-loop-i l = 66 * address_count l.change.state.words.now - l.i

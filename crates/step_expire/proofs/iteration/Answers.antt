@@ -15,7 +15,7 @@ returns-then-due-clause-next c =
     let y = c.requires.some_room in
     let rows = c.addresses.ensures.rows y.state (rw c.words.ensures y.fits.holds) in
     let there = iteration-there c.requires.i_bound y.fits in
-    next-again c.args.i (address_count c.args.change.now.state.now) (address_count c.remove_v4.new.change.state.now)
+    next-again c.args.i (address_count c.args.change.now.state.words.now) (address_count c.remove_v4.new.change.state.words.now)
     (removal-fewer c.requires.i_bound y.fits (rw rows at (c.remove_v4.ensures y.state y.fits) there))
 
 pub returns-then-due-clause-emits : goal.returns-then-due-clause-emits
@@ -32,10 +32,10 @@ returns-clause-next c =
     let rows = c.addresses.ensures.rows y.state (rw c.words.ensures y.fits.holds) in
     elim c.if-deprecates.branch [
       | then-deprecates w ↦
-          next-on c.args.i (address_count c.args.change.now.state.now) (address_count c.if-deprecates.change.state.now)
+          next-on c.args.i (address_count c.args.change.now.state.words.now) (address_count c.if-deprecates.change.state.words.now)
           (rw w.change-is (omega (arith, marked-same c.requires.i_bound y.fits w.mark.new.change (rw rows at (w.mark.ensures.represents y.state y.fits.holds)))))
       | else-deprecates w ↦
-          next-on c.args.i (address_count c.args.change.now.state.now) (address_count c.if-deprecates.change.state.now) (rw w.change-is (omega arith))
+          next-on c.args.i (address_count c.args.change.now.state.words.now) (address_count c.if-deprecates.change.state.words.now) (rw w.change-is (omega arith))
     ]
 
 pub returns-clause-emits : goal.returns-clause-emits

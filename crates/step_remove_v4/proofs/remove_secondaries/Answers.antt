@@ -44,7 +44,7 @@ loop-j-preserved c =
     let n = c.address_count.ensures ∙ ap address_count c.words-in-loop-j.ensures in
     let i = c.loop-j.j + c.address_count.result - c.address_count-n.result in
     let g = c.loop-j.invariant st f in
-    let e : i + c.address_count-n.result ≡ c.loop-j.j + address_count c.loop-j.change.state.now = omega (arith, gone-facts c.args.a.now c.address_count-n.result c.loop-j.j g) in
+    let e : i + c.address_count-n.result ≡ c.loop-j.j + address_count c.loop-j.change.state.words.now = omega (arith, gone-facts c.args.a.now c.address_count-n.result c.loop-j.j g) in
     gone-next c.args.a.now c.address_count-n.result c.loop-j.j g c.loop-j-test.true i e c.gone_iteration.ensures
 
 pub returns : goal.returns
