@@ -10,17 +10,18 @@ ghost use Rattle.layout.specs.Address.{fit_address};
 ghost use Rattle.row_address.specs.Words.{row_of};
 ghost use Rattle.definition.specs.State.{State};
 ghost use Rattle.definition.specs.Step.{select4_call};
-ghost use Rattle.state.specs.Represents.{Represents, RepresentsSome};
+ghost use Rattle.state.specs.Represents.{Represents};
 ghost use Rattle.call_read.specs.Answer.{Says, optional, valuing};
 ghost use Rattle.call_records.specs.Call.{primary_of_call};
 ghost use Rattle.definition.specs.Reference.Addresses.{primary_of};
 ghost use Rattle.definition.specs.Reference.Source.{eligible, reaches, select4};
 ghost use Rattle.row_subnet.specs.OwnRoutes.{primary_for};
 
-use layout::{ADDRESS_LIMIT, ADDRESS_WORDS, AddressRow, BASE_WORDS};
+use layout::{ADDRESS_LIMIT, ADDRESS_WORDS, AddressRow};
 use refusal::Refusal;
 use row_address::V4;
 use rows::Addresses;
+use state::Stored;
 
 // A primary of the asked scope or a wider one (a smaller number is wider); nowhere counts as host.
 #[tactic(auto, unfolding(definition::specs::Reference::Source::eligible))]
@@ -102,21 +103,19 @@ fn room() -> [V4; ADDRESS_LIMIT] {
     [V4::from(&[0; ADDRESS_WORDS]); ADDRESS_LIMIT]
 }
 
-fn select4_in(s: &[u32], dst: Option<u32>, scope: u32) -> Option<u32>
-    requires { RepresentsSome s.now }
-    ensures { (st : State) → Represents s.now st → own result ≡ select4 st.addresses (own dst) scope }
+fn select4_in(s: Stored<'_>, dst: Option<u32>, scope: u32) -> Option<u32>
+    ensures { (st : State) → Represents s.entry.words.now st → own result ≡ select4 st.addresses (own dst) scope }
 {
     let mut room = room();
-    select4(records(state::addresses(s), &mut room), dst, scope)
+    select4(records(s.addresses(), &mut room), dst, scope)
 }
 
-fn primary_of_in(s: &[u32], row: &AddressRow) -> u32
-    requires represents_some { RepresentsSome s.now }
-    requires row_value { fit_address row.now ≡ true }
-    ensures { (st : State) → Represents s.now st → result ≡ primary_of st.addresses row.now }
+fn primary_of_in(s: Stored<'_>, row: &AddressRow) -> u32
+    requires { fit_address row.now ≡ true }
+    ensures { (st : State) → Represents s.entry.words.now st → result ≡ primary_of st.addresses row.now }
 {
     let mut room = room();
-    primary_of(records(state::addresses(s), &mut room), V4::from(row))
+    primary_of(records(s.addresses(), &mut room), V4::from(row))
 }
 
 // A row that could stand in a well-formed state, of any words.
@@ -139,20 +138,20 @@ pub fn select4_words(
 ) -> Result<Option<u32>, Refusal>
     ensures { Says optional (select4_call dst_present dst scope state.now).reply result }
 {
-    call_read::checked(
+    let (s, ()) = call_read::reading(
         state,
         true,
         true,
         request_fit::fit_select(dst_present, dst, scope),
     )?;
     let dst = (dst_present == 1).then_some(dst);
-    Ok(select4_in(&state[..BASE_WORDS], dst, scope))
+    Ok(select4_in(s, dst, scope))
 }
 
 // By the words of a state, the local address of the primary whose subnet an address is in, handed over as any row of words.
 pub fn primary_of_words(state: &[u32], row: &[u32]) -> Result<u32, Refusal>
     ensures { Says valuing (primary_of_call row.now state.now).reply result }
 {
-    let row = call_read::checked(state, true, true, handed(row))?;
-    Ok(primary_of_in(&state[..BASE_WORDS], row))
+    let (s, row) = call_read::reading(state, true, true, handed(row))?;
+    Ok(primary_of_in(s, row))
 }

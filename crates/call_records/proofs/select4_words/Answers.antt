@@ -3,30 +3,22 @@ use Rattle.std.proofs.Common.{sym, ap, ◌∙◌}
 use Rattle.definition.specs.Words.{state_of}
 use Rattle.definition.specs.Call as Call
 use Rattle.definition.specs.Step.{semantics, select4_call}
-use Rattle.call_read.specs.Laws.{lent, valid, passed, says-refused, says-passed, own-present, optional-answer}
+use Rattle.call_read.specs.Laws.{held, passed, says-refused, says-passed, own-present, optional-answer}
 use Rattle.std.proofs.Common.{ℕ}
 use Rattle.std.proofs.Math.Option.{Option}
 use Rattle.definition.specs.Reference.Source.{select4}
 use Rattle.call_records.proofs.select4_words.Goals as goal
 
-pub returns-in_err-checked : goal.returns-in_err-checked
+pub returns-in_err-s : goal.returns-in_err-s
 unfolding select4_call
-returns-in_err-checked c =
-    says-refused (semantics (Call.select4 c.args.dst_present c.args.dst c.args.scope)) c.args.state.now (c.checked.ensures.refuses _ c.fit_select.ensures) c.in_err-checked.was c.from_residual.ensures.1
-
-pub slice_bounds-select4_in-end : goal.slice_bounds-select4_in-end
-slice_bounds-select4_in-end c =
-    sym (lent (passed (semantics (Call.select4 c.args.dst_present c.args.dst c.args.scope)).checks c.args.state.now (c.checked.ensures.refuses _ c.fit_select.ensures) c.in_ok-checked.was))
-
-pub select4_in-requires : goal.select4_in-requires
-select4_in-requires c =
-    valid (passed (semantics (Call.select4 c.args.dst_present c.args.dst c.args.scope)).checks c.args.state.now (c.checked.ensures.refuses _ c.fit_select.ensures) c.in_ok-checked.was)
+returns-in_err-s c =
+    says-refused (semantics (Call.select4 c.args.dst_present c.args.dst c.args.scope)) c.args.state.now (c.reading.ensures.refuses _ c.fit_select.ensures) c.in_err-s.was c.from_residual.ensures.1
 
 pub returns : goal.returns
 unfolding select4_call
 returns c =
-    let p = passed (semantics (Call.select4 c.args.dst_present c.args.dst c.args.scope)).checks c.args.state.now (c.checked.ensures.refuses _ c.fit_select.ensures) c.in_ok-checked.was in
+    let p = passed (semantics (Call.select4 c.args.dst_present c.args.dst c.args.scope)).checks c.args.state.now (c.reading.ensures.refuses _ c.fit_select.ensures) c.in_ok-s.was in
     let st = state_of c.args.state.now in
     let dst = own-present c.args.dst_present c.args.dst c.then_some-dst.ensures in
     says-passed (semantics (Call.select4 c.args.dst_present c.args.dst c.args.scope)) c.args.state.now p
-    (optional-answer c.select4_in.result (c.select4_in.ensures st p.holds ∙ ap (λ (o : Option ℕ). select4 st.addresses o c.args.scope) dst))
+    (optional-answer c.select4_in.result (c.select4_in.ensures st (held p c.in_ok-s.ensures.passes.0) ∙ ap (λ (o : Option ℕ). select4 st.addresses o c.args.scope) dst))
