@@ -5,7 +5,7 @@ ghost use Rattle.std.specs.Prelude.{◌≡◌, true, ◌+◌, ◌*◌, ◌≤◌
 ghost use Rattle.lists.specs.Lists.{put};
 ghost use Rattle.endian.specs.Endian.{words_of};
 ghost use Rattle.refusal.specs.Refusal.{number_of};
-ghost use Rattle.definition.specs.Words.{base_size, state_size, decode, well_formed, formed};
+ghost use Rattle.definition.specs.Words.{state_size, decode, well_formed, formed};
 ghost use Rattle.definition.specs.Reference.Source.{dump4};
 ghost use Rattle.text.specs.Print.{render, refused_line};
 ghost use Rattle.text.specs.Wrote.{Appends};
@@ -13,17 +13,18 @@ ghost use Rattle.app_show.specs.Show.{shown};
 
 use layout::{BASE_WORDS, LISTING_BUFFER, ROUTE_WORDS, RouteRow, STATE_WORDS};
 use refusal::{Refusal, unless};
+use state::Stored;
 use std::io::Read;
 use text::Text;
 
 // The bytes of a state.
 const STATE_BYTES: usize = 4 * STATE_WORDS;
 
-// The rows of the listing of well-formed words, in lent words.
-fn listed<'a>(s: &[u32], listing: &'a mut [u32; LISTING_BUFFER]) -> &'a [RouteRow]
-    requires { (length s.now ≡ base_size) × (well_formed s.now ≡ true) }
+// The rows of the listing of a state, in lent words.
+fn listed<'a>(s: Stored<'_>, listing: &'a mut [u32; LISTING_BUFFER]) -> &'a [RouteRow]
+    requires { well_formed s.words.now ≡ true }
     ensures few { length result.now ≤ 256 }
-    ensures rows { result.now ≡ dump4 (decode s.now) }
+    ensures rows { result.now ≡ dump4 (decode s.entry.words.now) }
 {
     let n = state_read::list(s, listing);
     let (words, _) = listing.split_at(ROUTE_WORDS * n);
@@ -31,11 +32,11 @@ fn listed<'a>(s: &[u32], listing: &'a mut [u32; LISTING_BUFFER]) -> &'a [RouteRo
     rows
 }
 
-// The listing of well-formed words.
-fn show_listing(s: &[u32], text: &mut Text<'_>)
-    requires words { (length s.now ≡ base_size) × (well_formed s.now ≡ true) }
+// The listing of a state.
+fn show_listing(s: Stored<'_>, text: &mut Text<'_>)
+    requires formed { well_formed s.words.now ≡ true }
     requires room { text.old.len + 19220 ≤ length text.old.out.now }
-    ensures { Appends text.old (render (dump4 (decode s.now))) text.new }
+    ensures { Appends text.old (render (dump4 (decode s.entry.words.now))) text.new }
 {
     let mut listing = [0u32; LISTING_BUFFER];
     text.render(listed(s, &mut listing));
@@ -59,7 +60,10 @@ fn show_bytes(bytes: &[u8], text: &mut Text<'_>)
     ensures { Appends text.old (shown bytes.now) text.new }
 {
     match read_state(bytes) {
-        Ok(s) => show_listing(&s[..BASE_WORDS], text),
+        Ok(s) => {
+            let words = &s[..BASE_WORDS];
+            show_listing(Stored { words }, text)
+        }
         Err(refusal) => text.refused_line(refusal.number()),
     }
 }

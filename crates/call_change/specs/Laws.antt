@@ -12,7 +12,6 @@ use Rattle.definition.specs.Call.{numbers}
 use Rattle.definition.specs.Step.{Result, refuses, Checks, Semantics, checked, answered, result, roomy, outcome, perform, request_is, events_fit, event_room}
 use Rattle.definition.specs.Reference.Addresses.{Outcome, goes, refused}
 use Rattle.definition.proofs.Preservation.Step.{acted}
-use Rattle.state.specs.Represents.{RepresentsFit}
 use Rattle.call_read.specs.Laws.{Passed, call-refused, call-passed, exit, refuses_some}
 use Rattle.call_read.specs.Answer.{answer_by, valuing, refused_by}
 use Rattle.refusal.specs.declared.Refusal.{Refusal}
@@ -39,9 +38,6 @@ module _ (size : ℕ) (q : Row) (w : List ℕ) where
 -- what passed ones say of the buffer
 pub room : (size : ℕ) (q : Row) (lent : ℕ) → request_is size q && events_fit lent ≡ true → event_room ≤ lent
 room size q lent h = leb-true event_room lent (and_right (request_is size q) (events_fit lent) h)
-
-pub sound : {k : Checks} {w : List ℕ} → Passed k w → RepresentsFit (base w)
-sound {w = w} p = record { state = state_of w; holds = p.holds; fits = p.good.fits }
 
 -- ---- the answer to a result is the answer to an equal one
 pub answers_as : {x y : Result} {w' ev ev' : List ℕ} {r : Answer ℕ Refusal} → x ≡ y → Answers y w' ev ev' r → Answers x w' ev ev' r

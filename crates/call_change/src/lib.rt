@@ -2,15 +2,17 @@
 // changes nothing.
 #![tactic(auto)]
 
-ghost use Rattle.std.specs.Prelude.{◌≡◌, ◌≤◌, length};
+ghost use Rattle.std.specs.Prelude.{◌≡◌, ◌≤◌, true, length};
 ghost use Rattle.layout.specs.Event as Event;
 ghost use Rattle.definition.specs.Step.{event_room, up_call, down_call, add_v4_call, del_v4_call, expire_call, add_route4_call, del_route4_call};
+ghost use Rattle.state.specs.Represents.{represents};
 ghost use Rattle.call_change.specs.Answer.{Answers};
 ghost use Rattle.call_change.specs.Ran.{Takes, Ran};
 
 use layout::{AddRoute4, AddV4, BASE_WORDS, DelRoute4, DelV4, EVENT_BUFFER};
 use life::Nanoseconds;
 use refusal::Refusal;
+use state::StoredMut;
 use step_events::Change;
 
 // A step on the words that hold the state and the event buffer, and how many rows it told.
@@ -19,11 +21,12 @@ fn changed<F: FnOnce(&mut Change<'_>) -> Result<(), Refusal>>(
     events: &mut [u32],
     step: F,
 ) -> Result<usize, Refusal>
-    requires { Takes F.FnOnce step words.old events.old }
+    requires takes { Takes F.FnOnce step words.old events.old }
+    requires holds { represents words.old ≡ true }
     ensures { Ran F.FnOnce step words.old words.new events.old events.new result }
 {
     let mut change = Change {
-        state: words,
+        state: StoredMut { words },
         events,
         told: 0,
     };
@@ -55,7 +58,8 @@ pub fn down_lent(state: &mut [u32], room: usize, events: &mut [u32]) -> Result<u
     ensures { Answers (down_call room state.old) state.new events.old events.new result }
 {
     call_read::checked(state, EVENT_BUFFER <= room, true, Ok(()))?;
-    state_retain::down(&mut state[..BASE_WORDS]);
+    let words = &mut state[..BASE_WORDS];
+    state_retain::down(&mut StoredMut { words });
     Ok(0)
 }
 

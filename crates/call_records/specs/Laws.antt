@@ -1,9 +1,8 @@
 -- What is found among records is what the reference finds among their rows.
 -- Assumes nothing.
 use Rattle.std.specs.Prelude.{ℕ, ◌+◌, ◌<◌, ◌≡◌, ◌≢◌, refl, true, false, Bool, cond, ◌&&◌, List, []}
-use Rattle.std.specs.Prelude.{◌∷◌, ◌++◌, map, length, get_or, take, set, eqb, Option, Some, None, Ok, Err, MatchOption}
+use Rattle.std.specs.Prelude.{◌∷◌, ◌++◌, map, length, get_or, take, set, eqb, Option, Some, None, Err, MatchOption}
 use Rattle.std.specs.Prelude.{Result as Answer}
-use Rattle.std.specs.Bool.{then_some}
 use Rattle.std.proofs.Common.{arith, sym, ap, subst, ◌∙◌, add-one, take-suc, take-suc-set}
 use Rattle.std.proofs.lemmas.List.{map-append}
 use Rattle.std.proofs.Math.Option as Own
@@ -13,7 +12,7 @@ use Rattle.std.specs.Option.{option_map}
 use denote.Ref.{Bor}
 use Rattle.lists.specs.Lists.{Row, first}
 use Rattle.lists.specs.Library.{own, first_find}
-use Rattle.definition.specs.Reference.Source.{eligible, reaches, select4, present, local_of}
+use Rattle.definition.specs.Reference.Source.{eligible, reaches, select4, local_of}
 use Rattle.row_address.specs.declared.V4.{V4}
 use Rattle.row_address.specs.Words.{row_of}
 use Rattle.refusal.specs.declared.Refusal.{Refusal}
@@ -23,9 +22,7 @@ use Rattle.layout.specs.Address.{fit_address}
 use Rattle.lists.specs.Bools.{test-case}
 use Rattle.definition.specs.Preservation.Fit.{length-address}
 use Rattle.definition.specs.Words.{state_size, formed}
-use Rattle.definition.specs.Call.{optionally}
 use Rattle.definition.specs.Step.{checked}
-use Rattle.call_read.specs.Answer.{Says, optional}
 
 -- the first of the rows is the row of the first that is found
 pub find_map : {A B : Type 0} (f : A → B) (p : B → Bool) (l : List A) → find p (map f l) ≡ option_map f (find (λ a. p (f a)) l)

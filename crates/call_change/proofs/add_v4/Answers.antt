@@ -8,49 +8,47 @@ use Rattle.definition.specs.Call as Call
 use Rattle.definition.specs.Words.{state_of}
 use Rattle.call_read.specs.Laws.{passed, lent}
 use Rattle.definition.specs.Step.{add_v4_refusal, events_fit, semantics, add_v4_call}
-use Rattle.state.specs.Represents.{RepresentsFit}
-use Rattle.call_change.specs.Laws.{unsized, request-checked, long, answers-unsized, answers-refused, answers-passed, sound, room}
+use Rattle.call_change.specs.Laws.{unsized, request-checked, long, answers-unsized, answers-refused, answers-passed, room}
 use Rattle.call_change.specs.Steps.{ran-answers, taken}
 use Rattle.call_change.proofs.add_v4.Goals as goal
 
 pub returns-in_err-q : goal.returns-in_err-q
 unfolding add_v4_call
 returns-in_err-q c =
-    answers-unsized (semantics (Call.add_v4 c.args.q.now (length c.args.events.now) c.args.clock)) c.args.state.words.now c.args.events.now
-    (unsized add_v4_size c.args.q.now c.args.state.words.now (events_fit (length c.args.events.now)) (add_v4_refusal c.args.q.now) c.in_err-q.ensures.1) c.in_err-q.ensures.0 c.from_residual.ensures.1
+    answers-unsized (semantics (Call.add_v4 c.args.q.now (length c.args.events.now) c.args.clock)) c.args.state.now c.args.events.now
+    (unsized add_v4_size c.args.q.now c.args.state.now (events_fit (length c.args.events.now)) (add_v4_refusal c.args.q.now) c.in_err-q.ensures.1) c.in_err-q.ensures.0 c.from_residual.ensures.1
 
 pub returns-in_err-checked : goal.returns-in_err-checked
 unfolding add_v4_call
 returns-in_err-checked c =
-    answers-refused (semantics (Call.add_v4 c.args.q.now (length c.args.events.now) c.args.clock)) c.args.state.words.now c.args.events.now
-    (request-checked add_v4_size c.args.q.now c.args.state.words.now c.in_ok-q.ensures c.checked.result (events_fit (length c.args.events.now)) add_v4_refusal (c.checked.ensures.refuses _ (c.fit_add_v4-fit.ensures (long add_v4_size c.args.q.now c.args.state.words.now c.in_ok-q.ensures)))) c.in_err-checked.was c.from_residual-in_err-checked.ensures.1
+    answers-refused (semantics (Call.add_v4 c.args.q.now (length c.args.events.now) c.args.clock)) c.args.state.now c.args.events.now
+    (request-checked add_v4_size c.args.q.now c.args.state.now c.in_ok-q.ensures c.checked.result (events_fit (length c.args.events.now)) add_v4_refusal (c.checked.ensures.refuses _ (c.fit_add_v4-fit.ensures (long add_v4_size c.args.q.now c.args.state.now c.in_ok-q.ensures)))) c.in_err-checked.was c.from_residual-in_err-checked.ensures.1
 
 pub slice_bounds-changed-end-2 : goal.slice_bounds-changed-end-2
 slice_bounds-changed-end-2 c =
     let p =
-    passed (semantics (Call.add_v4 c.args.q.now (length c.args.events.now) c.args.clock)).checks c.args.state.words.now
-    (request-checked add_v4_size c.args.q.now c.args.state.words.now c.in_ok-q.ensures c.checked.result (events_fit (length c.args.events.now)) add_v4_refusal (c.checked.ensures.refuses _ (c.fit_add_v4-fit.ensures (long add_v4_size c.args.q.now c.args.state.words.now c.in_ok-q.ensures)))) c.in_ok-checked.was
+    passed (semantics (Call.add_v4 c.args.q.now (length c.args.events.now) c.args.clock)).checks c.args.state.now
+    (request-checked add_v4_size c.args.q.now c.args.state.now c.in_ok-q.ensures c.checked.result (events_fit (length c.args.events.now)) add_v4_refusal (c.checked.ensures.refuses _ (c.fit_add_v4-fit.ensures (long add_v4_size c.args.q.now c.args.state.now c.in_ok-q.ensures)))) c.in_ok-checked.was
     in
     sym (lent p)
 
-pub changed-requires : goal.changed-requires
-changed-requires c a h q e =
+pub changed-requires-clause-takes : goal.changed-requires-clause-takes
+changed-requires-clause-takes c a h q e =
     let p =
-    passed (semantics (Call.add_v4 c.args.q.now (length c.args.events.now) c.args.clock)).checks c.args.state.words.now
-    (request-checked add_v4_size c.args.q.now c.args.state.words.now c.in_ok-q.ensures c.checked.result (events_fit (length c.args.events.now)) add_v4_refusal (c.checked.ensures.refuses _ (c.fit_add_v4-fit.ensures (long add_v4_size c.args.q.now c.args.state.words.now c.in_ok-q.ensures)))) c.in_ok-checked.was
+    passed (semantics (Call.add_v4 c.args.q.now (length c.args.events.now) c.args.clock)).checks c.args.state.now
+    (request-checked add_v4_size c.args.q.now c.args.state.now c.in_ok-q.ensures c.checked.result (events_fit (length c.args.events.now)) add_v4_refusal (c.checked.ensures.refuses _ (c.fit_add_v4-fit.ensures (long add_v4_size c.args.q.now c.args.state.now c.in_ok-q.ensures)))) c.in_ok-checked.was
     in
-    let held : RepresentsFit a.state.words.now = rw h.words (sound p) in
     let room : 34 * (a.told + 5) ≤ length a.events.now = omega (arith, room add_v4_size c.args.q.now (length c.args.events.now) p.room, ap length h.buffer, h.none) in
     let fit = subst (λ (l : List ℕ). fit_add_v4 l ≡ true) (sym c.in_ok-q.ensures.0) (add_v4-refusal-passed c.args.q.now p.fit) in
-    search (rules, held, room, fit, e)
+    search (rules, room, fit, e)
 
 pub returns : goal.returns
 unfolding add_v4_call
 returns c =
     let p =
-    passed (semantics (Call.add_v4 c.args.q.now (length c.args.events.now) c.args.clock)).checks c.args.state.words.now
-    (request-checked add_v4_size c.args.q.now c.args.state.words.now c.in_ok-q.ensures c.checked.result (events_fit (length c.args.events.now)) add_v4_refusal (c.checked.ensures.refuses _ (c.fit_add_v4-fit.ensures (long add_v4_size c.args.q.now c.args.state.words.now c.in_ok-q.ensures)))) c.in_ok-checked.was
+    passed (semantics (Call.add_v4 c.args.q.now (length c.args.events.now) c.args.clock)).checks c.args.state.now
+    (request-checked add_v4_size c.args.q.now c.args.state.now c.in_ok-q.ensures c.checked.result (events_fit (length c.args.events.now)) add_v4_refusal (c.checked.ensures.refuses _ (c.fit_add_v4-fit.ensures (long add_v4_size c.args.q.now c.args.state.now c.in_ok-q.ensures)))) c.in_ok-checked.was
     in
-    answers-passed (semantics (Call.add_v4 c.args.q.now (length c.args.events.now) c.args.clock)) c.args.state.words.now p
-    (ran-answers (add_v4 c.args.q.now c.args.clock (state_of c.args.state.words.now)) p c.changed.ensures (add_v4-number c.args.q.now c.args.clock (state_of c.args.state.words.now))
-    (λ a b d h m. taken (λ q. add_v4 q c.args.clock (state_of c.args.state.words.now)) c.in_ok-q.ensures.0 (search (rules, m, h, p.holds, p.good.fits))))
+    answers-passed (semantics (Call.add_v4 c.args.q.now (length c.args.events.now) c.args.clock)) c.args.state.now p
+    (ran-answers (add_v4 c.args.q.now c.args.clock (state_of c.args.state.now)) p c.changed.ensures (add_v4-number c.args.q.now c.args.clock (state_of c.args.state.now))
+    (λ a b d h m. taken (λ q. add_v4 q c.args.clock (state_of c.args.state.now)) c.in_ok-q.ensures.0 (search (rules, m, h, p.holds, p.good.fits))))

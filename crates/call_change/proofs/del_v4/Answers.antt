@@ -16,40 +16,40 @@ use Rattle.call_change.proofs.del_v4.Goals as goal
 pub returns-in_err-q : goal.returns-in_err-q
 unfolding del_v4_call
 returns-in_err-q c =
-    answers-unsized (semantics (Call.del_v4 c.args.q.now (length c.args.events.now))) c.args.state.words.now c.args.events.now
-    (unsized del_v4_size c.args.q.now c.args.state.words.now (events_fit (length c.args.events.now)) (unless (fit_del_v4 c.args.q.now) 202) c.in_err-q.ensures.1) c.in_err-q.ensures.0 c.from_residual.ensures.1
+    answers-unsized (semantics (Call.del_v4 c.args.q.now (length c.args.events.now))) c.args.state.now c.args.events.now
+    (unsized del_v4_size c.args.q.now c.args.state.now (events_fit (length c.args.events.now)) (unless (fit_del_v4 c.args.q.now) 202) c.in_err-q.ensures.1) c.in_err-q.ensures.0 c.from_residual.ensures.1
 
 pub returns-in_err-checked : goal.returns-in_err-checked
 unfolding del_v4_call
 returns-in_err-checked c =
-    answers-refused (semantics (Call.del_v4 c.args.q.now (length c.args.events.now))) c.args.state.words.now c.args.events.now
-    (request-checked del_v4_size c.args.q.now c.args.state.words.now c.in_ok-q.ensures c.checked.result (events_fit (length c.args.events.now)) (λ q. unless (fit_del_v4 q) 202) (c.checked.ensures.refuses _ (c.fit_del_v4-fit.ensures (long del_v4_size c.args.q.now c.args.state.words.now c.in_ok-q.ensures)))) c.in_err-checked.was c.from_residual-in_err-checked.ensures.1
+    answers-refused (semantics (Call.del_v4 c.args.q.now (length c.args.events.now))) c.args.state.now c.args.events.now
+    (request-checked del_v4_size c.args.q.now c.args.state.now c.in_ok-q.ensures c.checked.result (events_fit (length c.args.events.now)) (λ q. unless (fit_del_v4 q) 202) (c.checked.ensures.refuses _ (c.fit_del_v4-fit.ensures (long del_v4_size c.args.q.now c.args.state.now c.in_ok-q.ensures)))) c.in_err-checked.was c.from_residual-in_err-checked.ensures.1
 
 pub slice_bounds-changed-end-2 : goal.slice_bounds-changed-end-2
 slice_bounds-changed-end-2 c =
     let p =
-    passed (semantics (Call.del_v4 c.args.q.now (length c.args.events.now))).checks c.args.state.words.now
-    (request-checked del_v4_size c.args.q.now c.args.state.words.now c.in_ok-q.ensures c.checked.result (events_fit (length c.args.events.now)) (λ q. unless (fit_del_v4 q) 202) (c.checked.ensures.refuses _ (c.fit_del_v4-fit.ensures (long del_v4_size c.args.q.now c.args.state.words.now c.in_ok-q.ensures)))) c.in_ok-checked.was
+    passed (semantics (Call.del_v4 c.args.q.now (length c.args.events.now))).checks c.args.state.now
+    (request-checked del_v4_size c.args.q.now c.args.state.now c.in_ok-q.ensures c.checked.result (events_fit (length c.args.events.now)) (λ q. unless (fit_del_v4 q) 202) (c.checked.ensures.refuses _ (c.fit_del_v4-fit.ensures (long del_v4_size c.args.q.now c.args.state.now c.in_ok-q.ensures)))) c.in_ok-checked.was
     in
     sym (lent p)
 
-pub changed-requires : goal.changed-requires
-changed-requires c a h q e =
+pub changed-requires-clause-takes : goal.changed-requires-clause-takes
+changed-requires-clause-takes c a h q e =
     let p =
-    passed (semantics (Call.del_v4 c.args.q.now (length c.args.events.now))).checks c.args.state.words.now
-    (request-checked del_v4_size c.args.q.now c.args.state.words.now c.in_ok-q.ensures c.checked.result (events_fit (length c.args.events.now)) (λ q. unless (fit_del_v4 q) 202) (c.checked.ensures.refuses _ (c.fit_del_v4-fit.ensures (long del_v4_size c.args.q.now c.args.state.words.now c.in_ok-q.ensures)))) c.in_ok-checked.was
+    passed (semantics (Call.del_v4 c.args.q.now (length c.args.events.now))).checks c.args.state.now
+    (request-checked del_v4_size c.args.q.now c.args.state.now c.in_ok-q.ensures c.checked.result (events_fit (length c.args.events.now)) (λ q. unless (fit_del_v4 q) 202) (c.checked.ensures.refuses _ (c.fit_del_v4-fit.ensures (long del_v4_size c.args.q.now c.args.state.now c.in_ok-q.ensures)))) c.in_ok-checked.was
     in
     let room = fitting p h (room del_v4_size c.args.q.now (length c.args.events.now) p.room) in
-    let some : SomeRoom potential a = record { state = state_of c.args.state.words.now; fits = room } in
+    let some : SomeRoom potential a = record { state = state_of c.args.state.now; fits = room } in
     search (rules, some, e)
 
 pub returns : goal.returns
 unfolding del_v4_call
 returns c =
     let p =
-    passed (semantics (Call.del_v4 c.args.q.now (length c.args.events.now))).checks c.args.state.words.now
-    (request-checked del_v4_size c.args.q.now c.args.state.words.now c.in_ok-q.ensures c.checked.result (events_fit (length c.args.events.now)) (λ q. unless (fit_del_v4 q) 202) (c.checked.ensures.refuses _ (c.fit_del_v4-fit.ensures (long del_v4_size c.args.q.now c.args.state.words.now c.in_ok-q.ensures)))) c.in_ok-checked.was
+    passed (semantics (Call.del_v4 c.args.q.now (length c.args.events.now))).checks c.args.state.now
+    (request-checked del_v4_size c.args.q.now c.args.state.now c.in_ok-q.ensures c.checked.result (events_fit (length c.args.events.now)) (λ q. unless (fit_del_v4 q) 202) (c.checked.ensures.refuses _ (c.fit_del_v4-fit.ensures (long del_v4_size c.args.q.now c.args.state.now c.in_ok-q.ensures)))) c.in_ok-checked.was
     in
-    answers-passed (semantics (Call.del_v4 c.args.q.now (length c.args.events.now))) c.args.state.words.now p
-    (ran-answers (del_v4 c.args.q.now (state_of c.args.state.words.now)) p c.changed.ensures (del_v4-number c.args.q.now (state_of c.args.state.words.now))
-    (λ a b d h m. taken (λ q. del_v4 q (state_of c.args.state.words.now)) c.in_ok-q.ensures.0 (search (rules, m, fitting p h (room del_v4_size c.args.q.now (length c.args.events.now) p.room)))))
+    answers-passed (semantics (Call.del_v4 c.args.q.now (length c.args.events.now))) c.args.state.now p
+    (ran-answers (del_v4 c.args.q.now (state_of c.args.state.now)) p c.changed.ensures (del_v4-number c.args.q.now (state_of c.args.state.now))
+    (λ a b d h m. taken (λ q. del_v4 q (state_of c.args.state.now)) c.in_ok-q.ensures.0 (search (rules, m, fitting p h (room del_v4_size c.args.q.now (length c.args.events.now) p.room)))))

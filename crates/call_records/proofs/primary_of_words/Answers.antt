@@ -1,5 +1,5 @@
 -- `call_records::primary_of_words` meets its contract.
-use Rattle.std.proofs.Common.{◌≡◌, sym, ap, ◌∙◌, rules}
+use Rattle.std.proofs.Common.{◌≡◌, ap, ◌∙◌, rules}
 use Rattle.definition.specs.Reference.Addresses.{primary_of}
 use Rattle.definition.specs.Words.{state_of}
 use Rattle.layout.specs.Address.{fit_address}

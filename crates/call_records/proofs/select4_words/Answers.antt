@@ -1,5 +1,5 @@
 -- `call_records::select4_words` meets its contract.
-use Rattle.std.proofs.Common.{sym, ap, ◌∙◌}
+use Rattle.std.proofs.Common.{ap, ◌∙◌}
 use Rattle.definition.specs.Words.{state_of}
 use Rattle.definition.specs.Call as Call
 use Rattle.definition.specs.Step.{semantics, select4_call}
