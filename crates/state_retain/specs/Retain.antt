@@ -35,7 +35,8 @@ Decides g f p = (r : Row) (b : Bool) → FnReturnsAt g f r b → b ≡ p r
 unfoldable pub remains : Bool → Row → Bool
 remains host r = not (eqb (device r) 1 && not (host && eqb (scope r) 254))
 
--- of the first i rows of the routes in w those that f let stay, j of them, stand in front
+-- of the first i rows of the routes in w those that f let stay, j of them, stand in front: the rows that pass where f decides p, and
+-- rows of some state whatever it answers
 pub record Keeping {F : Type 0} (g : Shared F (Bor Row × Unit {0}) Bool) (f : F) (rows : List Row) (w : List ℕ) (i j : ℕ) (s : List ℕ) : Type 0 where
   pub kept : List Row
   pub those : (p : Row → Bool) → Decides g f p → kept ≡ keep p (take i rows)
