@@ -14,7 +14,8 @@ pub overflow_add-i : goal.overflow_add-i
 overflow_add-i c =
     let n = c.address_count-n.ensures ∙ ap address_count c.stored.ensures in
     let m = c.address_count.ensures ∙ ap address_count c.stored-in-loop-j.ensures in
-    record { fits = omega (arith, gone-facts c.args.a.now c.address_count-n.result c.loop-j.j (c.loop-j.invariant c.requires.state c.requires.fits), (sizes_of (represented c.args.change.now.state.holds)).addresses) }
+    let most = (sizes_of (represented c.args.change.now.state.holds)).addresses in
+    record { fits = omega (arith, gone-facts c.args.a.now c.address_count-n.result c.loop-j.j (c.loop-j.invariant c.requires.state c.requires.fits), most) }
 
 pub overflow_sub-i : goal.overflow_sub-i
 overflow_sub-i c =
