@@ -14,7 +14,7 @@ use Rattle.definition.specs.Reference.Insert.{list_table, create4, insert4, inse
 use Rattle.definition.specs.Reference.Addresses.{goes}
 use Rattle.definition.specs.Preservation.Fit.{fit-state, state-fit}
 use Rattle.definition.specs.Preservation.Addresses.{create4-fit}
-use Rattle.state.specs.Represents.{Represents, RepresentsSome}
+use Rattle.state.specs.Represents.{Represents}
 use Rattle.state.specs.Change.{tables-at}
 use Rattle.state_tables.specs.Listed.{tables_of}
 use Rattle.refusal.specs.declared.Refusal.TheVariants.{Full}
@@ -112,7 +112,3 @@ kernel_add4-covered =
     go new (Insert.placed rows emitted) made h = h
     go new Insert.nothing made h = h
     go new (Insert.unplaced n) made h = h
-
--- the words hold some state still
-pub valid-created : {w : List ℕ} (t : ℕ) (st : State) → Represents w (create4 t st) → RepresentsSome w
-valid-created t st h = record { state = create4 t st; holds = h }
