@@ -4,7 +4,7 @@
 ghost use Rattle.std.specs.Prelude.{◌≡◌, true, ◌+◌, ◌*◌, ◌≤◌, length};
 ghost use Rattle.layout.specs.Route.{fit_route};
 ghost use Rattle.definition.specs.State.{State};
-ghost use Rattle.definition.specs.Words.{fit_state};
+ghost use Rattle.definition.specs.Words.{fit_state, address_count};
 ghost use Rattle.definition.specs.Reference.Insert.{kernel_add4};
 ghost use Rattle.definition.specs.Reference.Addresses.{goes};
 ghost use Rattle.state.specs.Represents.{Represents};
@@ -22,6 +22,7 @@ pub fn kernel_add4(change: &mut Change<'_>, new: &RouteRow) -> Result<(), Refusa
     requires value { fit_route new.now ≡ true }
     requires in_bounds { 34 * (change.old.told + 1) ≤ length change.old.events.now }
     ensures told { TellsAtMost 1 change.old change.new }
+    ensures addresses { address_count change.new.state.words.now ≡ address_count change.old.state.words.now }
     ensures comes { (st : State) → Represents change.old.state.words.now st → fit_state st ≡ true → Comes (goes (kernel_add4 new.now st)) change.old change.new result }
 {
     let table = new[route::TABLE];

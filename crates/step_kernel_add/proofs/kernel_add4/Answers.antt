@@ -1,11 +1,12 @@
-use Rattle.std.proofs.Common.{arith, refl, sym, ◌∙◌, ◌≡◌, Some, None, Ok, Err}
+use Rattle.std.proofs.Common.{arith, ap, refl, sym, ◌∙◌, ◌≡◌, Some, None, Ok, Err}
 use Rattle.refusal.specs.declared.Refusal.TheVariants.{Full}
 use Rattle.layout.specs.Route.{table}
+use Rattle.definition.specs.Words.{address_count}
 use Rattle.definition.specs.Preservation.Fit.{length-route}
 use Rattle.definition.specs.Reference.Insert.{create4}
 use Rattle.step_insert.specs.Plan.{Inserted}
 use Rattle.step_events.specs.Emits.{tells-none, tells-behind, tells-ahead}
-use Rattle.step_kernel_add.specs.Add.{created-fit, add_full_tables, add_put, add_none, add_full}
+use Rattle.step_kernel_add.specs.Add.{created-count, created-fit, add_full_tables, add_put, add_none, add_full}
 use Rattle.step_kernel_add.proofs.kernel_add4.Goals as goal
 
 pub returns-then-tables_after-gt-TABLE_LIMIT-clause-comes : goal.returns-then-tables_after-gt-TABLE_LIMIT-clause-comes
@@ -45,3 +46,15 @@ returns-in_default-clause-comes c =
     (λ flags e. let z : ◌≡◌ {A = Inserted} (Err c.in-Err.refusal) (Ok (Some flags)) = sym c.in-Err.is ∙ e in cc)
     (λ e. let z : ◌≡◌ {A = Inserted} (Err c.in-Err.refusal) (Err Full) = sym c.in-Err.is ∙ e in c.in_default.not-Full cc)
     refl (tells-behind (tells-none c.args.change.now) refl refl (c.insert4.ensures.place ∙ c.list_table.ensures.place) refl)
+
+pub returns-in-Ok-Some-clause-addresses : goal.returns-in-Ok-Some-clause-addresses
+returns-in-Ok-Some-clause-addresses c = ap address_count c.new_route4.ensures.state ∙ c.insert4.ensures.addresses ∙ created-count (table c.args.new.now) c.list_table.ensures
+
+pub returns-in-Ok-None-clause-addresses : goal.returns-in-Ok-None-clause-addresses
+returns-in-Ok-None-clause-addresses c = c.insert4.ensures.addresses ∙ created-count (table c.args.new.now) c.list_table.ensures
+
+pub returns-in-Full-clause-addresses : goal.returns-in-Full-clause-addresses
+returns-in-Full-clause-addresses c = c.insert4.ensures.addresses ∙ created-count (table c.args.new.now) c.list_table.ensures
+
+pub returns-in_default-clause-addresses : goal.returns-in_default-clause-addresses
+returns-in_default-clause-addresses c = c.insert4.ensures.addresses ∙ created-count (table c.args.new.now) c.list_table.ensures
