@@ -48,7 +48,9 @@ module _ {q : Row → Bool} {st : State} {a b : Change} {i : ℕ} (h : Represent
     next : (t : Bool) → q row ≡ t → keep q (take (i + 1) st.routes) ≡ keep q (take i st.routes) ++ cond t (row ∷ []) []
     next t f =
         let here : keep q (get_or st.routes i [] ∷ []) ≡ cond t (row ∷ []) [] = rw (← e, f) in
-        ap (keep q) (take_more st.routes i [] (omega (arith, count-routes h))) ∙ keep_append q (take i st.routes) (get_or st.routes i [] ∷ []) ∙ ap (λ (x : List Row). keep q (take i st.routes) ++ x) here
+        ap (keep q) (take_more st.routes i [] (omega (arith, count-routes h)))
+        ∙ keep_append q (take i st.routes) (get_or st.routes i [] ∷ [])
+        ∙ ap (λ (x : List Row). keep q (take i st.routes) ++ x) here
 
     pub sweeping_stays : q row ≡ false → Sweeping q st.routes (i + 1) a b
     sweeping_stays f = record { same = k.same; tells = rw (next false f, append-nil) k.tells }
