@@ -121,6 +121,6 @@ impl StoredMut<'_> {
         requires row_value { fit_route row.now ≡ true }
         ensures { Becomes (λ st. with_routes (set st.routes i row.now) st) self.old self.new }
     {
-        held::replace(self, i, row);
+        held::replace::<RouteRow>(self, i, row);
     }
 }

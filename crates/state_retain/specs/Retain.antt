@@ -1,130 +1,153 @@
 -- Rows retained in place, one after the other.
 -- Assumes nothing.
-use Rattle.std.specs.Prelude.{ℕ, ◌+◌, ◌-◌, ◌*◌, ◌≤◌, ◌<◌, ◌≡◌, refl, Bool, true, cond, ◌&&◌, eqb, length, get_or, take, drop, set}
-use Rattle.std.proofs.Common.{sym, ◌∙◌, mul-le-mul_left, add-one, arith, length-append, length-drop, drop_at, drop-drop, eq-eqb, ne_eqb}
-use Rattle.std.proofs.Math.Path.{ap}
-use Rattle.std.proofs.Math.Bool.{false, not, and-true, not-not}
-use mathlib.Core.List.{List, [], ◌∷◌, ◌++◌, append-nil}
-use Rattle.lists.specs.Lists.{Row, keep, flat, span, put, chop, zeros, pad}
-use Rattle.lists.specs.All.{all_keep}
+use Rattle.std.specs.Prelude.{ℕ, ◌+◌, ◌-◌, ◌*◌, ◌≤◌, ◌<◌, ◌≡◌, refl, Bool, true, false, cond, not, ◌&&◌, List, [], ◌∷◌, ◌++◌, eqb, length, get_or, take, drop, set}
+use Rattle.std.proofs.Common.{sym, ap, ◌∙◌, subst, arith, append-nil, length-append, drop-drop, take_all, eq-eqb, ne_eqb}
+use Rattle.std.proofs.Math.Bool.{and-true}
+use Rattle.std.proofs.lemmas.List.{take_more}
+use Rattle.std.specs.Fn.{Shared, FnReturnsAt}
+use Rattle.std.specs.Simd.{first_chunks}
+use denote.Ref.{Bor}
+use Rattle.lists.specs.Lists.{Row, all, keep, flat, span, put, zeros}
+use Rattle.lists.specs.Bools.{and_both}
+use Rattle.lists.specs.All.{all_append}
 use Rattle.lists.specs.Keep.{keep_append, keep_same}
-use Rattle.lists.specs.Count.{length-keep-most}
-use Rattle.lists.specs.Rows.{length-flat, length-chop, sized-chop, chop-pad, length-zeros, length-span}
+use Rattle.lists.specs.Rows.{length-flat, length-zeros, length-span}
 use Rattle.lists.specs.Put.{cut, put-behind, put-none, span-put-behind}
 use Rattle.lists.specs.At.{flat_append, flat_cons}
-use Rattle.std.specs.Simd.{first_chunks}
+use Rattle.lists.specs.Chop.{chop-at}
 use Rattle.rows.specs.Rows.{chunks-chop}
-use Rattle.lists.specs.Chop.{chop-more, chop-at}
-use Rattle.layout.specs.Route.{device, scope}
+use Rattle.layout.specs.Route.{fit_route, device, scope}
 use Rattle.definition.specs.State.{State, with_routes}
-use Rattle.definition.specs.Words.{route_count, base_size, routes_at, routes_size}
+use Rattle.definition.specs.Words.{route_count, base_size, routes_at}
 use Rattle.definition.specs.Reference.Addresses.{down}
 use Rattle.definition.specs.Reference.Removal.{disable}
-use Rattle.state.specs.Represents.{Represents, before_routes, encode-routes, sized_r, at_routes, count-routes, holds-long}
-use Rattle.state.specs.Change.{retain_routes}
+use Rattle.definition.specs.Preservation.Fit.{sized-routes}
+use Rattle.state.specs.Represents.{Represents, count-routes, holds-long}
+use Rattle.state.specs.Stored.{decode-held}
+use Rattle.state.specs.Change.{route-at, fit-route-at, retain_routes}
+
+-- f answers p of each row
+abbrev pub Decides : {F : Type 0} → Shared F (Bor Row × Unit {0}) Bool → F → (Row → Bool) → Type 0
+Decides g f p = (r : Row) (b : Bool) → FnReturnsAt g f r b → b ≡ p r
 
 -- a route remains that is not through the device; with host, one of host scope remains too
 unfoldable pub remains : Bool → Row → Bool
 remains host r = not (eqb (device r) 1 && not (host && eqb (scope r) 254))
 
--- ---- one row more
--- ---- rows of k words from base on, of which the first i have been looked at
-abbrev pub rows_of : ℕ → ℕ → List ℕ → ℕ → List Row
-rows_of base k w i = chop k i (drop base w)
+-- of the first i rows of the routes in w those that f let stay, j of them, stand in front: the rows that pass where f decides p, and
+-- rows of some state whatever it answers
+pub record Keeping {F : Type 0} (g : Shared F (Bor Row × Unit {0}) Bool) (f : F) (rows : List Row) (w : List ℕ) (i j : ℕ) (s : List ℕ) : Type 0 where
+  pub kept : List Row
+  pub those : (p : Row → Bool) → Decides g f p → kept ≡ keep p (take i rows)
+  pub fit : all fit_route kept ≡ true
+  pub count : j ≡ length kept
+  pub few : j ≤ i
+  pub words : s ≡ put routes_at (flat kept) w
+  pub long : length s ≡ base_size
 
-pub rows_next : (base k : ℕ) (w : List ℕ) (i : ℕ) → rows_of base k w (i + 1) ≡ rows_of base k w i ++ (span (base + k * i) k w ∷ [])
-unfolding span
-rows_next base k w i =
-    rw add-one
-    (chop-more k i (drop base w)
-    ∙ ap (λ (x : List ℕ). rows_of base k w i ++ (take k x ∷ [])) (drop-drop (k * i) base w))
+module _ {F : Type 0} {g : Shared F (Bor Row × Unit {0}) Bool} {f : F} {w : List ℕ} {st : State} (h : Represents w st) where
+  pub keeping_start : Keeping g f st.routes w 0 0 w
+  unfolding flat
+  keeping_start =
+      record {
+        kept = [];
+        those = λ p d. refl;
+        fit = refl;
+        count = refl;
+        few = omega arith;
+        words = put-none routes_at w;
+        long = holds-long h;
+      }
 
--- of those the ones that pass
-pub keep-next : (p : Row → Bool) (base k : ℕ) (w : List ℕ) (i : ℕ) → keep p (rows_of base k w (i + 1)) ≡ keep p (rows_of base k w i) ++ keep p (span (base + k * i) k w ∷ [])
-keep-next p base k w i = ap (keep p) (rows_next base k w i) ∙ keep_append p (rows_of base k w i) (span (base + k * i) k w ∷ [])
+  module _ {i j : ℕ} {s : List ℕ} (k : Keeping g f st.routes w i j s) where
+    wide : length (flat k.kept) ≡ 32 * j
+    wide = omega (arith, length-flat 32 k.kept (sized-routes k.kept k.fit), k.count)
 
-module _ (p : Row → Bool) (base k : ℕ) (w : List ℕ) (i : ℕ) (h : base + (k * i + k) ≤ length w) where
-  abbrev kept : List Row
-  kept = keep p (rows_of base k w i)
+    module _ (c : i < route_count w) where
+      b : i < length st.routes
+      b = omega (arith, count-routes h)
 
-  abbrev row : Row
-  row = span (base + k * i) k w
+      -- row i still stands
+      still : span (routes_at + 32 * i) 32 s ≡ get_or st.routes i []
+      still =
+          ap (span (routes_at + 32 * i) 32) k.words
+          ∙ span-put-behind routes_at (flat k.kept) w (omega (arith, wide, holds-long h, k.few, h.routes_within, b)) (routes_at + 32 * i) 32 (omega (arith, wide, k.few))
+          ∙ route-at h i b
 
-  length-kept : length (flat kept) ≡ k * length kept
-  length-kept =
-      length-flat k kept (all_keep (λ r. eqb (length r) k) p (rows_of base k w i) (sized-chop k i (drop base w) (rw length-drop (omega arith))))
+      more : (p : Row → Bool) → Decides g f p → (r : Bool) → FnReturnsAt g f (span (routes_at + 32 * i) 32 s) r
+          → keep p (take (i + 1) st.routes) ≡ keep p (take i st.routes) ++ cond r (get_or st.routes i [] ∷ []) []
+      more p d r a =
+          let row = get_or st.routes i [] in
+          let same : p row ≡ r = ap p (sym still) ∙ sym (d (span (routes_at + 32 * i) 32 s) r a) in
+          ap (keep p) (take_more st.routes i [] b) ∙ keep_append p (take i st.routes) (row ∷ []) ∙ ap (λ (x : Bool). keep p (take i st.routes) ++ cond x (row ∷ []) []) same
 
-  few : length kept ≤ i
-  few = rw (length-chop k i (drop base w)) at (length-keep-most p (rows_of base k w i))
+      pub row_goes : FnReturnsAt g f (span (routes_at + 32 * i) 32 s) false → Keeping g f st.routes w (i + 1) j s
+      row_goes a =
+          record {
+            kept = k.kept;
+            those = λ p d. k.those p d ∙ sym (more p d false a ∙ append-nil (keep p (take i st.routes)));
+            fit = k.fit;
+            count = k.count;
+            few = omega (arith, k.few);
+            words = k.words;
+            long = k.long;
+          }
 
-  room : k * length kept ≤ k * i
-  room = mul-le-mul_left k few
+      -- it becomes row j
+      pub row_stays : FnReturnsAt g f (span (routes_at + 32 * i) 32 s) true → {s' : List ℕ} {r : ℕ} → r ≡ j + 1 → length s' ≡ length s
+          → s' ≡ put (routes_at + 32 * j) (span (routes_at + 32 * i) 32 s) s → Keeping g f st.routes w (i + 1) r s'
+      row_stays a {s'} {r} q l e =
+          let row = get_or st.routes i [] in
+          let narrow : length row ≡ 32 = ap length (sym still) ∙ length-span (routes_at + 32 * i) 32 s (omega (arith, k.long, h.routes_within, b)) in
+          let joined : flat (k.kept ++ (row ∷ [])) ≡ flat k.kept ++ row = flat_append k.kept (row ∷ []) ∙ ap (λ (x : List ℕ). flat k.kept ++ x) (flat_cons row [] ∙ none-behind row) in
+          record {
+            kept = k.kept ++ (row ∷ []);
+            those = λ p d. ap (λ (x : List Row). x ++ (row ∷ [])) (k.those p d) ∙ sym (more p d true a);
+            fit = all_append fit_route k.kept (row ∷ []) k.fit (and_both (fit_route row) true (ap fit_route (sym (route-at h i b)) ∙ fit-route-at h i b) refl);
+            count = q ∙ ap (λ (n : ℕ). n + 1) k.count ∙ sym (length-append k.kept (row ∷ []));
+            few = omega (arith, k.few);
+            words =
+                e ∙ ap (λ (x : List ℕ). put (routes_at + 32 * j) x s) still ∙ ap (put (routes_at + 32 * j) row) k.words
+                ∙ ap (λ (n : ℕ). put (routes_at + n) row (put routes_at (flat k.kept) w)) (sym wide)
+                ∙ put-behind routes_at (flat k.kept) w (omega (arith, wide, holds-long h, k.few, h.routes_within, b)) row (omega (arith, wide, narrow, holds-long h, k.few, h.routes_within, b))
+                ∙ ap (λ (x : List ℕ). put routes_at x w) (sym joined);
+            long = l ∙ k.long;
+          }
+        where
+          none-behind : (r : Row) → r ++ flat [] ≡ r
+          none-behind r = unfold flat in append-nil r
 
-  -- the next row still stands
-  pub read_next : span (base + k * i) k (put base (flat kept) w) ≡ row
-  read_next = span-put-behind base (flat kept) w (omega (arith, length-kept, room)) (base + k * i) k (omega (arith, length-kept, room))
+  -- all looked at: zeros for those that went, and the count
+  module _ {n j : ℕ} {s s' : List ℕ} (k : Keeping g f st.routes w n j s) (e : n ≡ route_count w)
+      (a : s' ≡ set (put (routes_at + 32 * j) (zeros (32 * (n - j))) s) 1 j) where
+    pub keeping_end : Represents s' (with_routes k.kept st)
+    keeping_end =
+        let rows = k.kept in
+        let all : n ≡ length st.routes = e ∙ count-routes h in
+        let none = length-zeros (32 * (n - j)) in
+        let there : put (routes_at + 32 * j) (zeros (32 * (n - j))) s ≡ put routes_at (flat rows ++ zeros (32 * (n - j))) w =
+        ap (put (routes_at + 32 * j) (zeros (32 * (n - j)))) k.words
+        ∙ ap (λ (m : ℕ). put (routes_at + m) (zeros (32 * (n - j))) (put routes_at (flat rows) w)) (sym (wide k))
+        ∙ put-behind routes_at (flat rows) w (omega (arith, wide k, holds-long h, k.few, h.routes_within)) (zeros (32 * (n - j))) (omega (arith, wide k, none, holds-long h, k.few, h.routes_within))
+        in
+        rw (a, there, k.count) (retain_routes h rows (n - length rows) k.fit (omega (arith, k.few, k.count)))
 
-  then : (b : Bool) → keep p (row ∷ []) ≡ cond b (row ∷ []) []
-      → (cond b (put (base + k * length kept) row (put base (flat kept) w)) (put base (flat kept) w) ≡ put base (flat (kept ++ keep p (row ∷ []))) w)
-      × (length kept + cond b 1 0 ≡ length (kept ++ keep p (row ∷ [])))
-  then true e =
-      let wide : length row ≡ k = length-span (base + k * i) k w (omega arith) in (
-        rw e
-            (ap (λ (n : ℕ). put (base + n) row (put base (flat kept) w)) (sym length-kept)
-            ∙ put-behind base (flat kept) w (omega (arith, length-kept, room)) row (omega (arith, length-kept, room))
-            ∙ ap (λ (x : List ℕ). put base x w) (sym (flat_append kept (row ∷ []) ∙ ap (λ (x : List ℕ). flat kept ++ x) (flat_cons row [] ∙ none-behind)))),
-        rw e (sym (length-append kept (row ∷ []))),
-      )
-    where
-      none-behind : row ++ flat [] ≡ row
-      none-behind = unfold flat in append-nil row
-  then false e = (rw (e, append-nil), rw (e, append-nil) (omega arith))
+    pub keeping_all : (p : Row → Bool) → Decides g f p → (m : State) → Represents w m → Represents s' (with_routes (keep p m.routes) m)
+    keeping_all p d m q =
+        let all : k.kept ≡ keep p st.routes = k.those p d ∙ ap (keep p) (take_all n st.routes (omega (arith, count-routes h))) in
+        let same : st ≡ m = sym (decode-held h) ∙ decode-held q in
+        subst (λ (y : State). Represents s' (with_routes (keep p y.routes) y)) same (rw all at keeping_end)
 
-  pub step_words : cond (p row) (put (base + k * length kept) row (put base (flat kept) w)) (put base (flat kept) w) ≡ put base (flat (keep p (rows_of base k w (i + 1)))) w
-  step_words = (then (p row) refl).0 ∙ ap (λ (x : List Row). put base (flat x) w) (sym (keep-next p base k w i))
-
-  pub step_count : length kept + cond (p row) 1 0 ≡ length (keep p (rows_of base k w (i + 1)))
-  step_count = (then (p row) refl).1 ∙ ap (λ (x : List Row). length x) (sym (keep-next p base k w i))
-
--- ---- the routes
-pub routes_of : {w : List ℕ} {st : State} → Represents w st → rows_of routes_at 32 w (route_count w) ≡ st.routes
-routes_of {w} {st} h =
-    let there : drop routes_at w ≡ pad routes_size (flat st.routes) ++ pad 32 st.tables =
-    ap (drop routes_at) (h.words ∙ encode-routes st) ∙ drop_at (before_routes st) (pad routes_size (flat st.routes) ++ pad 32 st.tables) routes_at (at_routes h)
-    in
-    rw (count-routes h, there) (chop-pad routes_size 32 st.routes (pad 32 st.tables) (sized_r h))
-
--- the rows that remain, zeros for the others, and their count
-pub retained : {w : List ℕ} {st : State} (p : Row → Bool) → Represents w st
-    → Represents (set (put (routes_at + 32 * length (keep p (rows_of routes_at 32 w (route_count w)))) (zeros (32 * (route_count w - length (keep p (rows_of routes_at 32 w (route_count w)))))) (put routes_at (flat (keep p (rows_of routes_at 32 w (route_count w)))) w)) 1 (length (keep p (rows_of routes_at 32 w (route_count w)))))
-    (with_routes (keep p st.routes) st)
-retained {w} {st} p h =
-    let rows = keep p st.routes in
-    let n = length st.routes - length rows in
-    let some : length rows ≤ length st.routes = length-keep-most p st.routes in
-    let long : length (flat rows) ≡ 32 * length rows = length-flat 32 rows (all_keep (λ r. eqb (length r) 32) p st.routes (sized_r h)) in
-    let all : length w ≡ base_size = holds-long h in
-    let within : length st.routes ≤ 256 = h.routes_within in
-    let none = length-zeros (32 * n) in
-    rw (routes_of h, count-routes h)
-    (rw (← long) (rw (← (put-behind routes_at (flat rows) w (omega arith) (zeros (32 * n)) (omega arith))) at (retain_routes h p n (omega arith))))
-
--- ---- the test, by cases
-pub off-device : (host : Bool) (r : Row) → (device r ≡ 1 → ⊥) → true ≡ remains host r
-unfolding remains
-off-device host r h = sym (rw (ne_eqb (device r) 1 h))
-
-pub on-device : (host : Bool) (r : Row) → device r ≡ 1 → remains host r ≡ host && eqb (scope r) 254
-unfolding remains
-on-device host r h = rw (eq-eqb (device r) 1 h) (not-not (host && eqb (scope r) 254))
-
+-- ---- what remains
 pub is_down : (st : State) → with_routes (keep (remains true) st.routes) st ≡ (down st).state
 unfolding down remains
 is_down st = refl
 
 pub is-disable : (st : State) → length st.addresses ≡ 0 → with_routes (keep (remains false) st.routes) st ≡ (disable st).state
 unfolding disable
-is-disable st e = rw (eq-eqb (length st.addresses) 0 e) (ap (λ (l : List Row). with_routes l st) (keep_same (remains false) (λ r. not (eqb (device r) 1)) st.routes same))
+is-disable st e =
+    rw (eq-eqb (length st.addresses) 0 e)
+    (ap (λ (l : List Row). with_routes l st) (keep_same (remains false) (λ r. not (eqb (device r) 1)) st.routes same))
   where
     same : (r : Row) → remains false r ≡ not (eqb (device r) 1)
     same r = unfold remains in ap not (and-true (eqb (device r) 1))
@@ -133,7 +156,7 @@ pub no-disable : (st : State) → (length st.addresses ≡ 0 → ⊥) → st ≡
 unfolding disable
 no-disable st e = rw (ne_eqb (length st.addresses) 0 e)
 
--- ---- a pass over the routes
+-- ---- a row where it stands
 -- row i, cut from the words as rows
 pub cut-row : (w : List ℕ) (n i : ℕ) → i < n → get_or (first_chunks 32 n (drop routes_at w)) i [] ≡ span (routes_at + 32 * i) 32 w
 unfolding span
@@ -149,49 +172,3 @@ itself s {i} {j} e h =
     cut (routes_at + 32 * i) 32 s
     ∙ ap (λ (n : ℕ). take (routes_at + 32 * i) s ++ (span (routes_at + 32 * i) 32 s ++ drop (routes_at + 32 * i + n) s)) (sym long)
     ∙ ap (λ (n : ℕ). put (routes_at + 32 * n) (span (routes_at + 32 * i) 32 s) s) e
-
--- row i was looked at behind j that remain: where it passes it becomes row j, and r remain with it
-pub record Turned (p : Row → Bool) (i j : ℕ) (s s' : List ℕ) (r : ℕ) : Type 0 where
-  pub count : r ≡ j + cond (p (span (routes_at + 32 * i) 32 s)) 1 0
-  pub words : s' ≡ cond (p (span (routes_at + 32 * i) 32 s)) (put (routes_at + 32 * j) (span (routes_at + 32 * i) 32 s) s) s
-
-module _ (p : Row → Bool) (i j : ℕ) (s : List ℕ) where
-  pub turned-stays : p (span (routes_at + 32 * i) 32 s) ≡ true → {s' : List ℕ} {r : ℕ} → r ≡ j + 1 → s' ≡ put (routes_at + 32 * j) (span (routes_at + 32 * i) 32 s) s → Turned p i j s s' r
-  turned-stays e c w = record { count = c ∙ sym (rw e); words = w ∙ sym (rw e) }
-
-  pub turned-goes : p (span (routes_at + 32 * i) 32 s) ≡ false → Turned p i j s s j
-  turned-goes e = record { count = rw e (omega arith); words = sym (rw e) }
-
--- of the first i routes of w those that pass, j of them, stand in front
-pub record Keeping (p : Row → Bool) (w : List ℕ) (i j : ℕ) (s : List ℕ) : Type 0 where
-  pub whole : length w ≡ base_size
-  pub count : j ≡ length (keep p (rows_of routes_at 32 w i))
-  pub words : s ≡ put routes_at (flat (keep p (rows_of routes_at 32 w i))) w
-  pub long : length s ≡ base_size
-
-pub keeping_start : (p : Row → Bool) (w : List ℕ) → length w ≡ base_size → Keeping p w 0 0 w
-unfolding flat chop
-keeping_start p w h = record { whole = h; count = refl; words = put-none routes_at w; long = h }
-
-module _ {p : Row → Bool} {w : List ℕ} {i j : ℕ} {s : List ℕ} (k : Keeping p w i j s) where
-  pub keeping_few : j ≤ i
-  keeping_few = omega (arith, k.count, length-chop 32 i (drop routes_at w), length-keep-most p (rows_of routes_at 32 w i))
-
-  -- row i still stands
-  pub keeping_row : i < 256 → span (routes_at + 32 * i) 32 s ≡ span (routes_at + 32 * i) 32 w
-  keeping_row b = ap (span (routes_at + 32 * i) 32) k.words ∙ read_next p routes_at 32 w i (omega (arith, k.whole))
-
-  pub keeping_iteration : i < 256 → {s' : List ℕ} {r : ℕ} → length s' ≡ length s → Turned p i j s s' r → Keeping p w (i + 1) r s'
-  keeping_iteration b l t =
-      let room : routes_at + (32 * i + 32) ≤ length w = omega (arith, k.whole) in
-      let row = keeping_row b in
-      record {
-        whole = k.whole;
-        count = t.count ∙ rw (row, k.count) (step_count p routes_at 32 w i room);
-        words = t.words ∙ rw (row, k.count, k.words) (step_words p routes_at 32 w i room);
-        long = l ∙ k.long;
-      }
-
-  -- zeros behind them, and their count
-  pub keeping_end : {st : State} → Represents w st → i ≡ route_count w → Represents (set (put (routes_at + 32 * j) (zeros (32 * (i - j))) s) 1 j) (with_routes (keep p st.routes) st)
-  keeping_end h e = rw (k.words, k.count, e) (retained p h)

@@ -1,27 +1,24 @@
 -- The routes that every address has, brought in the addresses' order.
 -- Assumes nothing.
 use Rattle.std.specs.Prelude.{ℕ, Ok, Err, ◌+◌, ◌≤◌, ◌<◌, ◌≡◌, true, List, [], length, get_or, take}
-use Rattle.std.proofs.Common.{arith, sym, ap, subst, ◌∙◌}
+use Rattle.std.proofs.Common.{arith, subst}
 use Rattle.lists.specs.Lists.{Row, all}
 use Rattle.lists.specs.At.{all_take}
 use Rattle.layout.specs.Address.{fit_address}
-use Rattle.layout.specs.Route.{fit_route}
 use Rattle.definition.specs.State.{State, Out, through}
 use Rattle.definition.specs.Words.{fit_state, address_count}
 use Rattle.definition.specs.Reference.Insert.{kernel_add4}
 use Rattle.definition.specs.Reference.Addresses.{goes, candidates, install, add_v4, out_of, loopback, up}
-use Rattle.definition.specs.Preservation.Fit.{fields_address}
 use Rattle.definition.specs.Preservation.Keeps.{Keeps, through_keeps, keeps_fit}
-use Rattle.definition.specs.Preservation.Rows.{candidates-fit}
+use Rattle.step_new_address.specs.New.{routes-fit}
 use Rattle.definition.specs.Preservation.Addresses.{install_keeps}
-use Rattle.definition.specs.Preservation.Growing as Growing
 use Rattle.refusal.specs.declared.Refusal.{Refusal}
-use Rattle.state.specs.Represents.{Represents, count-addresses, RepresentsFit}
+use Rattle.state.specs.Represents.{Represents, count-addresses}
 use Rattle.step_events.specs.Comes.{Answer, Comes, holds-within, comes-ok, adds-also, adds-stop}
 use Rattle.step_events.specs.Through.{Covered, covered-through, adds-start, adds-next, adds-other-end, adds-end}
 use Rattle.step_events.specs.declared.change.Change.{Change}
 use Rattle.step_kernel_add.specs.Add.{kernel_add4-covered}
-use Rattle.step_new_address.specs.Adding.{AddsFrom, Leaves, adds-sound, through-leaves, kernel_add4-leaves}
+use Rattle.step_new_address.specs.Adding.{AddsFrom, Leaves, through-leaves, kernel_add4-leaves}
 use Rattle.step_add_v4.specs.Added.{loopback_keeps}
 
 -- what one address brings, with the addresses that are there
@@ -42,11 +39,8 @@ iteration-leaves : (l : List Row) (a : Row) → Leaves (iteration l a)
 unfolding install
 iteration-leaves l a = through-leaves kernel_add4 (candidates l true a) kernel_add4-leaves
 
-pub iteration-fit : (l : List Row) (a : Row) → fit_address a ≡ true → all fit_route (candidates l true a) ≡ true
-iteration-fit l a h = candidates-fit l true a (fields_address a h).short
-
 turns-keep : (l m : List Row) → all fit_address m ≡ true → Keeps (through (iteration l) m)
-turns-keep l m h = through_keeps (iteration l) fit_address m (λ a f. install_keeps (candidates l true a) (iteration-fit l a f)) h
+turns-keep l m h = through_keeps (iteration l) fit_address m (λ a f. install_keeps (candidates l true a) (routes-fit l true a f)) h
 
 -- ---- the first i addresses' routes are brought
 abbrev pub first_turns : ℕ → State → Out
@@ -71,30 +65,6 @@ module _ {i : ℕ} {a b : Change} (s : Brought i a b) where
 
     later_same : later.addresses ≡ st.addresses
     later_same = (through-leaves (iteration st.addresses) (take i st.addresses) (iteration-leaves st.addresses)).same st
-
-  module _ (v : RepresentsFit a.state.words.now) where
-    pub turns-sound : RepresentsFit b.state.words.now
-    turns-sound =
-        record {
-          state = later v.state v.holds v.fits;
-          holds = later-holds v.state v.holds v.fits;
-          fits = later-fit v.state v.holds v.fits;
-        }
-
-    -- each row told is one more in a list
-    pub turns-few : b.told ≤ a.told + 320
-    turns-few =
-        let d = (comes-ok (s.adds v.state v.holds v.fits)).1 in
-        let g = (Growing.through-adds (iteration v.state.addresses) (take i v.state.addresses) (λ x y. Growing.install-adds (candidates v.state.addresses true x) y) v.state).grown in
-        let k = later-holds v.state v.holds v.fits in
-        omega (arith, d.tells.told, g, k.addresses_within, k.routes_within)
-
-    pub turns-long : length b.events.now ≡ length a.events.now
-    turns-long = (comes-ok (s.adds v.state v.holds v.fits)).1.tells.long
-
-    pub turns-count : address_count b.state.words.now ≡ address_count a.state.words.now
-    turns-count =
-        count-addresses (later-holds v.state v.holds v.fits) ∙ ap length (later_same v.state v.holds v.fits) ∙ sym (count-addresses v.holds)
 
   pub turns-next : i < address_count a.state.words.now → {c : Change} {r : Answer} → AddsFrom (turn_at i) b c r → AddsFrom (first_turns (i + 1)) a c r
   turns-next n {c} {r} u st h f =
@@ -121,9 +91,6 @@ module _ (clock : ℕ) {a b : Change} {r : Answer} (s : AddsFrom (λ st. out_of 
   module _ (q : r ≡ Ok tt) where
     came : AddsFrom (λ st. out_of (add_v4 loopback clock st)) a b (Ok tt)
     came = rw q at s
-
-    pub up-sound : RepresentsFit a.state.words.now → RepresentsFit b.state.words.now
-    up-sound v = adds-sound (λ st. out_of (add_v4 loopback clock st)) came (loopback_keeps clock) v
 
     pub up_done : {c : Change} {t : Answer} → AddsFrom every b c t → AddsFrom (up clock) a c t
     unfolding up

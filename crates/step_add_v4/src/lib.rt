@@ -7,8 +7,9 @@ ghost use Rattle.definition.specs.State.{State};
 ghost use Rattle.definition.specs.Step.{event_limit};
 ghost use Rattle.definition.specs.Words.{fit_state, address_count};
 ghost use Rattle.definition.specs.Reference.Addresses.{add_v4, up};
-ghost use Rattle.state.specs.Represents.{Represents, RepresentsFit};
+ghost use Rattle.state.specs.Represents.{Represents};
 ghost use Rattle.step_events.specs.Comes.{Comes};
+ghost use Rattle.step_events.specs.Tells.{TellsAtMost};
 ghost use Rattle.step_new_address.specs.Adding.{AddsFrom};
 ghost use Rattle.step_add_v4.specs.Added.{step_of};
 ghost use Rattle.step_add_v4.specs.Every.{every, turn_at};
@@ -31,10 +32,9 @@ fn step_of(came: Result<(), Refusal>) -> Result<(), Refusal>
 
 // A requested address put in, or the one that is there changed, where the request says so.
 pub fn add_v4(change: &mut Change<'_>, q: &AddV4, clock: Nanoseconds) -> Result<(), Refusal>
-    requires represents_fit { RepresentsFit change.old.state.words.now }
     requires q_fit { fit_add_v4 q.now ≡ true }
     requires in_bounds { 34 * (change.old.told + 5) ≤ length change.old.events.now }
-    ensures told { change.new.told ≤ change.old.told + 5 }
+    ensures told { TellsAtMost 5 change.old change.new }
     ensures comes { (st : State) → Represents change.old.state.words.now st → fit_state st ≡ true → Comes (add_v4 q.now clock.0 st) change.old change.new result }
 {
     let there = change.state.stored().addresses();
@@ -50,10 +50,10 @@ pub fn add_v4(change: &mut Change<'_>, q: &AddV4, clock: Nanoseconds) -> Result<
 
 // The routes of address i.
 fn install_at(change: &mut Change<'_>, i: usize) -> Result<(), Refusal>
-    requires represents_fit { RepresentsFit change.old.state.words.now }
     requires i_bound { i < address_count change.old.state.words.now }
     requires in_bounds { 34 * (change.old.told + 4) ≤ length change.old.events.now }
-    ensures told { change.new.told ≤ change.old.told + 4 }
+    ensures told { TellsAtMost 4 change.old change.new }
+    ensures addresses { address_count change.new.state.words.now ≡ address_count change.old.state.words.now }
     ensures adds_from { AddsFrom (turn_at i) change.old change.new result }
 {
     let addresses = change.state.stored().addresses();
@@ -69,9 +69,8 @@ fn install_at(change: &mut Change<'_>, i: usize) -> Result<(), Refusal>
 // The routes of every address, in order. Out of line, so that its routes don't stand on the stack of `up` while an address is added.
 #[inline(never)]
 fn install_all(change: &mut Change<'_>) -> Result<(), Refusal>
-    requires represents_fit { RepresentsFit change.old.state.words.now }
     requires in_bounds { 34 * (change.old.told + 324) ≤ length change.old.events.now }
-    ensures told { OnOk result (change.new.told ≤ change.old.told + 320) }
+    ensures told { OnOk result (TellsAtMost 320 change.old change.new) }
     ensures adds_from { AddsFrom every change.old change.new result }
 {
     let n = change.state.stored().addresses().rows.len();
@@ -83,9 +82,8 @@ fn install_all(change: &mut Change<'_>) -> Result<(), Refusal>
 
 // 127.0.0.1 if it isn't there, with its routes; then the routes that every address has.
 pub fn up(change: &mut Change<'_>, clock: Nanoseconds) -> Result<(), Refusal>
-    requires represents_fit { RepresentsFit change.old.state.words.now }
     requires in_bounds { 34 * (change.old.told + event_limit) ≤ length change.old.events.now }
-    ensures told { OnOk result (change.new.told ≤ change.old.told + 325) }
+    ensures told { OnOk result (TellsAtMost 325 change.old change.new) }
     ensures adds_from { AddsFrom (up clock.0) change.old change.new result }
 {
     let forever = Lifetimes::FOREVER;

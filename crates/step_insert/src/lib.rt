@@ -6,9 +6,9 @@ ghost use Rattle.std.specs.Int.Bits.{bit_and};
 ghost use Rattle.std.specs.Ordering.{is_lt, is_eq};
 ghost use Rattle.layout.specs.Route.{fit_route};
 ghost use Rattle.definition.specs.State.{State};
-ghost use Rattle.definition.specs.Words.{ordered, fit_state};
+ghost use Rattle.definition.specs.Words.{ordered, fit_state, address_count};
 ghost use Rattle.definition.specs.Reference.Insert.{insert4};
-ghost use Rattle.state.specs.Represents.{Represents, RepresentsSome};
+ghost use Rattle.state.specs.Represents.{Represents};
 ghost use Rattle.step_insert.specs.Search.{in_front, in_run, run_start, run_end, rows_read};
 ghost use Rattle.step_insert.specs.Run.{Run};
 ghost use Rattle.step_insert.specs.Plan.{planned, placed, created, replacing, among, InsertedInto};
@@ -16,6 +16,7 @@ ghost use Rattle.step_insert.specs.Plan.{planned, placed, created, replacing, am
 use layout::{ROUTE_LIMIT, RouteRow, route};
 use refusal::Refusal;
 use rows::Routes;
+use state::StoredMut;
 use std::cmp::Ordering;
 
 // A row against the run: in front of it, in it, or behind. The only reader of rows in the search for the run: a word of a row to
@@ -182,14 +183,15 @@ fn plan4(routes: Routes<'_>, new: &RouteRow, flags: u32) -> Result<Option<Placem
 
 // A route put into its place, the rows as the definition has them: the flags to tell of it, none where it is there already. A full
 // list stays as it is.
-pub fn insert4(s: &mut [u32], new: &RouteRow, flags: u32) -> Result<Option<u32>, Refusal>
-    requires represents_some { RepresentsSome s.old }
-    requires value { fit_route new.now ≡ true }
-    ensures represents_some_2 { RepresentsSome s.new }
-    ensures inserted_into { (st : State) → Represents s.old st → fit_state st ≡ true → InsertedInto new.now flags st s.new result }
+pub fn insert4(s: &mut StoredMut<'_>, new: &RouteRow, flags: u32) -> Result<Option<u32>, Refusal>
+    requires { fit_route new.now ≡ true }
+    ensures inserted_into { (st : State) → Represents s.old.words.now st → fit_state st ≡ true → InsertedInto new.now flags st s.new.words.now result }
+    ensures addresses { address_count s.new.words.now ≡ address_count s.old.words.now }
+    ensures place { s.new.words.ghost_name ≡ s.old.words.ghost_name }
 {
-    let n = s.route_count();
-    match plan4(s.routes(), new, flags)? {
+    let routes = s.stored().routes();
+    let n = routes.rows.len();
+    match plan4(routes, new, flags)? {
         Some(Placement::Add(place, emitted)) => {
             if n == ROUTE_LIMIT {
                 return Err(Refusal::Full);

@@ -8,17 +8,19 @@ use Rattle.lists.specs.Bools.{test-case}
 use Rattle.layout.specs.Route.{table}
 use Rattle.layout.specs.Event.{new_route4}
 use Rattle.definition.specs.State.{State, sizes, with_routes}
-use Rattle.definition.specs.Words.{within, fit_state}
+use Rattle.definition.specs.Words.{decode, within, fit_state, address_count}
 use Rattle.definition.specs.Reference.Insert as Insert
 use Rattle.definition.specs.Reference.Insert.{list_table, create4, insert4, inserted, kernel_add4}
 use Rattle.definition.specs.Reference.Addresses.{goes}
 use Rattle.definition.specs.Preservation.Fit.{fit-state, state-fit}
 use Rattle.definition.specs.Preservation.Addresses.{create4-fit}
-use Rattle.state.specs.Represents.{Represents, RepresentsSome}
+use Rattle.state.specs.Represents.{Represents}
 use Rattle.state.specs.Change.{tables-at}
+use Rattle.state.specs.Stored.{Becomes, represented}
+use Rattle.state.specs.declared.stored.StoredMut.{StoredMut}
 use Rattle.state_tables.specs.Listed.{tables_of}
 use Rattle.refusal.specs.declared.Refusal.TheVariants.{Full}
-use Rattle.step_insert.specs.Plan.{Inserted, answer_of, rows_after, InsertedInto}
+use Rattle.step_insert.specs.Plan.{Inserted, answer_of, rows_after, InsertedInto, count-stays}
 use Rattle.step_events.specs.Row.{new_route-long}
 use Rattle.step_events.specs.Tells.{Tells}
 use Rattle.step_events.specs.Emits.{does-one}
@@ -38,6 +40,11 @@ routes-pass false b c h = refl
 
 pub created-fit : (t : ℕ) (st : State) → fit_state st ≡ true → fit_state (create4 t st) ≡ true
 created-fit t st h = state-fit (create4 t st) (create4-fit t st (fit-state st h))
+
+-- a table listed leaves the addresses
+pub created-count : (t : ℕ) {a b : StoredMut} → Becomes (create4 t) a b → address_count b.words.now ≡ address_count a.words.now
+unfolding create4
+created-count t {a} k = let h = represented a.holds in count-stays h (k.holds (decode a.words.now) h) refl
 
 -- ---- by what came of the insertion into the state with the table listed
 module _ (new : Row) (made : State) where
@@ -112,7 +119,3 @@ kernel_add4-covered =
     go new (Insert.placed rows emitted) made h = h
     go new Insert.nothing made h = h
     go new (Insert.unplaced n) made h = h
-
--- the words hold some state still
-pub valid-created : {w : List ℕ} (t : ℕ) (st : State) → Represents w (create4 t st) → RepresentsSome w
-valid-created t st h = record { state = create4 t st; holds = h }

@@ -4,11 +4,12 @@
 ghost use Rattle.std.specs.Prelude.{◌≡◌, true, ◌+◌, ◌*◌, ◌≤◌, length};
 ghost use Rattle.layout.specs.Route.{fit_route};
 ghost use Rattle.definition.specs.State.{State};
-ghost use Rattle.definition.specs.Words.{fit_state};
+ghost use Rattle.definition.specs.Words.{fit_state, address_count};
 ghost use Rattle.definition.specs.Reference.Insert.{kernel_add4};
 ghost use Rattle.definition.specs.Reference.Addresses.{goes};
-ghost use Rattle.state.specs.Represents.{Represents, RepresentsSome};
+ghost use Rattle.state.specs.Represents.{Represents};
 ghost use Rattle.step_events.specs.Comes.{Comes};
+ghost use Rattle.step_events.specs.Tells.{TellsAtMost};
 
 use layout::{RouteRow, TABLE_LIMIT, route};
 use refusal::Refusal;
@@ -18,11 +19,10 @@ const CREATE_APPEND: u32 = 0xc00;
 
 // Its table is listed, and it is put behind the rows alike it and told, unless it is there.
 pub fn kernel_add4(change: &mut Change<'_>, new: &RouteRow) -> Result<(), Refusal>
-    requires represents_some { RepresentsSome change.old.state.words.now }
     requires value { fit_route new.now ≡ true }
     requires in_bounds { 34 * (change.old.told + 1) ≤ length change.old.events.now }
-    ensures represents_some_2 { RepresentsSome change.new.state.words.now }
-    ensures told { change.new.told ≤ change.old.told + 1 }
+    ensures told { TellsAtMost 1 change.old change.new }
+    ensures addresses { address_count change.new.state.words.now ≡ address_count change.old.state.words.now }
     ensures comes { (st : State) → Represents change.old.state.words.now st → fit_state st ≡ true → Comes (goes (kernel_add4 new.now st)) change.old change.new result }
 {
     let table = new[route::TABLE];

@@ -5,7 +5,7 @@ ghost use Rattle.std.specs.Prelude.{◌≡◌, ◌+◌, ◌*◌, ◌≤◌, ◌<
 ghost use Rattle.definition.specs.State.{State};
 ghost use Rattle.definition.specs.Words.{route_count};
 ghost use Rattle.definition.specs.Reference.Insert.{matches, kernel_del4};
-ghost use Rattle.state.specs.Represents.{Represents, RepresentsSome};
+ghost use Rattle.state.specs.Represents.{Represents};
 ghost use Rattle.step_events.specs.Emits.{Emits};
 
 use layout::{RouteRow, route};
@@ -41,9 +41,7 @@ fn find_match(routes: Routes<'_>, p: &RouteRow) -> Option<usize>
 
 // The first row that p names goes, if there is one. Where there is no route there need be no room for its event.
 pub fn kernel_del4(change: &mut Change<'_>, p: &RouteRow)
-    requires represents_some { RepresentsSome change.old.state.words.now }
     requires in_bounds { 0 < route_count change.old.state.words.now → 34 * (change.old.told + 1) ≤ length change.old.events.now }
-    ensures represents_some_2 { RepresentsSome change.new.state.words.now }
     ensures upper_bound { change.new.told ≤ change.old.told + 1 }
     ensures emits { (st : State) → Represents change.old.state.words.now st → Emits (kernel_del4 p.now st) change.old change.new }
 {

@@ -1,6 +1,6 @@
 -- Adding steps from whatever fit state the words hold.
 -- Assumes nothing.
-use Rattle.std.specs.Prelude.{◌≡◌, refl, true, List, [], ◌∷◌, length, Ok}
+use Rattle.std.specs.Prelude.{◌≡◌, refl, true, List, [], ◌∷◌, Ok}
 use Rattle.std.proofs.Common.{◌∙◌}
 use Rattle.lists.specs.Lists.{Row}
 use Rattle.layout.specs.Route.{table}
@@ -9,8 +9,7 @@ use Rattle.definition.specs.Words.{fit_state}
 use Rattle.definition.specs.Reference.Insert as Insert
 use Rattle.definition.specs.Reference.Insert.{create4, insert4, inserted, kernel_add4}
 use Rattle.definition.specs.Reference.Addresses.{goes}
-use Rattle.definition.specs.Preservation.Keeps.{Keeps, keeps_fit}
-use Rattle.state.specs.Represents.{Represents, RepresentsFit}
+use Rattle.state.specs.Represents.{Represents}
 use Rattle.step_events.specs.Comes.{Answer, Comes, comes-ok}
 use Rattle.step_events.specs.declared.change.Change.{Change}
 
@@ -21,18 +20,6 @@ module _ (f : State → Out) {a b : Change} (t : AddsFrom f a b (Ok tt)) where
   -- a step that had room leaves words that hold a fit state
   pub adds-holds : (st : State) → Represents a.state.words.now st → fit_state st ≡ true → Represents b.state.words.now (f st).state
   adds-holds st h g = (comes-ok (t st h g)).1.holds
-
-  pub adds-sound : Keeps f → RepresentsFit a.state.words.now → RepresentsFit b.state.words.now
-  adds-sound k s =
-      record {
-        state = (f s.state).state;
-        holds = adds-holds s.state s.holds s.fits;
-        fits = keeps_fit f k s.state s.fits;
-      }
-
-  -- and as much room for events
-  pub adds-long : RepresentsFit a.state.words.now → length b.events.now ≡ length a.events.now
-  adds-long s = (comes-ok (t s.state s.holds s.fits)).1.tells.long
 
 -- ---- steps that leave the addresses
 pub record Leaves (f : State → Out) : Type 0 where

@@ -12,22 +12,22 @@ use Rattle.layout.specs.Route.{fit_route}
 use Rattle.layout.specs.Request.{fit_add_v4}
 use Rattle.layout.specs.Event.{new_addr4}
 use Rattle.definition.specs.State.{State, Out, sizes, becomes, with_addresses}
-use Rattle.definition.specs.Words.{fit_state, address_count}
+use Rattle.definition.specs.Words.{decode, fit_state, address_count}
 use Rattle.definition.specs.Reference.Insert.{kernel_add4, kernel_del4}
 use Rattle.definition.specs.Reference.Addresses.{goes, prefix_route, changed_to, reroutes, moved, change_v4, same_address}
 use Rattle.definition.specs.Preservation.Fit.{length-address, fields_address}
 use Rattle.definition.specs.Preservation.Rows.{subnet_fit, changed_to-fit}
-use Rattle.definition.specs.Preservation.Addresses.{moved_keeps}
 use Rattle.definition.specs.Preservation.Shrinking.{kernel_del4_away}
 use Rattle.definition.proofs.Preservation.Peaks.{kernel_del4-under}
 use Rattle.definition.proofs.Preservation.Step.{covered}
 use Rattle.row_candidates.specs.Rows.{subnet_route}
-use Rattle.state.specs.Represents.{Represents, RepresentsFit, count-addresses}
+use Rattle.state.specs.Represents.{Represents, count-addresses}
+use Rattle.state.specs.Stored.{represented}
 use Rattle.step_events.specs.Tells.{Tells}
 use Rattle.step_events.specs.Emits.{Emits, does-one}
 use Rattle.step_events.specs.Comes.{Comes, holds-within, goes-made, adds_none, adds-also, adds-stop, comes-ok}
 use Rattle.step_events.specs.declared.change.Change.{Change}
-use Rattle.step_new_address.specs.Adding.{AddsFrom, adds-holds, adds-sound, also-leaves, kernel_add4-leaves}
+use Rattle.step_new_address.specs.Adding.{AddsFrom, also-leaves, kernel_add4-leaves}
 use Rattle.step_new_address.specs.New.{length-emitted}
 
 -- the prefix route that an address gets could stand in a state
@@ -38,6 +38,17 @@ route-fits old fit priority source = subnet_fit source priority old (fields_addr
 pub del_adds : (p : Row) (st : State) {w : List ℕ} {a b : Change} → Represents w st → Emits (kernel_del4 p st) a b → Comes (goes (kernel_del4 p st)) a b (Ok tt)
 del_adds p st h d =
     goes-made (covered (kernel_del4 p st).peak (sizes st) (kernel_del4-under p st).ever (holds-within h)) d
+
+-- and leaves as many addresses, and the buffer its length
+module _ (p : Row) {a b : Change} (d : (st : State) → Represents a.state.words.now st → Emits (kernel_del4 p st) a b) where
+  from_held : Emits (kernel_del4 p (decode a.state.words.now)) a b
+  from_held = d (decode a.state.words.now) (represented a.state.holds)
+
+  pub del-count : address_count b.state.words.now ≡ address_count a.state.words.now
+  del-count = count-addresses from_held.holds ∙ ap length (kernel_del4_away p (decode a.state.words.now)).same_addresses ∙ sym (count-addresses (represented a.state.holds))
+
+  pub del-long : length b.events.now ≡ length a.events.now
+  del-long = from_held.tells.long
 
 module _ (q old : Row) where
   -- the route put in, and the one taken out
@@ -84,13 +95,6 @@ module _ (q : Row) (clock : ℕ) (old : Row) (g : fit_add_v4 q ≡ true) (fit : 
         adds-stop (m st h f) (λ later. becomes (with_addresses (replace_first (same_address q) (changed_to q old clock) later.addresses) later) (new_addr4 (changed_to q old clock) ∷ []))
 
     module _ (m : AddsFrom (moved q old) a b (Ok tt)) where
-      pub change-sound : RepresentsFit a.state.words.now → RepresentsFit b.state.words.now
-      change-sound v = adds-sound (moved q old) m (moved_keeps q old fit) v
-
-      pub change-count : (st : State) → Represents a.state.words.now st → fit_state st ≡ true → address_count b.state.words.now ≡ address_count a.state.words.now
-      change-count st h f =
-          count-addresses (adds-holds (moved q old) m st h f) ∙ ap length (moved-leaves q old st) ∙ sym (count-addresses h)
-
       pub change-done : (i : ℕ) {c : Change} → ((st : State) → Represents b.state.words.now st → Represents c.state.words.now (with_addresses (set st.addresses i (changed_to q old clock)) st))
           → Tells (new_addr4 (changed_to q old clock) ∷ []) b c → (st : State) → Represents a.state.words.now st → fit_state st ≡ true → i ≡ place_of (same_address q) st.addresses
           → Comes (goes (change_v4 q old clock st)) a c (Ok tt)

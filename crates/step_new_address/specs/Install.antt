@@ -10,12 +10,11 @@ use Rattle.definition.specs.Reference.Insert.{kernel_add4}
 use Rattle.definition.specs.Reference.Addresses.{install}
 use Rattle.definition.specs.Preservation.Keeps.{Keeps, through_keeps, keeps_fit}
 use Rattle.definition.specs.Preservation.Addresses.{kernel_add4_keeps}
-use Rattle.state.specs.Represents.{RepresentsFit}
 use Rattle.step_events.specs.Comes.{Answer, holds-within}
 use Rattle.step_events.specs.Through.{adds-start, adds-next, adds-other-end, adds-end}
 use Rattle.step_events.specs.declared.change.Change.{Change}
 use Rattle.step_kernel_add.specs.Add.{kernel_add4-covered}
-use Rattle.step_new_address.specs.Adding.{AddsFrom, adds-holds, adds-sound}
+use Rattle.step_new_address.specs.Adding.{AddsFrom, adds-holds}
 
 -- the first i of them
 first-keep : (rows : List Row) (i : ℕ) → all fit_route rows ≡ true → Keeps (through kernel_add4 (take i rows))
@@ -25,9 +24,6 @@ pub sofar-start : (rows : List Row) (a : Change) → AddsFrom (through kernel_ad
 sofar-start rows a st h f = adds-start kernel_add4 rows st h
 
 module _ (rows : List Row) (fit : all fit_route rows ≡ true) {a b : Change} (i : ℕ) (s : AddsFrom (through kernel_add4 (take i rows)) a b (Ok tt)) where
-  pub sofar-sound : RepresentsFit a.state.words.now → RepresentsFit b.state.words.now
-  sofar-sound v = adds-sound (through kernel_add4 (take i rows)) s (first-keep rows i fit) v
-
   pub sofar-next : i < length rows → {c : Change} {r : Answer} → AddsFrom (kernel_add4 (get_or rows i [])) b c r → AddsFrom (through kernel_add4 (take (i + 1) rows)) a c r
   sofar-next k u st h f =
       let first = through kernel_add4 (take i rows) in

@@ -29,6 +29,10 @@ pub length-emitted : (a : Row) → length a ≡ 20 → length (new_addr4 a) ≡ 
 unfolding new_addr4
 length-emitted a h = omega (arith, length-append a (zeros 12), length-zeros 12)
 
+-- the routes that an address brings may be installed
+pub routes-fit : (l : List Row) (up : Bool) (a : Row) → fit_address a ≡ true → all fit_route (candidates l up a) ≡ true
+routes-fit l up a fit = candidates-fit l up a (fields_address a fit).short
+
 -- the state with the address in its place
 abbrev pub placed : Row → State → State
 placed new st = with_addresses (place4 new st.addresses) st
@@ -52,10 +56,6 @@ module _ (new : Row) (up : Bool) (st : State) where
     placed-fit h =
         let f = fit-state st h in
         state-fit (placed new st) (fit-addresses st (place4 new st.addresses) f (place4-fit new st.addresses fit f.of_addresses))
-
-    -- the routes that it brings may be installed
-    pub routes-fit : all fit_route (candidates (place4 new st.addresses) up new) ≡ true
-    routes-fit = candidates-fit (place4 new st.addresses) up new (fields_address new fit).short
 
     module _ (i : ℕ) (e : place4 new st.addresses ≡ insert_at i new st.addresses) where
       pub placed-holds : {w : List ℕ} → Represents w (with_addresses (insert_at i new st.addresses) st) → Represents w (placed new st)

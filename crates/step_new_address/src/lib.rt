@@ -8,8 +8,9 @@ ghost use Rattle.layout.specs.Request.{fit_add_v4};
 ghost use Rattle.definition.specs.State.{State};
 ghost use Rattle.definition.specs.Words.{fit_state, address_count};
 ghost use Rattle.definition.specs.Reference.Addresses.{goes, install, new_address, moved, change_v4, same_address};
-ghost use Rattle.state.specs.Represents.{Represents, RepresentsFit};
+ghost use Rattle.state.specs.Represents.{Represents};
 ghost use Rattle.step_events.specs.Comes.{Comes};
+ghost use Rattle.step_events.specs.Tells.{TellsAtMost};
 ghost use Rattle.step_new_address.specs.Adding.{AddsFrom};
 
 use layout::{ADDRESS_LIMIT, AddV4, AddressRow, address};
@@ -20,9 +21,9 @@ use step_events::Change;
 
 // The routes, in order.
 pub fn install(change: &mut Change<'_>, routes: Routes<'_>) -> Result<(), Refusal>
-    requires represents_fit { RepresentsFit change.old.state.words.now }
     requires in_bounds { 34 * (change.old.told + length routes.rows.now) ≤ length change.old.events.now }
-    ensures told { change.new.told ≤ change.old.told + length routes.entry.rows.now }
+    ensures told { TellsAtMost (length routes.entry.rows.now) change.old change.new }
+    ensures addresses { address_count change.new.state.words.now ≡ address_count change.old.state.words.now }
     ensures adds_from { AddsFrom (install routes.entry.rows.now) change.old change.new result }
 {
     for row in routes.rows {
@@ -33,10 +34,9 @@ pub fn install(change: &mut Change<'_>, routes: Routes<'_>) -> Result<(), Refusa
 
 // An address put in its place and told, then the routes that it brings.
 pub fn new_address(change: &mut Change<'_>, new: &AddressRow, up: bool) -> Result<(), Refusal>
-    requires represents_fit { RepresentsFit change.old.state.words.now }
     requires value { fit_address new.now ≡ true }
     requires in_bounds { 34 * (change.old.told + 5) ≤ length change.old.events.now }
-    ensures told { change.new.told ≤ change.old.told + 5 }
+    ensures told { TellsAtMost 5 change.old change.new }
     ensures adds_from { AddsFrom (new_address new.now up) change.old change.new result }
 {
     let addresses = change.state.stored().addresses();
@@ -57,10 +57,10 @@ pub fn new_address(change: &mut Change<'_>, new: &AddressRow, up: bool) -> Resul
 
 // An address's prefix route with a request's priority put in, and then the one with its own taken out.
 fn moved(change: &mut Change<'_>, q: &AddV4, old: &AddressRow) -> Result<(), Refusal>
-    requires represents_fit { RepresentsFit change.old.state.words.now }
     requires value { fit_address old.now ≡ true }
     requires in_bounds { 34 * (change.old.told + 2) ≤ length change.old.events.now }
-    ensures told { change.new.told ≤ change.old.told + 2 }
+    ensures told { TellsAtMost 2 change.old change.new }
+    ensures addresses { address_count change.new.state.words.now ≡ address_count change.old.state.words.now }
     ensures adds_from { AddsFrom (moved q.now old.now) change.old change.new result }
 {
     if !rows_place::reroutes(q, old) {
@@ -80,11 +80,10 @@ pub fn change_v4(
     q: &AddV4,
     clock: Nanoseconds,
 ) -> Result<(), Refusal>
-    requires represents_fit { RepresentsFit change.old.state.words.now }
     requires i_bound { i < address_count change.old.state.words.now }
     requires q_value { fit_add_v4 q.now ≡ true }
     requires in_bounds { 34 * (change.old.told + 3) ≤ length change.old.events.now }
-    ensures told { change.new.told ≤ change.old.told + 3 }
+    ensures told { TellsAtMost 3 change.old change.new }
     ensures comes { (st : State) → Represents change.old.state.words.now st → fit_state st ≡ true → i ≡ place_of (same_address q.now) st.addresses → Comes (goes (change_v4 q.now (get_or st.addresses i []) clock.0 st)) change.old change.new result }
 {
     let old = change.state.stored().addresses().rows[i];

@@ -1,7 +1,10 @@
 -- `state_retain::down` meets its contract: what remains is what the definition keeps.
 -- Assumes nothing.
-use Rattle.state_retain.specs.Retain.{is_down}
+use Rattle.std.proofs.Common.{true, rules}
+use Rattle.state_retain.specs.Retain.{remains, is_down}
 use Rattle.state_retain.proofs.down.Goals as goal
 
 pub returns : goal.returns
-returns c = λ st h. rw (← (is_down st)) (c.retain.ensures st h)
+returns c =
+    let t = c.retain.ensures (remains true) (λ r b d. search rules) in
+    record { holds = λ st h. rw (← (is_down st)) (t.holds st h); place = t.place }

@@ -1,10 +1,10 @@
-use Rattle.std.proofs.Common.{arith, ◌+◌}
+use Rattle.std.proofs.Common.{arith, rules, refl, ◌+◌, ◌∙◌}
 use Rattle.std.proofs.lemmas.Result.{err_from_is_err_and}
 use Rattle.step_new_address.specs.Install.{sofar-start, sofar-next, sofar-other, sofar-end}
 use Rattle.step_new_address.proofs.install.Goals as goal
 
 pub loop-row-init : goal.loop-row-init
-loop-row-init c = record { adds = sofar-start c.args.routes.rows.now c.args.change.now; told = omega arith }
+loop-row-init c = record { adds = sofar-start c.args.routes.rows.now c.args.change.now; told = search rules; addresses = refl }
 
 pub returns-in_err-kernel_add4-clause-adds_from : goal.returns-in_err-kernel_add4-clause-adds_from
 returns-in_err-kernel_add4-clause-adds_from c =
@@ -17,7 +17,8 @@ pub loop-row-preserved : goal.loop-row-preserved
 loop-row-preserved c =
     record {
       adds = sofar-next c.args.routes.rows.now c.args.routes.fit c.loop-row.row-index c.loop-row.invariant.adds (omega (arith, c.loop-row-test.true)) (λ st h f. c.in_ok-kernel_add4.ensures.comes st h f);
-      told = omega (arith, c.loop-row.invariant.told, c.kernel_add4.ensures.told);
+      told = search rules;
+      addresses = c.kernel_add4.ensures.addresses ∙ c.loop-row.invariant.addresses;
     }
 
 pub returns-clause-adds_from : goal.returns-clause-adds_from
