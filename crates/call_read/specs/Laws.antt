@@ -1,7 +1,7 @@
 -- What a call comes to, by its checks and the reference, and what that makes of the answers of those that read.
 -- Assumes nothing.
 use Rattle.std.specs.Prelude.{Ok, Err, ◌≢◌, ℕ, ◌≡◌, refl, Bool, true, false, cond, ◌&&◌, eqb, length}
-use Rattle.std.specs.Prelude.{IsErrAnd}
+use Rattle.std.specs.Prelude.{IsErrAnd, IfOk}
 use Rattle.std.specs.Prelude.{Result as Answer}
 use Rattle.std.specs.Prelude.{Some, None, Option as Chosen}
 use Rattle.std.proofs.lemmas.Result.{err_from_is_err_and}
@@ -30,14 +30,11 @@ use Rattle.definition.specs.Preservation.Encode.{Admissible}
 use Rattle.definition.proofs.Preservation.Step.{base-long, good-held, checked-held, checked-passes, acted, perform-case}
 use Rattle.lists.specs.Library.{own, lent_ok}
 use Rattle.rows_lookup.specs.Answer.{answered}
-use Rattle.state.specs.Represents.{Represents, RepresentsSome, holds-decode}
+use Rattle.state.specs.Represents.{Represents, represents, holds-decode}
+use Rattle.state.specs.Stored.{formed-represents}
 use Rattle.call_read.specs.Answer.{Says, Writes, Numbers, found_number, rows_in, valuing, nothing, flag, optional, refused_by}
 
 -- ---- the answers of checks
--- a request's, by a number that the definition gives it
-pub request : {A : Type 0} (r : Answer A Refusal) {n m : ℕ} → Refuses r n → n ≡ m → Refuses r m
-request r h e = subst (Refuses r) e h
-
 -- a row's, as the code found it
 pub row-checked : {A : Type 0} (r : Answer A Refusal) (row : Bool) (w : List ℕ) {b : Bool} → b ≡ row → Refuses r (checked (record { buffers = true; row = b; request = 0 }) w)
     → Refuses r (checked (record { buffers = true; row = row; request = 0 }) w)
@@ -63,6 +60,17 @@ unless-went false e {a = a} f g = let h : Ok a ≡ Err e = sym f ∙ g in cc
 -- the first check: the words are as many as a state's
 pub state-long : (n : ℕ) (b : Bool) (e : Refusal) {r : Answer (Unit {0}) Refusal} {a : Unit {0}} → r ≡ Ok a → r ≡ unless (eqb n state_size && b) e → n ≡ state_size
 state-long n b e f g = eqb-true n state_size (and_left (eqb n state_size) b (unless-went (eqb n state_size && b) e f g))
+
+-- the second: the first words hold a state
+pub formed-held : (w : List ℕ) (row : Bool) (e : Refusal) {r : Answer (Unit {0}) Refusal} {a : Unit {0}} → length w ≡ state_size → r ≡ Ok a → r ≡ unless (formed w && row) e
+    → represents (base w) ≡ true
+formed-held w row e l f g = formed-represents (base w) (base-long w l) (and_left (formed w) row (unless-went (formed w && row) e f g))
+
+-- a request behind both
+pub passing : {A : Type 0} (r : Answer A Refusal) (w : List ℕ) → length w ≡ state_size → represents (base w) ≡ true
+    → IfOk r (λ a. (length w ≡ state_size) × (represents (base w) ≡ true) × (r ≡ Ok a))
+passing (Ok a) w l h = (l, h, refl)
+passing (Err e) w l h = tt
 
 -- what passing them tells: the first words hold the state
 pub record Passed (k : Checks) (w : List ℕ) : Type 0 where
@@ -96,8 +104,9 @@ module _ {k : Checks} {w : List ℕ} (p : Passed k w) where
   pub lent : length (base w) ≡ base_size
   lent = base-long w p.long
 
-  pub valid : RepresentsSome (base w)
-  valid = record { state = state_of w; holds = p.holds }
+  -- words that are those
+  pub held : {x : List ℕ} → x ≡ base w → Represents x (state_of w)
+  held e = rw e p.holds
 
 -- ---- a call that is refused by its checks, and one that passes them
 module _ (s : Semantics) (w : List ℕ) where

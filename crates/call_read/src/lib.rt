@@ -1,20 +1,21 @@
 // The calls of the host that read a state, on lent words. Each refuses unfit input and then writes nothing.
 #![tactic(auto)]
 
-ghost use Rattle.std.specs.Prelude.{◌≡◌, ◌≢◌, MatchResult, IsOk, ℕ, [], ◌≤◌, ◌<◌, length, get_or};
+ghost use Rattle.std.specs.Prelude.{◌≡◌, ◌≢◌, MatchResult, IfOk, ℕ, Ok, true, [], ◌≤◌, ◌<◌, length, get_or};
 ghost use Rattle.refusal.specs.Refusal.{Refuses};
 ghost use Rattle.lists.specs.Lists.{flat, put};
 ghost use Rattle.rows_lookup.specs.Flow.{flow_of};
 ghost use Rattle.definition.specs.State.{State};
-ghost use Rattle.definition.specs.Words.{route_count};
+ghost use Rattle.definition.specs.Words.{state_size, base};
 ghost use Rattle.definition.specs.Reference.Lookup.{lookup_in};
 ghost use Rattle.definition.specs.Step.{checked, dump4_call, lookup4_call, lookup4_flow_call, local4_call, source4_call, source_call, select4_call};
-ghost use Rattle.state.specs.Represents.{Represents, RepresentsSome};
+ghost use Rattle.state.specs.Represents.{Represents, represents};
 ghost use Rattle.call_read.specs.Answer.{Says, Writes, nothing, flag, optional, valuing, found_number, rows_in};
 
 use layout::{BASE_WORDS, LISTING_BUFFER, ROUTE_WORDS, STATE_WORDS};
 use refusal::Refusal;
 use rows_lookup::Flow;
+use state::Stored;
 
 // What every call asks, in order: the lengths of what it is lent, the state with a row handed over, the request.
 pub fn checked<T: Drop>(
@@ -24,14 +25,27 @@ pub fn checked<T: Drop>(
     request: Result<T, Refusal>,
 ) -> Result<T, Refusal>
     ensures refuses { (n : ℕ) → Refuses request n → Refuses result (checked (record { buffers = buffers; row = handed; request = n }) s.now) }
-    ensures passes { IsOk result → result ≡ request }
+    ensures passes { IfOk result (λ t. (length s.now ≡ state_size) × (represents (base s.now) ≡ true) × (request ≡ Ok t)) }
 {
     refusal::unless((s.len() == STATE_WORDS) & buffers, Refusal::WrongLength)?;
-    refusal::unless(
-        state_well_formed::well_formed(&s[..BASE_WORDS]) & handed,
-        Refusal::Malformed,
-    )?;
+    let formed = state_well_formed::well_formed(&s[..BASE_WORDS]);
+    refusal::unless(formed & handed, Refusal::Malformed)?;
     request
+}
+
+// The same, and the state that the words hold.
+pub fn reading<T: Drop>(
+    s: &[u32],
+    buffers: bool,
+    handed: bool,
+    request: Result<T, Refusal>,
+) -> Result<(Stored<'_>, T), Refusal>
+    ensures refuses { (n : ℕ) → Refuses request n → Refuses result (checked (record { buffers = buffers; row = handed; request = n }) s.now) }
+    ensures passes { IfOk result (λ r. (r.0.words.now ≡ base s.now) × (request ≡ Ok r.1)) }
+{
+    let request = checked(s, buffers, handed, request)?;
+    let words = &s[..BASE_WORDS];
+    Ok((Stored { words }, request))
 }
 
 // A request of so many words.
@@ -42,10 +56,10 @@ pub fn sized<const N: usize>(q: &[u32]) -> Result<&[u32; N], Refusal>
 }
 
 // The route of a flow, copied into the buffer.
-fn look(s: &[u32], row: &mut [u32], f: Flow) -> Result<(), Refusal>
-    requires { RepresentsSome s.now × (32 ≤ length row.old) }
-    ensures value { (st : State) → Represents s.now st → Refuses result (found_number (lookup_in st (flow_of f))) }
-    ensures row_after { (st : State) → Represents s.now st → row.new ≡ put 0 (flat (rows_in (lookup_in st (flow_of f)))) row.old }
+fn look(s: Stored<'_>, row: &mut [u32], f: Flow) -> Result<(), Refusal>
+    requires { 32 ≤ length row.old }
+    ensures value { (st : State) → Represents s.entry.words.now st → Refuses result (found_number (lookup_in st (flow_of f))) }
+    ensures row_after { (st : State) → Represents s.entry.words.now st → row.new ≡ put 0 (flat (rows_in (lookup_in st (flow_of f)))) row.old }
 {
     let r = state_read::lookup4_in(s, f)?;
     words::store(row, 0, r);
@@ -56,9 +70,9 @@ fn look(s: &[u32], row: &mut [u32], f: Flow) -> Result<(), Refusal>
 pub fn lookup4(state: &[u32], row: &mut [u32], ip: u32) -> Result<(), Refusal>
     ensures { Writes nothing (lookup4_call (length row.old) ip state.now).reply row.old row.new result }
 {
-    checked(state, ROUTE_WORDS <= row.len(), true, Ok(()))?;
+    let (s, ()) = reading(state, ROUTE_WORDS <= row.len(), true, Ok(()))?;
     look(
-        &state[..BASE_WORDS],
+        s,
         row,
         Flow {
             ip,
@@ -79,14 +93,14 @@ pub fn lookup4_flow(
 ) -> Result<(), Refusal>
     ensures { Writes nothing (lookup4_flow_call (length row.old) ip tos oif state.now).reply row.old row.new result }
 {
-    checked(
+    let (s, ()) = reading(
         state,
         ROUTE_WORDS <= row.len(),
         true,
         request_fit::fit_flow(tos),
     )?;
     look(
-        &state[..BASE_WORDS],
+        s,
         row,
         Flow {
             ip,
@@ -101,25 +115,25 @@ pub fn lookup4_flow(
 pub fn local4(state: &[u32], ip: u32) -> Result<bool, Refusal>
     ensures { Says flag (local4_call ip state.now).reply result }
 {
-    checked(state, true, true, Ok(()))?;
-    Ok(state_read::local4(&state[..BASE_WORDS], ip))
+    let (s, ()) = reading(state, true, true, Ok(()))?;
+    Ok(state_read::local4(s, ip))
 }
 
 // The source address for a destination; 127.0.0.1 where there is no other.
 pub fn source(state: &[u32], ip: u32) -> Result<u32, Refusal>
     ensures { Says valuing (source_call ip state.now).reply result }
 {
-    checked(state, true, true, Ok(()))?;
-    Ok(state_read::source(&state[..BASE_WORDS], ip))
+    let (s, ()) = reading(state, true, true, Ok(()))?;
+    Ok(state_read::source(s, ip))
 }
 
 // The source address for a route, handed over as any words: fit ones are as many as a row has.
 pub fn source4(state: &[u32], row: &[u32], ip: u32) -> Result<Option<u32>, Refusal>
     ensures { Says optional (source4_call row.now ip state.now).reply result }
 {
-    checked(state, true, row_route::fit_route(row), Ok(()))?;
+    let (s, ()) = reading(state, true, row_route::fit_route(row), Ok(()))?;
     let row = sized(row)?;
-    Ok(state_read::source4(&state[..BASE_WORDS], row, ip))
+    Ok(state_read::source4(s, row, ip))
 }
 
 // The address that is chosen for a scope, and for a destination if there is one.
@@ -131,20 +145,20 @@ pub fn select4(
 ) -> Result<Option<u32>, Refusal>
     ensures { Says optional (select4_call dst_present dst scope state.now).reply result }
 {
-    checked(
+    let (s, ()) = reading(
         state,
         true,
         true,
         request_fit::fit_select(dst_present, dst, scope),
     )?;
     let dst = (dst_present == 1).then_some(dst);
-    Ok(state_read::select4(&state[..BASE_WORDS], dst, scope))
+    Ok(state_read::select4(s, dst, scope))
 }
 
 // The route rows of the listed tables, in the order in which Linux lists tables.
 pub fn dump4(state: &[u32], listing: &mut [u32]) -> Result<usize, Refusal>
     ensures { Writes valuing (dump4_call (length listing.old) state.now).reply listing.old listing.new result }
 {
-    checked(state, LISTING_BUFFER <= listing.len(), true, Ok(()))?;
-    Ok(state_read::list(&state[..BASE_WORDS], listing))
+    let (s, ()) = reading(state, LISTING_BUFFER <= listing.len(), true, Ok(()))?;
+    Ok(state_read::list(s, listing))
 }

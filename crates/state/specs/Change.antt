@@ -1,12 +1,11 @@
 -- Words that hold a state, changed at a row: they hold the state changed so.
 -- Assumes nothing.
-use Rattle.std.specs.Prelude.{ℕ, ◌+◌, ◌*◌, ◌≤◌, ◌<◌, ◌≡◌, Bool, true, get_or}
+use Rattle.std.specs.Prelude.{ℕ, ◌+◌, ◌*◌, ◌≤◌, ◌<◌, ◌≡◌, true, get_or}
 use Rattle.std.proofs.Math.Path.{refl, ap}
 use Rattle.std.proofs.Common.{sym, ◌∙◌, arith}
 use mathlib.Core.List.{List, [], ◌∷◌, ◌++◌, append-nil, append_assoc}
 use Rattle.std.proofs.Math.ListN.{length, set, length-append}
-use Rattle.lists.specs.Lists.{Row, all, keep, flat, pad, span, put, zeros}
-use Rattle.lists.specs.All.{all_keep}
+use Rattle.lists.specs.Lists.{Row, all, flat, pad, span, put, zeros}
 use Rattle.lists.specs.At.{all-at}
 use Rattle.lists.specs.Put.{put_one}
 use Rattle.lists.specs.Region.{row_at, row_retain, region_put, region_span}
@@ -68,12 +67,10 @@ module _ {w : List ℕ} {st : State} (h : Represents w st) where
   pub fit-route-at : (i : ℕ) → i < length st.routes → fit_route (span (routes_at + 32 * i) 32 w) ≡ true
   fit-route-at i k = rw (route-at i k) (all-at fit_route i st.routes [] k h.routes_fit)
 
-  -- ---- only some routes, and zeros for the n others
-  pub retain_routes : (q : Row → Bool) (n : ℕ) → length (keep q st.routes) + n ≡ length st.routes
-      → Represents (set (put routes_at (flat (keep q st.routes) ++ zeros (32 * n)) w) 1 (length (keep q st.routes))) (with_routes (keep q st.routes) st)
-  retain_routes q n e =
-      let rows = keep q st.routes in
-      let f : all fit_route rows ≡ true = all_keep fit_route q st.routes h.routes_fit in
+  -- ---- other routes, and zeros for the n that are fewer
+  pub retain_routes : (rows : List Row) (n : ℕ) → all fit_route rows ≡ true → length rows + n ≡ length st.routes
+      → Represents (set (put routes_at (flat rows ++ zeros (32 * n)) w) 1 (length rows)) (with_routes rows st)
+  retain_routes rows n f e =
       routes_become rows (put routes_at (flat rows ++ zeros (32 * n)) w) (omega (arith, h.routes_within)) f
       (ap (put routes_at (flat rows ++ zeros (32 * n))) (h.words ∙ encode-routes st)
       ∙ row_retain (before_routes st) (pad 32 st.tables) routes_size routes_at 32 st.routes (at_routes h) (sized_r h) room_r rows n (sized-routes rows f) e)

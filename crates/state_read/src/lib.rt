@@ -5,10 +5,10 @@ ghost use Rattle.std.specs.Prelude.{◌≡◌, ◌≤◌, length, true};
 ghost use Rattle.rows_lookup.specs.Flow.{flow_of};
 ghost use Rattle.rows_lookup.specs.Answer.{answered};
 ghost use Rattle.definition.specs.State.{State};
-ghost use Rattle.definition.specs.Words.{decode, well_formed, base_size};
+ghost use Rattle.definition.specs.Words.{decode, none_twice};
 ghost use Rattle.definition.specs.Reference.Lookup.{lookup_in, local4};
 ghost use Rattle.definition.specs.Reference.Source.{select4, source4, source, dump4};
-ghost use Rattle.state.specs.Represents.{Represents, RepresentsSome};
+ghost use Rattle.state.specs.Represents.{Represents};
 ghost use Rattle.lists.specs.Library.{own, lent_ok};
 ghost use Rattle.lists.specs.Lists.{flat, put};
 ghost use Rattle.definition.specs.Step.{listing_room};
@@ -16,55 +16,52 @@ ghost use Rattle.definition.specs.Step.{listing_room};
 use layout::RouteRow;
 use refusal::Refusal;
 use rows_lookup::Flow;
+use state::Stored;
 
 // The route of a flow.
-pub fn lookup4_in(s: &[u32], f: Flow) -> Result<&RouteRow, Refusal>
-    requires { RepresentsSome s.now }
-    ensures { (st : State) → Represents s.now st → lent_ok result ≡ answered (lookup_in st (flow_of f)) }
+pub fn lookup4_in<'a>(s: Stored<'a>, f: Flow) -> Result<&'a RouteRow, Refusal>
+    ensures { (st : State) → Represents s.entry.words.now st → lent_ok result ≡ answered (lookup_in st (flow_of f)) }
 {
     let listed = state_tables::listed(s, layout::TABLE_DEFAULT);
-    rows_lookup::lookup4_in(state::routes(s), listed, f)
+    rows_lookup::lookup4_in(s.routes(), listed, f)
 }
 
 // Whether an address is the loopback's.
-pub fn local4(s: &[u32], ip: u32) -> bool
-    requires { RepresentsSome s.now }
-    ensures { (st : State) → Represents s.now st → result ≡ local4 st ip }
+pub fn local4(s: Stored<'_>, ip: u32) -> bool
+    ensures { (st : State) → Represents s.entry.words.now st → result ≡ local4 st ip }
 {
     let listed = state_tables::listed(s, layout::TABLE_LOCAL);
-    rows_lookup::local4(state::routes(s), listed, ip)
+    rows_lookup::local4(s.routes(), listed, ip)
 }
 
 // The address chosen for a destination, if there is one, and a scope.
-pub fn select4(s: &[u32], dst: Option<u32>, scope: u32) -> Option<u32>
-    requires { RepresentsSome s.now }
-    ensures { (st : State) → Represents s.now st → own result ≡ select4 st.addresses (own dst) scope }
+pub fn select4(s: Stored<'_>, dst: Option<u32>, scope: u32) -> Option<u32>
+    ensures { (st : State) → Represents s.entry.words.now st → own result ≡ select4 st.addresses (own dst) scope }
 {
-    rows_source::select4(state::addresses(s), dst, scope)
+    rows_source::select4(s.addresses(), dst, scope)
 }
 
 // The source for a route's row and a destination.
-pub fn source4(s: &[u32], row: &RouteRow, ip: u32) -> Option<u32>
-    requires { RepresentsSome s.now }
-    ensures { (st : State) → Represents s.now st → own result ≡ source4 st.addresses row.now ip }
+pub fn source4(s: Stored<'_>, row: &RouteRow, ip: u32) -> Option<u32>
+    ensures { (st : State) → Represents s.entry.words.now st → own result ≡ source4 st.addresses row.now ip }
 {
-    rows_source::source4(state::addresses(s), row, ip)
+    rows_source::source4(s.addresses(), row, ip)
 }
 
 // The source for a destination.
-pub fn source(s: &[u32], ip: u32) -> u32
-    requires { RepresentsSome s.now }
-    ensures { (st : State) → Represents s.now st → result ≡ source st ip }
+pub fn source(s: Stored<'_>, ip: u32) -> u32
+    ensures { (st : State) → Represents s.entry.words.now st → result ≡ source st ip }
 {
     let listed = state_tables::listed(s, layout::TABLE_DEFAULT);
-    rows_source::source(state::addresses(s), state::routes(s), listed, ip)
+    rows_source::source(s.addresses(), s.routes(), listed, ip)
 }
 
-// The rows of a well-formed state in the order of a listing; how many is returned.
-pub fn list(s: &[u32], listing: &mut [u32]) -> usize
-    requires { (length s.now ≡ base_size) × (well_formed s.now ≡ true) × (listing_room ≤ length listing.old) }
-    ensures value { result ≡ length (dump4 (decode s.now)) }
-    ensures listing_after { listing.new ≡ put 0 (flat (dump4 (decode s.now))) listing.old }
+// The rows of a state that lists no table twice, in the order of a listing; how many is returned.
+pub fn list(s: Stored<'_>, listing: &mut [u32]) -> usize
+    requires distinct { none_twice (decode s.words.now).tables ≡ true }
+    requires room { listing_room ≤ length listing.old }
+    ensures value { result ≡ length (dump4 (decode s.entry.words.now)) }
+    ensures listing_after { listing.new ≡ put 0 (flat (dump4 (decode s.entry.words.now))) listing.old }
 {
-    rows_dump::dump4(state::routes(s), state_tables::tables(s), listing)
+    rows_dump::dump4(s.routes(), state_tables::tables(s), listing)
 }

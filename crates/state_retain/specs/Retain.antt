@@ -14,18 +14,17 @@ use Rattle.lists.specs.Keep.{keep_append, keep_same}
 use Rattle.lists.specs.Rows.{length-flat, length-zeros, length-span}
 use Rattle.lists.specs.Put.{cut, put-behind, put-none, span-put-behind}
 use Rattle.lists.specs.At.{flat_append, flat_cons}
-use Rattle.lists.specs.Region.{row_retain}
 use Rattle.lists.specs.Chop.{chop-at}
 use Rattle.rows.specs.Rows.{chunks-chop}
 use Rattle.layout.specs.Route.{fit_route, device, scope}
 use Rattle.definition.specs.State.{State, with_routes}
-use Rattle.definition.specs.Words.{route_count, base_size, routes_at, routes_size}
+use Rattle.definition.specs.Words.{route_count, base_size, routes_at}
 use Rattle.definition.specs.Reference.Addresses.{down}
 use Rattle.definition.specs.Reference.Removal.{disable}
 use Rattle.definition.specs.Preservation.Fit.{sized-routes}
-use Rattle.state.specs.Represents.{Represents, before_routes, encode-routes, sized_r, at_routes, count-routes, holds-long}
+use Rattle.state.specs.Represents.{Represents, count-routes, holds-long}
 use Rattle.state.specs.Stored.{decode-held}
-use Rattle.state.specs.Change.{route-at, fit-route-at, routes_become}
+use Rattle.state.specs.Change.{route-at, fit-route-at, retain_routes}
 
 -- f answers p of each row
 abbrev pub Decides : {F : Type 0} → Shared F (Bor Row × Unit {0}) Bool → F → (Row → Bool) → Type 0
@@ -131,10 +130,7 @@ module _ {F : Type 0} {g : Shared F (Bor Row × Unit {0}) Bool} {f : F} {w : Lis
         ∙ ap (λ (m : ℕ). put (routes_at + m) (zeros (32 * (n - j))) (put routes_at (flat rows) w)) (sym (wide k))
         ∙ put-behind routes_at (flat rows) w (omega (arith, wide k, holds-long h, k.few, h.routes_within)) (zeros (32 * (n - j))) (omega (arith, wide k, none, holds-long h, k.few, h.routes_within))
         in
-        rw (a, there, k.count)
-        (routes_become h rows (put routes_at (flat rows ++ zeros (32 * (n - length rows))) w) (omega (arith, k.few, k.count, h.routes_within)) k.fit
-        (ap (put routes_at (flat rows ++ zeros (32 * (n - length rows)))) (h.words ∙ encode-routes st)
-        ∙ row_retain (before_routes st) _ routes_size routes_at 32 st.routes (at_routes h) (sized_r h) (omega (arith, h.routes_within)) rows (n - length rows) (sized-routes rows k.fit) (omega (arith, k.few, k.count))))
+        rw (a, there, k.count) (retain_routes h rows (n - length rows) k.fit (omega (arith, k.few, k.count)))
 
     pub keeping_all : (p : Row → Bool) → Decides g f p → (m : State) → Represents w m → Represents s' (with_routes (keep p m.routes) m)
     keeping_all p d m q =
@@ -149,7 +145,9 @@ is_down st = refl
 
 pub is-disable : (st : State) → length st.addresses ≡ 0 → with_routes (keep (remains false) st.routes) st ≡ (disable st).state
 unfolding disable
-is-disable st e = rw (eq-eqb (length st.addresses) 0 e) (ap (λ (l : List Row). with_routes l st) (keep_same (remains false) (λ r. not (eqb (device r) 1)) st.routes same))
+is-disable st e =
+    rw (eq-eqb (length st.addresses) 0 e)
+    (ap (λ (l : List Row). with_routes l st) (keep_same (remains false) (λ r. not (eqb (device r) 1)) st.routes same))
   where
     same : (r : Row) → remains false r ≡ not (eqb (device r) 1)
     same r = unfold remains in ap not (and-true (eqb (device r) 1))

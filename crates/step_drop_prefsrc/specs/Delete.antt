@@ -5,12 +5,9 @@ use Rattle.std.proofs.Common.{sym, ap, arith}
 use Rattle.definition.specs.State.{State, Out}
 use Rattle.definition.specs.Words.{route_count}
 use Rattle.definition.specs.Preservation.Shrinking.{potential}
-use Rattle.state.specs.Represents.{RepresentsSome, count-routes}
+use Rattle.state.specs.Represents.{count-routes}
 use Rattle.step_events.specs.EmitsWithin.{SomeRoom, EmitsWithin, step_same}
 use Rattle.step_events.specs.declared.change.Change.{Change}
-
-pub ready_valid : {a : Change} → SomeRoom potential a → RepresentsSome a.state.words.now
-ready_valid y = record { state = y.state; holds = y.fits.holds }
 
 -- room for as many rows as there are routes
 pub ready_room : {a : Change} → SomeRoom potential a → 34 * (a.told + route_count a.state.words.now) ≤ length a.events.now

@@ -1,17 +1,16 @@
 -- The steps of what goes with an address, as the code makes them.
 -- Assumes nothing.
 use Rattle.std.specs.Prelude.{ℕ, ◌+◌, ◌≤◌, ◌<◌, ◌≡◌, refl, Bool, true, false, cond, not, ◌&&◌, List, [], length, get_or}
-use Rattle.std.proofs.Common.{sym, ap, ◌∙◌, arith}
+use Rattle.std.proofs.Common.{sym, ap, ◌∙◌}
 use Rattle.lists.specs.Lists.{Row, any, keep}
 use Rattle.lists.specs.Bools.{cond-true, cond-false, cond-case, test-case}
-use Rattle.lists.specs.Count.{count_most}
 use Rattle.lists.specs.Keep.{keep-nothing}
 use Rattle.definition.specs.State.{State, Out, stays, also, through}
 use Rattle.definition.specs.Reference.Lookup.{main_table, listed, local4}
 use Rattle.definition.specs.Reference.Insert.{kernel_del4}
 use Rattle.definition.specs.Reference.Removal.{wanted, dependent_on, disable}
-use Rattle.definition.specs.Preservation.Shrinking.{potential, live, kernel_del4_away, through_away, stays_away, Away}
-use Rattle.state.specs.Represents.{Represents, RepresentsSome}
+use Rattle.definition.specs.Preservation.Shrinking.{potential, kernel_del4_away, through_away, stays_away, Away}
+use Rattle.state.specs.Represents.{Represents}
 use Rattle.step_events.specs.Tells.{Tells}
 use Rattle.step_events.specs.EmitsWithin.{RoomFor, EmitsWithin, step-none, step-also}
 use Rattle.step_events.specs.Iterations.{Going, like_eq, going_start, going-iteration, going_end}
@@ -29,13 +28,6 @@ pub unwanted-goes : {st : State} {a b : Change} (r : Row) → wanted st.addresse
     → EmitsWithin potential st (unless_wanted r st) a b
 unfolding unless_wanted
 unwanted-goes {st} r e t = step_eq (cond-false (wanted st.addresses r) (stays st) (kernel_del4 r st) e) t
-
-pub step-valid : {st : State} {o : Out} {a b : Change} → EmitsWithin potential st o a b → RepresentsSome b.state.words.now
-step-valid {o = o} t = record { state = o.state; holds = t.emits.holds }
-
--- how many rows may still come of a state that words hold
-pub potential-most : {w : List ℕ} {st : State} → Represents w st → potential st ≤ 384
-potential-most {st = st} h = omega (arith, h.routes_within, h.addresses_within, count_most live st.addresses)
 
 -- ---- the routes, one after the other
 pub record Any (st : State) : Type 0 where

@@ -5,13 +5,14 @@ ghost use Rattle.std.specs.Prelude.{◌≡◌};
 ghost use Rattle.lists.specs.Lists.{any};
 ghost use Rattle.definition.specs.State.{State, through};
 ghost use Rattle.definition.specs.Preservation.Shrinking.{potential};
-ghost use Rattle.state.specs.Represents.{Represents, RepresentsSome};
+ghost use Rattle.state.specs.Represents.{Represents};
 ghost use Rattle.step_events.specs.EmitsWithin.{RoomFor, SomeRoom, EmitsWithin};
 ghost use Rattle.step_drop_routes.specs.One.{unless_wanted, loses, fall_from};
 ghost use Rattle.step_drop_routes.specs.Iterations.{falls, routes_go};
 
 use layout::{RouteRow, route};
 use rows::Addresses;
+use state::Stored;
 use step_events::Change;
 
 // A route goes unless an address wants it.
@@ -52,9 +53,8 @@ fn loses(addresses: Addresses<'_>, rows: &[RouteRow]) -> bool
 
 // Whether the main rows with the preferred source ip fall: a local route of it is lost and it is local no more. Most
 // sources have no such row, so that is asked before all else.
-fn falls(s: &[u32], ip: u32, lost: bool) -> bool
-    requires { RepresentsSome s.now }
-    ensures { (st : State) → Represents s.now st → result ≡ falls ip lost st }
+fn falls(s: Stored<'_>, ip: u32, lost: bool) -> bool
+    ensures { (st : State) → Represents s.entry.words.now st → result ≡ falls ip lost st }
 {
     lost && rows_wanted::dependents(s.routes(), ip)
         && !state_read::local4(s, ip)

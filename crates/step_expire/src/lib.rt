@@ -8,7 +8,7 @@ ghost use Rattle.definition.specs.State.{State, with_addresses};
 ghost use Rattle.definition.specs.Words.{address_count};
 ghost use Rattle.definition.specs.Reference.Removal.{due, deprecates, deprecate, expire};
 ghost use Rattle.definition.specs.Preservation.Shrinking.{potential};
-ghost use Rattle.state.specs.Represents.{Represents, RepresentsSome};
+ghost use Rattle.state.specs.Represents.{Represents};
 ghost use Rattle.step_events.specs.Tells.{Tells};
 ghost use Rattle.step_events.specs.EmitsWithin.{RoomFor, SomeRoom, EmitsWithin};
 ghost use Rattle.step_expire.specs.Iteration.{expire_turn, next_place};
@@ -59,7 +59,6 @@ impl Clock {
 
 // The address at i becomes the row a, marked, and is told.
 fn mark(change: &mut Change<'_>, i: usize, a: &AddressRow)
-    requires represents_some { RepresentsSome change.old.state.words.now }
     requires i_bound { (i < address_count change.old.state.words.now) × (34 * (change.old.told + 1) ≤ length change.old.events.now) × (fit_address a.now ≡ true) }
     ensures tells { Tells (new_addr4 (deprecate a.now) ∷ []) change.old change.new }
     ensures represents { (st : State) → Represents change.old.state.words.now st → Represents change.new.state.words.now (with_addresses (set st.addresses i (deprecate a.now)) st) }

@@ -1,13 +1,22 @@
 -- `call_read::checked` meets its contract: lengths first, then the form of the words and the row, then the request.
-use Rattle.std.proofs.Common.{sym, length}
+use Rattle.std.proofs.Common.{sym, ap, ◌∙◌, length, Bool}
+use Rattle.std.specs.Prelude.{◌&&◌}
 use Rattle.definition.proofs.Preservation.Step.{base-long}
-use Rattle.refusal.specs.declared.Refusal.TheVariants.{WrongLength}
-use Rattle.call_read.specs.Laws.{state-long}
+use Rattle.refusal.specs.Refusal.{unless}
+use Rattle.refusal.specs.declared.Refusal.TheVariants.{WrongLength, Malformed}
+use Rattle.call_read.specs.Laws.{state-long, formed-held, passing}
 use Rattle.call_read.proofs.checked.Goals as goal
 
 pub slice_bounds-well_formed-end : goal.slice_bounds-well_formed-end
 slice_bounds-well_formed-end g c =
     sym (base-long c.args.s.now (state-long (length c.args.s.now) c.args.buffers WrongLength c.in_ok-unless.was c.unless.ensures))
 
-pub well_formed-requires : goal.well_formed-requires
-well_formed-requires g c = base-long c.args.s.now (state-long (length c.args.s.now) c.args.buffers WrongLength c.in_ok-unless.was c.unless.ensures)
+pub well_formed-formed-requires : goal.well_formed-formed-requires
+well_formed-formed-requires g c = base-long c.args.s.now (state-long (length c.args.s.now) c.args.buffers WrongLength c.in_ok-unless.was c.unless.ensures)
+
+pub returns-clause-passes : goal.returns-clause-passes
+returns-clause-passes g c =
+    let long = state-long (length c.args.s.now) c.args.buffers WrongLength c.in_ok-unless.was c.unless.ensures in
+    passing c.args.request c.args.s.now long
+    (formed-held c.args.s.now c.args.handed Malformed long c.in_ok-unless-2.was
+    (c.unless-2.ensures ∙ ap (λ (b : Bool). unless (b && c.args.handed) Malformed) c.well_formed-formed.ensures))

@@ -23,11 +23,11 @@ pub returns : goal.returns
 returns c =
     elim c.if-t-eq-TABLE_LOCAL.branch [
       | then-t-eq-TABLE_LOCAL w ↦ record {
-          holds = λ st h. create_two st c.args.t w.if-t-eq-TABLE_LOCAL.true (c.add_table-2.ensures.holds (with_tables (add_table 254 st.tables) st) (rw w.s-is (w.add_table.ensures.holds st h)));
-          place = c.add_table-2.ensures.place ∙ (rw w.s-is w.add_table.ensures.place);
-        }
+        holds = λ st h. create_two st c.args.t w.if-t-eq-TABLE_LOCAL.true (c.add_table-2.ensures.holds (with_tables (add_table 254 st.tables) st) (rw w.s-is (w.add_table.ensures.holds st h)));
+        place = c.add_table-2.ensures.place ∙ (rw w.s-is w.add_table.ensures.place);
+      }
       | else-t-eq-TABLE_LOCAL w ↦ record {
-          holds = λ st h. create_one st c.args.t w.if-t-eq-TABLE_LOCAL.false (c.add_table-2.ensures.holds st (rw w.s-is h));
-          place = rw w.s-is at c.add_table-2.ensures.place;
-        }
+        holds = λ st h. create_one st c.args.t w.if-t-eq-TABLE_LOCAL.false (c.add_table-2.ensures.holds st (rw w.s-is h));
+        place = rw w.s-is at c.add_table-2.ensures.place;
+      }
     ]

@@ -13,7 +13,7 @@ returns c =
     λ st f.
     let t = c.delete_unwanted.ensures st f in
     let m = (through unless_wanted c.args.rows.now st).state in
-    let left = c.addresses.ensures.rows m (rw c.words.ensures t.emits.holds) in
+    let left = c.addresses.ensures.rows m (rw c.stored.ensures t.emits.holds) in
     routes-gone c.args.ip c.args.rows.now c.loses-lost.result t
     (c.loses-lost.ensures ∙ ap (λ (l : List Row). any (loses l) c.args.rows.now) left) (c.fall.ensures m (rest-fits potential t))
-    (λ m w. c.disable.ensures m w) (λ rows k. tells-behind k refl refl refl refl)
+    (λ m w. c.disable.ensures.holds m w) (λ rows k. tells-behind k refl refl c.disable.ensures.place refl)

@@ -9,7 +9,7 @@ use Rattle.step_remove_v4.proofs.remove_one.Goals as goal
 pub returns : goal.returns
 returns c =
     λ st f q.
-    let rows = c.addresses.ensures.rows st (rw c.words.ensures f.holds) in
+    let rows = c.addresses.ensures.rows st (rw c.stored.ensures f.holds) in
     let routes = c.as_slice.ensures.value ∙ c.leaving-routes.ensures ∙ ap (λ (l : List Row). leaving l c.args.a.now) rows in
     let t = c.take_out.ensures st f q in
     one-step c.args.a.now t (rw routes at (c.take_routes.ensures (gone_from c.args.a.now st).state (rest-fits potential t)))

@@ -1,37 +1,30 @@
 use Rattle.std.proofs.Common.{ap, ◌∙◌, arith, ◌≡◌, ◌+◌, ◌-◌}
 use Rattle.definition.specs.Words.{address_count}
 use Rattle.definition.specs.Preservation.Shrinking.{potential}
-use Rattle.state.specs.Represents.{sizes-valid, holds-long}
+use Rattle.state.specs.Represents.{sizes_of}
+use Rattle.state.specs.Stored.{represented}
 use Rattle.step_events.specs.Iterations.{going_ready}
-use Rattle.step_drop_prefsrc.specs.Delete.{ready_valid}
 use Rattle.step_remove_v4.specs.One.{gone-start, gone-facts, gone-next, gone-last}
 use Rattle.step_remove_v4.proofs.remove_secondaries.Goals as goal
 
-pub address_count-n-requires : goal.address_count-n-requires
-address_count-n-requires c = rw c.words.ensures (sizes-valid (ready_valid c.requires)).long
-
 pub loop-j-init : goal.loop-j-init
-loop-j-init c = λ st f. gone-start c.args.a.now c.address_count-n.result (c.address_count-n.ensures ∙ ap address_count c.words.ensures) f
-
-pub address_count-requires : goal.address_count-requires
-address_count-requires c =
-    let y = going_ready potential (c.loop-j.invariant c.requires.state c.requires.fits) in
-    rw c.words-in-loop-j.ensures (holds-long y.fits.holds)
+loop-j-init c = λ st f. gone-start c.args.a.now c.address_count-n.result (c.address_count-n.ensures ∙ ap address_count c.stored.ensures) f
 
 pub overflow_add-i : goal.overflow_add-i
 overflow_add-i c =
-    let n = c.address_count-n.ensures ∙ ap address_count c.words.ensures in
-    let m = c.address_count.ensures ∙ ap address_count c.words-in-loop-j.ensures in
-    record { fits = omega (arith, gone-facts c.args.a.now c.address_count-n.result c.loop-j.j (c.loop-j.invariant c.requires.state c.requires.fits), (sizes-valid (ready_valid c.requires)).addresses) }
+    let n = c.address_count-n.ensures ∙ ap address_count c.stored.ensures in
+    let m = c.address_count.ensures ∙ ap address_count c.stored-in-loop-j.ensures in
+    let most = (sizes_of (represented c.args.change.now.state.holds)).addresses in
+    record { fits = omega (arith, gone-facts c.args.a.now c.address_count-n.result c.loop-j.j (c.loop-j.invariant c.requires.state c.requires.fits), most) }
 
 pub overflow_sub-i : goal.overflow_sub-i
 overflow_sub-i c =
-    let n = c.address_count.ensures ∙ ap address_count c.words-in-loop-j.ensures in
+    let n = c.address_count.ensures ∙ ap address_count c.stored-in-loop-j.ensures in
     omega (arith, (gone-facts c.args.a.now c.address_count-n.result c.loop-j.j (c.loop-j.invariant c.requires.state c.requires.fits)))
 
 pub gone_iteration-requires : goal.gone_iteration-requires
 gone_iteration-requires c =
-    let n = c.address_count.ensures ∙ ap address_count c.words-in-loop-j.ensures in
+    let n = c.address_count.ensures ∙ ap address_count c.stored-in-loop-j.ensures in
     let g = c.loop-j.invariant c.requires.state c.requires.fits in
     record {
       some_room = going_ready potential g;
@@ -41,7 +34,7 @@ gone_iteration-requires c =
 pub loop-j-preserved : goal.loop-j-preserved
 loop-j-preserved c =
     λ st f.
-    let n = c.address_count.ensures ∙ ap address_count c.words-in-loop-j.ensures in
+    let n = c.address_count.ensures ∙ ap address_count c.stored-in-loop-j.ensures in
     let i = c.loop-j.j + c.address_count.result - c.address_count-n.result in
     let g = c.loop-j.invariant st f in
     let e : i + c.address_count-n.result ≡ c.loop-j.j + address_count c.loop-j.change.state.words.now = omega (arith, gone-facts c.args.a.now c.address_count-n.result c.loop-j.j g) in

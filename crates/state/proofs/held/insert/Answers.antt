@@ -27,8 +27,8 @@ invariant_of-s g c =
     let h = represented c.args.s.now.holds in
     record {
       holds = representing {st = g.R.Held.with (insert_at c.args.i (g.R.Held.words c.args.row.now) (g.R.Held.rows st)) st}
-        (rw (c.insert.ensures, c.AT.ensures, c.WIDTH.ensures, c.WIDTH-2.ensures, c.words.ensures, c.wide.ensures, c.COUNT.ensures, c.COUNT-2.ensures)
-        (held-insert k h c.args.i _ (omega (arith, held-count k h, c.requires.i_bound)) (omega (arith, held-count k h, c.requires.i_bound)) c.requires.row_value));
+          (rw (c.insert.ensures, c.AT.ensures, c.WIDTH.ensures, c.WIDTH-2.ensures, c.words.ensures, c.wide.ensures, c.COUNT.ensures, c.COUNT-2.ensures)
+          (held-insert k h c.args.i _ (omega (arith, held-count k h, c.requires.i_bound)) (omega (arith, held-count k h, c.requires.i_bound)) c.requires.row_value));
     }
 
 pub returns : goal.returns
@@ -36,7 +36,7 @@ returns g c =
     let k = g.met.R.Held.held in
     record {
       holds = λ st h.
-        rw (c.insert.ensures, c.AT.ensures, c.WIDTH.ensures, c.WIDTH-2.ensures, c.words.ensures, c.wide.ensures, c.COUNT.ensures, c.COUNT-2.ensures)
-        (held-insert k h c.args.i _ (omega (arith, held-count k h, c.requires.i_bound)) (omega (arith, held-count k h, c.requires.i_bound)) c.requires.row_value);
+          rw (c.insert.ensures, c.AT.ensures, c.WIDTH.ensures, c.WIDTH-2.ensures, c.words.ensures, c.wide.ensures, c.COUNT.ensures, c.COUNT-2.ensures)
+          (held-insert k h c.args.i _ (omega (arith, held-count k h, c.requires.i_bound)) (omega (arith, held-count k h, c.requires.i_bound)) c.requires.row_value);
       place = refl;
     }

@@ -33,8 +33,8 @@ invariant_of-s g c =
     let h = represented c.args.s.now.holds in
     record {
       holds = representing {st = g.R.Held.with (remove_at c.args.i (g.R.Held.rows st)) st}
-        (rw (c.remove.ensures, c.AT.ensures, c.WIDTH.ensures, c.WIDTH-2.ensures, c.WIDTH-3.ensures, c.wide.ensures, c.COUNT.ensures, c.COUNT-2.ensures)
-        (held-remove k h c.args.i (omega (arith, held-count k h, c.requires.i_bound))));
+          (rw (c.remove.ensures, c.AT.ensures, c.WIDTH.ensures, c.WIDTH-2.ensures, c.WIDTH-3.ensures, c.wide.ensures, c.COUNT.ensures, c.COUNT-2.ensures)
+          (held-remove k h c.args.i (omega (arith, held-count k h, c.requires.i_bound))));
     }
 
 pub returns : goal.returns
@@ -42,7 +42,7 @@ returns g c =
     let k = g.met.R.Held.held in
     record {
       holds = λ st h.
-        rw (c.remove.ensures, c.AT.ensures, c.WIDTH.ensures, c.WIDTH-2.ensures, c.WIDTH-3.ensures, c.wide.ensures, c.COUNT.ensures, c.COUNT-2.ensures)
-        (held-remove k h c.args.i (omega (arith, held-count k h, c.requires.i_bound)));
+          rw (c.remove.ensures, c.AT.ensures, c.WIDTH.ensures, c.WIDTH-2.ensures, c.WIDTH-3.ensures, c.wide.ensures, c.COUNT.ensures, c.COUNT-2.ensures)
+          (held-remove k h c.args.i (omega (arith, held-count k h, c.requires.i_bound)));
       place = refl;
     }

@@ -27,8 +27,8 @@ invariant_of-s g c =
     let h = represented c.args.s.now.holds in
     record {
       holds = representing {st = g.R.Held.with (set (g.R.Held.rows st) c.args.i (g.R.Held.words c.args.row.now)) st}
-        (rw (c.store.ensures, c.AT.ensures, c.WIDTH.ensures, c.words.ensures)
-        (held-replace k h c.args.i _ (omega (arith, held-count k h, c.requires.i_bound)) c.requires.row_value));
+          (rw (c.store.ensures, c.AT.ensures, c.WIDTH.ensures, c.words.ensures)
+          (held-replace k h c.args.i _ (omega (arith, held-count k h, c.requires.i_bound)) c.requires.row_value));
     }
 
 pub returns : goal.returns
@@ -36,7 +36,7 @@ returns g c =
     let k = g.met.R.Held.held in
     record {
       holds = λ st h.
-        rw (c.store.ensures, c.AT.ensures, c.WIDTH.ensures, c.words.ensures)
-        (held-replace k h c.args.i _ (omega (arith, held-count k h, c.requires.i_bound)) c.requires.row_value);
+          rw (c.store.ensures, c.AT.ensures, c.WIDTH.ensures, c.words.ensures)
+          (held-replace k h c.args.i _ (omega (arith, held-count k h, c.requires.i_bound)) c.requires.row_value);
       place = refl;
     }
