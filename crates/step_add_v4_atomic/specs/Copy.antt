@@ -11,7 +11,7 @@ use Rattle.definition.specs.Reference.Addresses.{Outcome, goes, refused, out_of}
 use Rattle.definition.specs.Preservation.Refused.{Leaves}
 use Rattle.refusal.specs.declared.Refusal.{Refusal}
 use Rattle.refusal.specs.declared.Refusal.TheVariants.{Full}
-use Rattle.state.specs.Represents.{Represents, RepresentsFit, holds-long, sound-long}
+use Rattle.state.specs.Represents.{Represents}
 use Rattle.step_events.specs.Tells.{SamePlaces}
 use Rattle.step_events.specs.Emits.{Emits, does-none}
 use Rattle.step_events.specs.Comes.{Answer, Comes, ComesWhole, made, comes-ok, whole-made, whole-full}
@@ -24,10 +24,6 @@ pub record CopiedBack (t a b : Change) : Type 0 where
   pub words : b.events.now ≡ put (34 * a.told) (take (34 * t.told) t.events.now) a.events.now
   pub long : length b.events.now ≡ length a.events.now
   pub places : SamePlaces a b
-
--- what was tried holds a state, and so is as long as the words
-pub tried-long : {u : Outcome} {t₀ t : Change} {r : Answer} → r ≡ Ok tt → Comes u t₀ t r → {w : List ℕ} → RepresentsFit w → length t.state.words.now ≡ length w
-tried-long e c v = holds-long (comes-ok (rw e at c)).1.holds ∙ sym (sound-long v)
 
 -- the rows at the start of a buffer
 front : (v z : List ℕ) (n : ℕ) → length v ≡ n → take n (put 0 v z) ≡ v

@@ -7,8 +7,9 @@ ghost use Rattle.definition.specs.State.{State};
 ghost use Rattle.definition.specs.Step.{event_limit};
 ghost use Rattle.definition.specs.Words.{fit_state};
 ghost use Rattle.definition.specs.Reference.Addresses.{goes, add_v4, up};
-ghost use Rattle.state.specs.Represents.{Represents, RepresentsSome, RepresentsFit};
+ghost use Rattle.state.specs.Represents.{Represents};
 ghost use Rattle.step_events.specs.Comes.{ComesWhole};
+ghost use Rattle.step_events.specs.Tells.{TellsAtMost};
 ghost use Rattle.step_add_v4_atomic.specs.Copy.{CopiedBack};
 ghost use Rattle.step_add_v4_atomic.specs.Room.{has_room};
 
@@ -18,6 +19,7 @@ use layout::{
 };
 use life::Nanoseconds;
 use refusal::Refusal;
+use state::{Stored, StoredMut};
 use step_events::Change;
 
 // A call lists two tables at most, 254 and 255.
@@ -27,23 +29,42 @@ const TABLES_BEFORE: usize = TABLE_LIMIT - 2;
 const ADDED_BUFFER: usize = 5 * EVENT_WORDS;
 
 // Whether every list has room: for an address, as many routes, and the two tables.
-fn has_room(s: &[u32], rows: usize) -> bool
-    requires { RepresentsSome s.now }
-    ensures { result ≡ has_room s.now rows }
+fn has_room(s: Stored<'_>, rows: usize) -> bool
+    ensures { result ≡ has_room s.entry.words.now rows }
 {
     s.addresses().rows.len() < ADDRESS_LIMIT
         && rows <= ROUTE_LIMIT
         && s.routes().rows.len() <= ROUTE_LIMIT - rows
-        && words::wide(s[TABLE_COUNT]) <= TABLES_BEFORE
+        && words::wide(s.words[TABLE_COUNT]) <= TABLES_BEFORE
+}
+
+// The words of another state.
+fn copy_state(to: &mut StoredMut<'_>, from: Stored<'_>)
+    ensures words { to.new.words.now ≡ from.entry.words.now }
+    ensures place { to.new.words.ghost_name ≡ to.old.words.ghost_name }
+{
+    words::copy(to.words, from.words);
+}
+
+// A change to a state, of which nothing is told yet. The borrow checker asks one lifetime of both.
+fn begun<'a>(state: StoredMut<'a>, events: &'a mut [u32]) -> Change<'a>
+    ensures state { result.state.words.now ≡ state.entry.words.now }
+    ensures events { result.events.now ≡ events.old }
+    ensures told { result.told ≡ 0 }
+{
+    Change {
+        state,
+        events,
+        told: 0,
+    }
 }
 
 // What was tried on a copy: its words are taken over, and what it told is told behind what was told before.
 fn copy_back(change: &mut Change<'_>, tried: &Change<'_>)
-    requires same_length { length tried.now.state.words.now ≡ length change.old.state.words.now }
-    requires in_bounds { 34 * (change.old.told + tried.now.told) ≤ length change.old.events.now }
+    requires { 34 * (change.old.told + tried.now.told) ≤ length change.old.events.now }
     ensures { CopiedBack tried.now change.old change.new }
 {
-    words::copy(change.state, tried.state);
+    copy_state(&mut change.state, tried.state.stored());
     let end = EVENT_WORDS * tried.told;
     words::store(
         change.events,
@@ -55,20 +76,15 @@ fn copy_back(change: &mut Change<'_>, tried: &Change<'_>)
 
 // It and `try_up` stay two: what differs is the call and its buffer, and a closure over a lent change would say more than both.
 fn try_add_v4(change: &mut Change<'_>, q: &AddV4, clock: Nanoseconds) -> Result<(), Refusal>
-    requires represents_fit { RepresentsFit change.old.state.words.now }
     requires q_fit { fit_add_v4 q.now ≡ true }
     requires in_bounds { 34 * (change.old.told + 5) ≤ length change.old.events.now }
-    ensures told { change.new.told ≤ change.old.told + 5 }
+    ensures told { TellsAtMost 5 change.old change.new }
     ensures comes_whole { (st : State) → Represents change.old.state.words.now st → fit_state st ≡ true → ComesWhole st (add_v4 q.now clock.0 st) change.old change.new result }
 {
     let mut copy = [0; BASE_WORDS];
-    words::copy(&mut copy, change.state.stored());
+    words::copy(&mut copy, change.state.stored().words);
     let mut rows = [0; ADDED_BUFFER];
-    let mut tried = Change {
-        state: &mut copy,
-        events: &mut rows,
-        told: 0,
-    };
+    let mut tried = begun(StoredMut { words: &mut copy }, &mut rows);
     step_add_v4::add_v4(&mut tried, q, clock)?;
     copy_back(change, &tried);
     Ok(())
@@ -76,10 +92,9 @@ fn try_add_v4(change: &mut Change<'_>, q: &AddV4, clock: Nanoseconds) -> Result<
 
 // A requested address put in, or the one that is there changed, where the request says so.
 pub fn add_v4(change: &mut Change<'_>, q: &AddV4, clock: Nanoseconds) -> Result<(), Refusal>
-    requires represents_fit { RepresentsFit change.old.state.words.now }
     requires q_fit { fit_add_v4 q.now ≡ true }
     requires in_bounds { 34 * (change.old.told + 5) ≤ length change.old.events.now }
-    ensures told { change.new.told ≤ change.old.told + 5 }
+    ensures told { TellsAtMost 5 change.old change.new }
     ensures comes_whole { (st : State) → Represents change.old.state.words.now st → fit_state st ≡ true → ComesWhole st (add_v4 q.now clock.0 st) change.old change.new result }
 {
     if has_room(change.state.stored(), 4) {
@@ -89,19 +104,14 @@ pub fn add_v4(change: &mut Change<'_>, q: &AddV4, clock: Nanoseconds) -> Result<
 }
 
 fn try_up(change: &mut Change<'_>, clock: Nanoseconds) -> Result<(), Refusal>
-    requires represents_fit { RepresentsFit change.old.state.words.now }
     requires in_bounds { 34 * (change.old.told + event_limit) ≤ length change.old.events.now }
-    ensures told { OnOk result (change.new.told ≤ change.old.told + 325) }
+    ensures told { OnOk result (TellsAtMost 325 change.old change.new) }
     ensures comes_whole { (st : State) → Represents change.old.state.words.now st → fit_state st ≡ true → ComesWhole st (goes (up clock.0 st)) change.old change.new result }
 {
     let mut copy = [0; BASE_WORDS];
-    words::copy(&mut copy, change.state.stored());
+    words::copy(&mut copy, change.state.stored().words);
     let mut rows = [0; EVENT_BUFFER];
-    let mut tried = Change {
-        state: &mut copy,
-        events: &mut rows,
-        told: 0,
-    };
+    let mut tried = begun(StoredMut { words: &mut copy }, &mut rows);
     step_add_v4::up(&mut tried, clock)?;
     copy_back(change, &tried);
     Ok(())
@@ -109,9 +119,8 @@ fn try_up(change: &mut Change<'_>, clock: Nanoseconds) -> Result<(), Refusal>
 
 // 127.0.0.1 if it isn't there, with its routes; then the routes that every address has.
 pub fn up(change: &mut Change<'_>, clock: Nanoseconds) -> Result<(), Refusal>
-    requires represents_fit { RepresentsFit change.old.state.words.now }
     requires in_bounds { 34 * (change.old.told + event_limit) ≤ length change.old.events.now }
-    ensures told { OnOk result (change.new.told ≤ change.old.told + 325) }
+    ensures told { OnOk result (TellsAtMost 325 change.old change.new) }
     ensures comes_whole { (st : State) → Represents change.old.state.words.now st → fit_state st ≡ true → ComesWhole st (goes (up clock.0 st)) change.old change.new result }
 {
     let most = 4 * (change.state.stored().addresses().rows.len() + 2);

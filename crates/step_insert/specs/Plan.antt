@@ -16,9 +16,11 @@ use Rattle.layout.specs.Flags.{has_bit}
 use Rattle.layout.specs.Bits.{has_and}
 use Rattle.layout.specs.Route.{alike}
 use Rattle.definition.specs.State.{State, with_routes}
-use Rattle.definition.specs.Words.{ordered, fit_state, address_count}
+use Rattle.definition.specs.Words.{decode, ordered, fit_state, address_count}
 use Rattle.definition.specs.Preservation.Fit.{fit-state}
 use Rattle.state.specs.Represents.{Represents, count-addresses}
+use Rattle.state.specs.Stored.{represented}
+use Rattle.state.specs.declared.stored.StoredMut.{StoredMut}
 use Rattle.lists.specs.Bools.{cond-case}
 use Rattle.definition.specs.Reference.Insert as Insert
 use Rattle.definition.specs.Reference.Insert.{ahead, insert4, excl_flag, replace_flag, create_flag, append_flag}
@@ -180,9 +182,10 @@ module _ (new : Row) (flags : ℕ) (st : State) (p : Plan) (e : planned new st.r
       let is : insert4 new flags st.routes ≡ Insert.unplaced (number_of why) = sym e ∙ ap (planned new st.routes) q in
       record { answer = rw is (ap Err known); holds = rw is h }
 
--- words that hold the same addresses count as many
-pub count-stays : {w x : List ℕ} {st later : State} → Represents w st → Represents x later → later.addresses ≡ st.addresses → address_count x ≡ address_count w
-count-stays h k e = count-addresses k ∙ ap length e ∙ sym (count-addresses h)
+-- two states that differ in their routes alone
+pub others-count : (a b : StoredMut) → with_routes [] (decode b.words.now) ≡ with_routes [] (decode a.words.now) → address_count b.words.now ≡ address_count a.words.now
+others-count a b e =
+    count-addresses (represented b.holds) ∙ ap (λ (s : State). length s.addresses) e ∙ sym (count-addresses (represented a.holds))
 
 -- the rows of a fit state are in order
 pub in_order : (st : State) → fit_state st ≡ true → ordered st.routes ≡ true

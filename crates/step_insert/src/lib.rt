@@ -1,12 +1,12 @@
 // A route put into its place among the rows.
 #![tactic(auto)]
 
-ghost use Rattle.std.specs.Prelude.{◌≡◌, true, not, ◌+◌, ◌≤◌, eqb, length};
+ghost use Rattle.std.specs.Prelude.{◌≡◌, true, [], not, ◌+◌, ◌≤◌, eqb, length};
 ghost use Rattle.std.specs.Int.Bits.{bit_and};
 ghost use Rattle.std.specs.Ordering.{is_lt, is_eq};
 ghost use Rattle.layout.specs.Route.{fit_route};
-ghost use Rattle.definition.specs.State.{State};
-ghost use Rattle.definition.specs.Words.{ordered, fit_state, address_count};
+ghost use Rattle.definition.specs.State.{State, with_routes};
+ghost use Rattle.definition.specs.Words.{decode, ordered, fit_state};
 ghost use Rattle.definition.specs.Reference.Insert.{insert4};
 ghost use Rattle.state.specs.Represents.{Represents};
 ghost use Rattle.step_insert.specs.Search.{in_front, in_run, run_start, run_end, rows_read};
@@ -182,11 +182,11 @@ fn plan4(routes: Routes<'_>, new: &RouteRow, flags: u32) -> Result<Option<Placem
 }
 
 // A route put into its place, the rows as the definition has them: the flags to tell of it, none where it is there already. A full
-// list stays as it is.
+// list stays as it is, and so does all but the routes, in whatever order they are.
 pub fn insert4(s: &mut StoredMut<'_>, new: &RouteRow, flags: u32) -> Result<Option<u32>, Refusal>
     requires { fit_route new.now ≡ true }
     ensures inserted_into { (st : State) → Represents s.old.words.now st → fit_state st ≡ true → InsertedInto new.now flags st s.new.words.now result }
-    ensures addresses { address_count s.new.words.now ≡ address_count s.old.words.now }
+    ensures others { with_routes [] (decode s.new.words.now) ≡ with_routes [] (decode s.old.words.now) }
     ensures place { s.new.words.ghost_name ≡ s.old.words.ghost_name }
 {
     let routes = s.stored().routes();

@@ -14,13 +14,13 @@ use Rattle.definition.specs.Reference.Insert.{list_table, create4, insert4, inse
 use Rattle.definition.specs.Reference.Addresses.{goes}
 use Rattle.definition.specs.Preservation.Fit.{fit-state, state-fit}
 use Rattle.definition.specs.Preservation.Addresses.{create4-fit}
-use Rattle.state.specs.Represents.{Represents}
+use Rattle.state.specs.Represents.{Represents, count-addresses}
 use Rattle.state.specs.Change.{tables-at}
 use Rattle.state.specs.Stored.{Becomes, represented}
 use Rattle.state.specs.declared.stored.StoredMut.{StoredMut}
 use Rattle.state_tables.specs.Listed.{tables_of}
 use Rattle.refusal.specs.declared.Refusal.TheVariants.{Full}
-use Rattle.step_insert.specs.Plan.{Inserted, answer_of, rows_after, InsertedInto, count-stays}
+use Rattle.step_insert.specs.Plan.{Inserted, answer_of, rows_after, InsertedInto}
 use Rattle.step_events.specs.Row.{new_route-long}
 use Rattle.step_events.specs.Tells.{Tells}
 use Rattle.step_events.specs.Emits.{does-one}
@@ -44,7 +44,7 @@ created-fit t st h = state-fit (create4 t st) (create4-fit t st (fit-state st h)
 -- a table listed leaves the addresses
 pub created-count : (t : ℕ) {a b : StoredMut} → Becomes (create4 t) a b → address_count b.words.now ≡ address_count a.words.now
 unfolding create4
-created-count t {a} k = let h = represented a.holds in count-stays h (k.holds (decode a.words.now) h) refl
+created-count t {a} k = let h = represented a.holds in count-addresses (k.holds (decode a.words.now) h) ∙ sym (count-addresses h)
 
 -- ---- by what came of the insertion into the state with the table listed
 module _ (new : Row) (made : State) where

@@ -12,7 +12,7 @@ use Rattle.layout.specs.Route.{fit_route}
 use Rattle.layout.specs.Request.{nlm_flags, fit_add_route4}
 use Rattle.layout.specs.Event.{new_route4}
 use Rattle.definition.specs.State.{State, sizes, with_routes}
-use Rattle.definition.specs.Words.{within}
+use Rattle.definition.specs.Words.{decode, within}
 use Rattle.definition.specs.Step.{roomy}
 use Rattle.definition.specs.Preservation.Rows.{asked_route-fit}
 use Rattle.definition.specs.Reference.Insert as Insert
@@ -21,6 +21,8 @@ use Rattle.definition.specs.Reference.Routes as Routes
 use Rattle.definition.specs.Reference.Routes.{by, table_named, form_check, inserted_as, asked_route, add_route4}
 use Rattle.state.specs.Represents.{Represents}
 use Rattle.state.specs.Change.{tables-at}
+use Rattle.state.specs.Stored.{represented}
+use Rattle.state.specs.declared.stored.StoredMut.{StoredMut}
 use Rattle.state_tables.specs.Listed.{tables_of}
 use Rattle.step_insert.specs.Plan.{Inserted, answer_of, rows_after}
 use Rattle.request_gateway.specs.Rows.{reached}
@@ -126,8 +128,14 @@ check-formed q made linked e =
 pub asked-fits : (q : Row) (made : State) (linked : Bool) → by linked ≡ check_all q made → length q ≡ 34 → fit_add_route4 q ≡ true → fit_route (asked_route q linked) ≡ true
 asked-fits q made linked e long fit = asked_route-fit q linked long fit (check-formed q made linked e)
 
-pub room-kept : {w x : List ℕ} {st : State} (t : ℕ) (rows : List Row) → Represents w st → Represents x (with_routes rows st) → length (list_table t (tables_of w)) ≤ 32 → length (list_table t (tables_of x)) ≤ 32
-room-kept t rows h k room = rw (tables-at k) (rw (tables-at h) at room)
+-- a state that differs in its routes alone lists the same tables
+pub room-kept : (t : ℕ) (a b : StoredMut) → with_routes [] (decode b.words.now) ≡ with_routes [] (decode a.words.now) → length (list_table t (tables_of a.words.now)) ≤ 32
+    → length (list_table t (tables_of b.words.now)) ≤ 32
+room-kept t a b e room =
+    let same : tables_of b.words.now ≡ tables_of a.words.now =
+    tables-at (represented b.holds) ∙ ap (λ (s : State). s.tables) e ∙ sym (tables-at (represented a.holds))
+    in
+    rw same room
 
 -- ---- the ways out, as the code has them
 pub checked-linked : {x : Result Bool Refusal} (r : Routes.Reached) → x ≡ reached r → (linked : Bool) → x ≡ Ok linked → by linked ≡ r

@@ -1,6 +1,6 @@
 -- The ways out of a request: a refusal, a row, nothing.
 -- Assumes nothing.
-use Rattle.std.specs.Prelude.{ℕ, ◌≡◌, refl, false, List, [], ◌∷◌, Ok, Err, length}
+use Rattle.std.specs.Prelude.{ℕ, ◌≡◌, refl, false, [], ◌∷◌, Ok, Err, length}
 use Rattle.lists.specs.Lists.{Row}
 use Rattle.refusal.specs.declared.Refusal.TheVariants.{Errno, Full}
 use Rattle.definition.specs.State.{State, becomes, stays}

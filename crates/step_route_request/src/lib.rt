@@ -9,7 +9,7 @@ ghost use Rattle.definition.specs.Words.{fit_state};
 ghost use Rattle.definition.specs.Reference.Routes.{by, table_named, inserted_as, asked_route, add_route4, del_route4_request};
 ghost use Rattle.definition.specs.Reference.Lookup.{listed};
 ghost use Rattle.definition.specs.Reference.Insert.{list_table, create4, insert4};
-ghost use Rattle.state.specs.Represents.{Represents, RepresentsSome, RepresentsFit};
+ghost use Rattle.state.specs.Represents.{Represents};
 ghost use Rattle.state_tables.specs.Listed.{tables_of};
 ghost use Rattle.request_gateway.specs.Rows.{reached};
 ghost use Rattle.step_events.specs.Comes.{ComesWhole};
@@ -17,11 +17,11 @@ ghost use Rattle.step_route_request.specs.Check.{prefsrc_check, check_all};
 
 use layout::{AddRoute4, DelRoute4, TABLE_LIMIT, add_route4, route};
 use refusal::Refusal;
+use state::Stored;
 use step_events::Change;
 
 // The first row that the request names goes. No table is listed.
 pub fn del_route4(change: &mut Change<'_>, q: &DelRoute4) -> Result<(), Refusal>
-    requires represents_some { RepresentsSome change.old.state.words.now }
     requires fit { fit_del_route4 q.now ≡ true }
     requires in_bounds { 34 * (change.old.told + 1) ≤ length change.old.events.now }
     ensures { (st : State) → Represents change.old.state.words.now st → ComesWhole st (del_route4_request q.now st) change.old change.new result }
@@ -45,15 +45,14 @@ pub fn del_route4(change: &mut Change<'_>, q: &DelRoute4) -> Result<(), Refusal>
 
 // The preferred source, once the table is listed.
 fn prefsrc_check(
-    s: &[u32],
+    s: Stored<'_>,
     q: &AddRoute4,
     t: u32,
     local: bool,
     linked: bool,
 ) -> Result<bool, Refusal>
-    requires represents_some { RepresentsSome s.now }
-    requires named { t ≡ table_named q.now }
-    ensures { (st : State) → Represents s.now st → local ≡ (listed 255 st || eqb 255 t) → result ≡ reached (prefsrc_check q.now (by linked) (create4 (table_named q.now) st)) }
+    requires { t ≡ table_named q.now }
+    ensures { (st : State) → Represents s.entry.words.now st → local ≡ (listed 255 st || eqb 255 t) → result ≡ reached (prefsrc_check q.now (by linked) (create4 (table_named q.now) st)) }
 {
     if q[route::PREFSRC_PRESENT] != 1 {
         return Ok(linked);
@@ -68,10 +67,9 @@ fn prefsrc_check(
 }
 
 // Every check before the insertion, as it comes out once the table is listed: nothing is written yet.
-fn check(s: &[u32], q: &AddRoute4) -> Result<bool, Refusal>
-    requires represents_some { RepresentsSome s.now }
-    requires fit { fit_add_route4 q.now ≡ true }
-    ensures { (st : State) → Represents s.now st → result ≡ reached (check_all q.now (create4 (table_named q.now) st)) }
+fn check(s: Stored<'_>, q: &AddRoute4) -> Result<bool, Refusal>
+    requires { fit_add_route4 q.now ≡ true }
+    ensures { (st : State) → Represents s.entry.words.now st → result ≡ reached (check_all q.now (create4 (table_named q.now) st)) }
 {
     request_route::form_check(q)?;
     let t = request_route::table_named(q);
@@ -84,7 +82,6 @@ fn check(s: &[u32], q: &AddRoute4) -> Result<bool, Refusal>
 
 // The row is put in before its table is listed: where it has no room, nothing is written.
 fn add_checked(change: &mut Change<'_>, q: &AddRoute4, t: u32, linked: bool) -> Result<(), Refusal>
-    requires represents_fit { RepresentsFit change.old.state.words.now }
     requires s_len_bound { length (list_table t (tables_of change.old.state.words.now)) ≤ 32 }
     requires fit { fit_route (asked_route q.now linked) ≡ true }
     requires in_bounds { 34 * (change.old.told + 1) ≤ length change.old.events.now }
@@ -111,7 +108,6 @@ fn add_checked(change: &mut Change<'_>, q: &AddRoute4, t: u32, linked: bool) -> 
 
 // The table is listed whatever comes of it, unless a list has no room.
 pub fn add_route4(change: &mut Change<'_>, q: &AddRoute4) -> Result<(), Refusal>
-    requires represents_fit { RepresentsFit change.old.state.words.now }
     requires fit { fit_add_route4 q.now ≡ true }
     requires in_bounds { 34 * (change.old.told + 1) ≤ length change.old.events.now }
     ensures { (st : State) → Represents change.old.state.words.now st → fit_state st ≡ true → ComesWhole st (add_route4 q.now st) change.old change.new result }

@@ -1,11 +1,12 @@
-use Rattle.std.proofs.Common.{arith, refl, ap, ◌∙◌}
-use Rattle.std.specs.Prelude.{◌≡◌, Ok, Err, Some, length, List}
+use Rattle.std.proofs.Common.{arith, ap, ◌∙◌}
+use Rattle.std.specs.Prelude.{◌≡◌, [], Ok, Err, Some, length, List}
 use Rattle.std.proofs.lemmas.Result.{err_from_is_err_and}
 use Rattle.lists.specs.Lists.{Row}
+use Rattle.definition.specs.State.{with_routes}
 use Rattle.definition.specs.Words.{decode}
 use Rattle.state.specs.Represents.{sizes_of}
-use Rattle.state.specs.Stored.{represented}
-use Rattle.step_insert.specs.Plan.{count-stays, in_order, plans, add_place, into-full, into-put, into_replaced, into-kept, into-refused}
+use Rattle.state.specs.Stored.{represented, decode-held}
+use Rattle.step_insert.specs.Plan.{in_order, plans, add_place, into-full, into-put, into_replaced, into-kept, into-refused}
 use Rattle.step_insert.proofs.insert4.Goals as goal
 
 pub returns-in_err-place-clause-inserted_into : goal.returns-in_err-place-clause-inserted_into
@@ -46,15 +47,11 @@ returns-else-n-eq-ROUTE_LIMIT-clause-inserted_into c =
     (omega (arith, long, h.routes_within, c.if-n-eq-ROUTE_LIMIT.false))
     (c.insert_route.ensures.holds st h)
 
-pub returns-else-n-eq-ROUTE_LIMIT-clause-addresses : goal.returns-else-n-eq-ROUTE_LIMIT-clause-addresses
-returns-else-n-eq-ROUTE_LIMIT-clause-addresses c =
-    let h = represented c.args.s.now.holds in
-    count-stays h (c.insert_route.ensures.holds (decode c.args.s.now.words.now) h) refl
+pub returns-else-n-eq-ROUTE_LIMIT-clause-others : goal.returns-else-n-eq-ROUTE_LIMIT-clause-others
+returns-else-n-eq-ROUTE_LIMIT-clause-others c = ap (with_routes []) (decode-held (c.insert_route.ensures.holds (decode c.args.s.now.words.now) (represented c.args.s.now.holds)))
 
-pub returns-in-Some-Replace-clause-addresses : goal.returns-in-Some-Replace-clause-addresses
-returns-in-Some-Replace-clause-addresses c =
-    let h = represented c.args.s.now.holds in
-    count-stays h (c.replace_route.ensures.holds (decode c.args.s.now.words.now) h) refl
+pub returns-in-Some-Replace-clause-others : goal.returns-in-Some-Replace-clause-others
+returns-in-Some-Replace-clause-others c = ap (with_routes []) (decode-held (c.replace_route.ensures.holds (decode c.args.s.now.words.now) (represented c.args.s.now.holds)))
 
 pub returns-in-Some-Replace-clause-inserted_into : goal.returns-in-Some-Replace-clause-inserted_into
 returns-in-Some-Replace-clause-inserted_into c =

@@ -4,7 +4,7 @@ use Rattle.layout.specs.Route.{table}
 use Rattle.definition.specs.Words.{address_count}
 use Rattle.definition.specs.Preservation.Fit.{length-route}
 use Rattle.definition.specs.Reference.Insert.{create4}
-use Rattle.step_insert.specs.Plan.{Inserted}
+use Rattle.step_insert.specs.Plan.{Inserted, others-count}
 use Rattle.step_events.specs.Emits.{tells-none, tells-behind, tells-ahead}
 use Rattle.step_kernel_add.specs.Add.{created-count, created-fit, add_full_tables, add_put, add_none, add_full}
 use Rattle.step_kernel_add.proofs.kernel_add4.Goals as goal
@@ -48,13 +48,13 @@ returns-in_default-clause-comes c =
     refl (tells-behind (tells-none c.args.change.now) refl refl (c.insert4.ensures.place ∙ c.list_table.ensures.place) refl)
 
 pub returns-in-Ok-Some-clause-addresses : goal.returns-in-Ok-Some-clause-addresses
-returns-in-Ok-Some-clause-addresses c = ap address_count c.new_route4.ensures.state ∙ c.insert4.ensures.addresses ∙ created-count (table c.args.new.now) c.list_table.ensures
+returns-in-Ok-Some-clause-addresses c = ap address_count c.new_route4.ensures.state ∙ others-count c.list_table.new.s c.insert4.new.s c.insert4.ensures.others ∙ created-count (table c.args.new.now) c.list_table.ensures
 
 pub returns-in-Ok-None-clause-addresses : goal.returns-in-Ok-None-clause-addresses
-returns-in-Ok-None-clause-addresses c = c.insert4.ensures.addresses ∙ created-count (table c.args.new.now) c.list_table.ensures
+returns-in-Ok-None-clause-addresses c = others-count c.list_table.new.s c.insert4.new.s c.insert4.ensures.others ∙ created-count (table c.args.new.now) c.list_table.ensures
 
 pub returns-in-Full-clause-addresses : goal.returns-in-Full-clause-addresses
-returns-in-Full-clause-addresses c = c.insert4.ensures.addresses ∙ created-count (table c.args.new.now) c.list_table.ensures
+returns-in-Full-clause-addresses c = others-count c.list_table.new.s c.insert4.new.s c.insert4.ensures.others ∙ created-count (table c.args.new.now) c.list_table.ensures
 
 pub returns-in_default-clause-addresses : goal.returns-in_default-clause-addresses
-returns-in_default-clause-addresses c = c.insert4.ensures.addresses ∙ created-count (table c.args.new.now) c.list_table.ensures
+returns-in_default-clause-addresses c = others-count c.list_table.new.s c.insert4.new.s c.insert4.ensures.others ∙ created-count (table c.args.new.now) c.list_table.ensures

@@ -1,16 +1,12 @@
 -- `step_route_request::check` meets its contract.
 -- Assumes nothing.
-use Rattle.std.proofs.Common.{eqb, arith, refl, ◌||◌}
+use Rattle.std.proofs.Common.{eqb, arith, ◌||◌}
 use Rattle.std.proofs.lemmas.Grind.{common_steps}
-use Rattle.step_route_request.specs.Check.{or_listed, scope-fits, check_form, check-refused, check-on}
-use Rattle.definition.specs.Reference.Routes.{table_named}
+use Rattle.step_route_request.specs.Check.{or_listed, scope-fits, check-refused, check-on}
 use Rattle.step_route_request.proofs.check.Goals as goal
 
 pub reach_check-requires : goal.reach_check-requires
-reach_check-requires c = scope-fits c.args.q.now c.requires.fit
-
-pub prefsrc_check-requires : goal.prefsrc_check-requires
-prefsrc_check-requires c = record { represents_some = c.requires.represents_some; named = c.table_named-t.ensures }
+reach_check-requires c = scope-fits c.args.q.now c.requires
 
 pub returns-in_err-linked : goal.returns-in_err-linked
 returns-in_err-linked c = λ st h.
