@@ -18,7 +18,7 @@ pub enum Kind {
     Throw,
 }
 
-// The least scope of each code, as document 01 has it: a table. The codes of no kind have one too.
+// The least scope of each code, as document 01 has it: a table.
 const LEAST_SCOPES: [u32; 12] = [255, 0, 254, 253, 253, 0, 0, 0, 0, 0, 255, 255];
 
 // A code that is none of the seven.
@@ -62,11 +62,18 @@ impl From<Kind> for u32 {
 }
 
 impl Kind {
-    // What a lookup that ends at a route of this kind gives, where it rejects.
+    // What a lookup that ends at a route of this kind gives, where it rejects: EINVAL, EHOSTUNREACH, EACCES and EAGAIN.
+    #[tactic(auto, unfolding(crate::specs::Kind::error_of))]
     pub fn error(self) -> Option<u32>
         ensures { result ≡ rejection (error_of (code_of self)) }
     {
-        error_of(u32::from(self))
+        match self {
+            Kind::Unicast | Kind::Local | Kind::Broadcast => None,
+            Kind::Blackhole => Some(22),
+            Kind::Unreachable => Some(113),
+            Kind::Prohibit => Some(13),
+            Kind::Throw => Some(11),
+        }
     }
 }
 
@@ -79,36 +86,28 @@ impl fmt::Display for UnknownKind {
 impl Error for UnknownKind {}
 
 // Whether a code is one of the seven.
-#[tactic(auto, unfolding(crate::specs::Kind::is_kind))]
 pub fn is_kind(code: u32) -> bool
     ensures { result ≡ is_kind code }
 {
-    matches!(code, 1 | 2 | 3 | 6 | 7 | 8 | 9)
+    Kind::try_from(code).is_ok()
 }
 
-// Whether a kind of this code rejects, which rows are asked one after another.
-#[tactic(auto, unfolding(crate::specs::Kind::error_of))]
+// Whether a kind of this code rejects.
 pub fn rejects(code: u32) -> bool
     ensures { result ≡ not (eqb (error_of code) 0) }
 {
-    (6 <= code) & (code <= 9)
+    error_of(code).is_some()
 }
 
-// The error of a code whose kind rejects: EINVAL, EHOSTUNREACH, EACCES and EAGAIN.
-#[tactic(auto, unfolding(crate::specs::Kind::error_of))]
+// The error of a code whose kind rejects.
+#[tactic(auto, unfolding(crate::specs::Kind::error_of, crate::specs::Kind::kind_of))]
 pub fn error_of(code: u32) -> Option<u32>
     ensures { result ≡ rejection (error_of code) }
 {
-    match code {
-        6 => Some(22),
-        7 => Some(113),
-        8 => Some(13),
-        9 => Some(11),
-        _ => None,
-    }
+    Kind::try_from(code).ok()?.error()
 }
 
-// The least scope that a request for a route of this code may have.
+// The least scope that a request for a route of this code may have. Of a code: 0, 4, 10 and 11, which no kind has, have one too.
 pub fn least_scope(code: u32) -> u32
     ensures { result ≡ least_scope code }
 {

@@ -6,7 +6,7 @@ ghost use Rattle.netmask.specs.Netmask.{prefix_of};
 
 use refusal::Refusal;
 
-// The prefix of a netmask; any word may be asked.
+// The prefix of a netmask; any word may be asked. Both are words, so this is no `TryFrom`.
 #[tactic(auto, unfolding(crate::specs::Netmask::prefix_of, crate::specs::Netmask::good))]
 pub fn prefix_of(mask: u32) -> Result<u32, Refusal>
     ensures { result ≡ prefix_of mask }

@@ -52,16 +52,7 @@ pub fn fit_add_v4(q: &[u32]) -> Result<(), Refusal>
         & row_address::fit_optional(q[address::BROADCAST_PRESENT], q[address::BROADCAST])
         & (q[address::SCOPE] < 256)
         & (q[address::PROTO] < 256)
-        & Label {
-            len: q[address::LABEL_LENGTH],
-            words: [
-                q[address::LABEL],
-                q[address::LABEL_1],
-                q[address::LABEL_2],
-                q[address::LABEL_3],
-            ],
-        }
-        .fits()
+        & Label::from(q).fits()
         & (q[add_v4::REPLACE] <= 1)
         & (q[add_v4::UP] <= 1);
     let lasts = (q[add_v4::VALID] != 0) & (q[add_v4::PREFERRED] <= q[add_v4::VALID]);
@@ -80,20 +71,12 @@ pub fn fit_del_v4(q: &[u32]) -> Result<(), Refusal>
         & row_address::fit_optional(q[del_v4::LOCAL_PRESENT], q[del_v4::LOCAL])
         & row_address::fit_optional(q[del_v4::ADDRESS_PRESENT], q[del_v4::ADDRESS])
         & row_address::fit_optional(q[del_v4::LABEL_PRESENT], q[del_v4::LABEL_LENGTH])
-        & Label {
-            len: q[del_v4::LABEL_LENGTH],
-            words: [
-                q[del_v4::LABEL],
-                q[del_v4::LABEL_1],
-                q[del_v4::LABEL_2],
-                q[del_v4::LABEL_3],
-            ],
-        }
-        .fits();
+        & Label::from(q).fits();
     refusal::unless(fit, Refusal::Unfit)
 }
 
-// What both requests for a route ask of its first 12 words.
+// What both requests for a route ask of its first 12 words. A slice, since they have two lengths: with `&[u32; 12]` each caller passes
+// `q.first_chunk().unwrap()`, and that of `fit_add_route4` needs a lemma on the words left out, and an answer.
 fn fit_route_words(q: &[u32]) -> bool
     requires { 12 ≤ length q.now }
     ensures { result ≡ fit_route_words q.now }
@@ -130,7 +113,7 @@ pub fn pairs(q: &DelRoute4) -> &[[u32; 2]]
     ensures { result.now ≡ pairs q.now }
 {
     let (all, _) = q[del_route4::PAIRS..].as_chunks::<2>();
-    &all[..words::wide(q[del_route4::PAIR_COUNT])]
+    &all[..q[del_route4::PAIR_COUNT] as usize]
 }
 
 // Each names one of the 17 metrics.

@@ -47,6 +47,7 @@ fn set_life(mut row: AddressRow, q: &AddV4, clock: Nanoseconds) -> AddressRow
         q[add_v4::VALID],
         q[add_v4::PREFERRED],
     );
+    // Word by word: with `copy_from_slice` or `last_chunk_mut` of `<[u32; 6]>::from(life)` the check finds no proof by itself.
     row[address::VALID] = life.valid.0;
     row[address::PREFERRED] = life.preferred.0;
     let [changed, changed_high] = <[u32; 2]>::from(clock);

@@ -28,6 +28,7 @@ pub struct Rows<'a, R: Fit> {
     ghost fit: { all R.fits rows.now ≡ true },
 }
 
+// By hand, since neither `derive` nor `derive_where` takes a struct with a ghost field.
 impl<R: Fit> Clone for Rows<'_, R> {
     fn clone(&self) -> Result<Self, AllocError> {
         Ok(*self)

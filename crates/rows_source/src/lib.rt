@@ -68,7 +68,7 @@ pub fn source4(addresses: Addresses<'_>, row: &RouteRow, ip: u32) -> Option<u32>
     if row[route::KIND] == layout::KIND_LOCAL {
         return Some(ip);
     }
-    let gateway = (row[route::GATEWAY_PRESENT] == 1).then_some(row[route::GATEWAY]);
+    let gateway = row_address::optional_of(row[route::GATEWAY_PRESENT], row[route::GATEWAY]);
     select4(addresses, gateway, row[route::SCOPE])
 }
 

@@ -34,7 +34,7 @@ fn apart(row: &RouteRow, behind: &[RouteRow]) -> bool
         if row_route::before(row, r) {
             return true;
         }
-        if words::same_words(row, r) {
+        if row == r {
             return false;
         }
     }
@@ -120,9 +120,9 @@ fn unused_zero(s: &[u32]) -> bool
     requires { (length s.now ≡ base_size) × (address_count s.now ≤ 64) × (route_count s.now ≤ 256) × (table_count s.now ≤ 32) }
     ensures { result ≡ unused_zero s.now }
 {
-    let a = ADDRESSES_AT + ADDRESS_WORDS * words::wide(s[ADDRESS_COUNT]);
-    let r = ROUTES_AT + ROUTE_WORDS * words::wide(s[ROUTE_COUNT]);
-    let t = TABLES_AT + words::wide(s[TABLE_COUNT]);
+    let a = ADDRESSES_AT + ADDRESS_WORDS * (s[ADDRESS_COUNT] as usize);
+    let r = ROUTES_AT + ROUTE_WORDS * (s[ROUTE_COUNT] as usize);
+    let t = TABLES_AT + s[TABLE_COUNT] as usize;
     words::all_zero(&s[a..ROUTES_AT]) & words::all_zero(&s[r..TABLES_AT]) & words::all_zero(&s[t..])
 }
 
@@ -130,9 +130,9 @@ pub fn well_formed(s: &[u32]) -> bool
     requires { length s.now ≡ base_size }
     ensures { result ≡ well_formed s.now }
 {
-    let a = words::wide(s[ADDRESS_COUNT]);
-    let r = words::wide(s[ROUTE_COUNT]);
-    let t = words::wide(s[TABLE_COUNT]);
+    let a = s[ADDRESS_COUNT] as usize;
+    let r = s[ROUTE_COUNT] as usize;
+    let t = s[TABLE_COUNT] as usize;
     if ADDRESS_LIMIT < a {
         return false;
     }

@@ -7,7 +7,7 @@ use Rattle.state_well_formed.proofs.apart.Goals as goal
 
 pub loop-r-preserved : goal.loop-r-preserved
 loop-r-preserved c =
-    let same = sym c.same_words.ensures ∙ c.if-same_words.false in
+    let same = sym c.eq.ensures ∙ c.if-eq.false in
     c.loop-r.invariant
     ∙ all-next c.args.behind.now c.loop-r.r-index [] c.loop-r-test.true (λ (b : Row). not (eq_row c.args.row.now b))
     ∙ ap (λ (t : Bool). not t && all (λ (b : Row). not (eq_row c.args.row.now b)) (drop (c.loop-r.r-index + 1) c.args.behind.now)) same
@@ -17,9 +17,9 @@ returns-then-before c = λ o.
     sym (c.loop-r.invariant
     ∙ past-run c.args.behind.now c.args.row.now c.loop-r.r-index (ordered-later c.args.behind.now 0 c.loop-r.r-index (omega arith) o) c.loop-r-test.true (sym c.before-in-loop-r.ensures ∙ c.if-before.true))
 
-pub returns-then-same_words : goal.returns-then-same_words
-returns-then-same_words c = λ o.
-    let same = sym c.same_words.ensures ∙ c.if-same_words.true in
+pub returns-then-eq : goal.returns-then-eq
+returns-then-eq c = λ o.
+    let same = sym c.eq.ensures ∙ c.if-eq.true in
     sym (c.loop-r.invariant
     ∙ all-next c.args.behind.now c.loop-r.r-index [] c.loop-r-test.true (λ (b : Row). not (eq_row c.args.row.now b))
     ∙ ap (λ (t : Bool). not t && all (λ (b : Row). not (eq_row c.args.row.now b)) (drop (c.loop-r.r-index + 1) c.args.behind.now)) same)
