@@ -10,7 +10,8 @@ ghost use Rattle.row_candidates.specs.Rows.{named_routes, prefix_routes, subnet_
 
 use arrayvec::ArrayVec;
 use kind::Kind;
-use layout::{AddressRow, ROUTE_WORDS, RouteRow, address, route};
+use layout::{AddressRow, METRICS, RouteRow, address};
+use row_route::Route4;
 use rows::Addresses;
 
 // At most four routes, in order.
@@ -40,18 +41,22 @@ fn scope_of(kind: Kind) -> u32
 pub fn kernel_route(dst: u32, len: u32, priority: u32, kind: Kind, source: u32) -> RouteRow
     ensures { result ≡ kernel_route dst len priority (code_of kind) source }
 {
-    let mut r = [0; ROUTE_WORDS];
-    r[route::TABLE] = layout::TABLE_LOCAL;
-    r[route::DST] = dst;
-    r[route::LEN] = len;
-    r[route::PRIORITY] = priority;
-    r[route::KIND] = u32::from(kind);
-    r[route::PROTO] = layout::PROTO_KERNEL;
-    r[route::SCOPE] = scope_of(kind);
-    r[route::PREFSRC_PRESENT] = 1;
-    r[route::PREFSRC] = source;
-    r[route::DEVICE] = 1;
-    r
+    RouteRow::from(Route4 {
+        table: layout::TABLE_LOCAL,
+        dst,
+        len,
+        tos: 0,
+        priority,
+        kind,
+        proto: layout::PROTO_KERNEL,
+        scope: scope_of(kind),
+        prefsrc: Some(source),
+        gateway: None,
+        device: true,
+        onlink: false,
+        uses_gateway: false,
+        metrics: [0; METRICS],
+    })
 }
 
 // An address and the source of its routes.
