@@ -189,6 +189,7 @@ fn pairs_asked(metrics: &Table) -> [u32; 36]
     if has_unknown(metrics) {
         return words;
     }
+    // Counted by hand, since only the metrics that are there take a place; a `fold` would have the words in its closure.
     let mut at = 2;
     for k in 1..=codes::RTAX_MAX {
         at = append(metrics, k, &mut words, at);
