@@ -42,7 +42,7 @@ impl From<MessageType> for u32 {
             MessageType::NewRoute => codes::RTM_NEWROUTE,
             MessageType::DelRoute => codes::RTM_DELROUTE,
         };
-        number as u32
+        u32::from(number)
     }
 }
 

@@ -38,6 +38,8 @@ impl<'a> Attributes<'a> {
         ensures { result.now ≡ (parsed self.entry.left.now).spare }
     {
         let mut attributes = self;
+        // No `for` over `by_ref`: tried, but the library doesn't say of a `&mut` iterator that it stays the same reference, so nothing is
+        // known of `attributes` behind the loop.
         while attributes.next().is_some() {}
         attributes.left
     }
@@ -56,12 +58,12 @@ impl<'a> Iterator for Attributes<'a> {
     fn next(&mut self) -> Option<Attribute<'a>> {
         let left = self.left;
         let [n, high_n, code, high_code] = *left.first_chunk::<HEADER>()?;
-        let length = u16::from_le_bytes([n, high_n]) as usize;
+        let length = usize::from(u16::from_le_bytes([n, high_n]));
         let payload = left.get(HEADER..length)?;
         let next = length.next_multiple_of(HEADER).min(left.len());
         self.left = &left[next..];
         Some(Attribute {
-            code: u16::from_le_bytes([code, high_code]) as usize % 16384,
+            code: usize::from(u16::from_le_bytes([code, high_code])) % 16384,
             payload,
         })
     }

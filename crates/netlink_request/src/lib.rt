@@ -50,12 +50,12 @@ pub fn new_addr(message: Message, up: u32) -> AddV4
     [
         local,
         fields.address(codes::IFA_ADDRESS, local),
-        bytes::byte(m, 17) as u32,
-        fields.given(codes::IFA_BROADCAST) as u32,
+        u32::from(bytes::byte(m, 17)),
+        u32::from(fields.given(codes::IFA_BROADCAST)),
         fields.address(codes::IFA_BROADCAST, 0),
-        bytes::byte(m, 19) as u32,
-        fields.number(codes::IFA_FLAGS, 0, bytes::byte(m, 18) as u32),
-        fields.byte(codes::IFA_PROTO) as u32,
+        u32::from(bytes::byte(m, 19)),
+        fields.number(codes::IFA_FLAGS, 0, u32::from(bytes::byte(m, 18))),
+        u32::from(fields.byte(codes::IFA_PROTO)),
         length,
         first,
         second,
@@ -64,7 +64,7 @@ pub fn new_addr(message: Message, up: u32) -> AddV4
         fields.number(codes::IFA_RT_PRIORITY, 0, 0),
         fields.number(codes::IFA_CACHEINFO, 4, u32::MAX),
         fields.number(codes::IFA_CACHEINFO, 0, u32::MAX),
-        replaces(bytes::half(m, 6)) as u32,
+        u32::from(replaces(bytes::half(m, 6))),
         up,
     ]
 }
@@ -78,12 +78,12 @@ pub fn del_addr(message: Message) -> DelV4
     let fields = Table::of(message.body);
     let [length, first, second, third, fourth] = label_words(fields.label(codes::IFA_LABEL, b""));
     [
-        fields.given(codes::IFA_LOCAL) as u32,
+        u32::from(fields.given(codes::IFA_LOCAL)),
         fields.address(codes::IFA_LOCAL, 0),
-        fields.given(codes::IFA_ADDRESS) as u32,
+        u32::from(fields.given(codes::IFA_ADDRESS)),
         fields.address(codes::IFA_ADDRESS, 0),
-        bytes::byte(message.bytes, 17) as u32,
-        fields.given(codes::IFA_LABEL) as u32,
+        u32::from(bytes::byte(message.bytes, 17)),
+        u32::from(fields.given(codes::IFA_LABEL)),
         length,
         first,
         second,
@@ -97,17 +97,17 @@ fn route_words(m: &[u8], fields: &Table) -> [u32; 13]
     ensures { result ≡ route_words m.now (attributes fields.now.bytes.now) }
 {
     [
-        fields.number(codes::RTA_TABLE, 0, bytes::byte(m, 20) as u32),
+        fields.number(codes::RTA_TABLE, 0, u32::from(bytes::byte(m, 20))),
         fields.address(codes::RTA_DST, 0),
-        bytes::byte(m, 17) as u32,
-        bytes::byte(m, 19) as u32,
+        u32::from(bytes::byte(m, 17)),
+        u32::from(bytes::byte(m, 19)),
         fields.number(codes::RTA_PRIORITY, 0, 0),
-        bytes::byte(m, 23) as u32,
-        bytes::byte(m, 21) as u32,
-        bytes::byte(m, 22) as u32,
-        fields.given(codes::RTA_PREFSRC) as u32,
+        u32::from(bytes::byte(m, 23)),
+        u32::from(bytes::byte(m, 21)),
+        u32::from(bytes::byte(m, 22)),
+        u32::from(fields.given(codes::RTA_PREFSRC)),
         fields.address(codes::RTA_PREFSRC, 0),
-        fields.given(codes::RTA_GATEWAY) as u32,
+        u32::from(fields.given(codes::RTA_GATEWAY)),
         fields.address(codes::RTA_GATEWAY, 0),
         fields.number(codes::RTA_OIF, 0, 0),
     ]
@@ -160,7 +160,7 @@ pub fn new_route(message: Message, up: u32) -> AddRoute4
     lay(
         &mut row,
         &route,
-        &[bytes::word(m, 24), bytes::half(m, 6) as u32],
+        &[bytes::word(m, 24), u32::from(bytes::half(m, 6))],
         &metrics,
     );
     row[add_route4::UP] = up;
@@ -189,6 +189,7 @@ fn pairs_asked(metrics: &Table) -> [u32; 36]
     if has_unknown(metrics) {
         return words;
     }
+    // Counted by hand, since only the metrics that are there take a place; a `fold` would have the words in its closure.
     let mut at = 2;
     for k in 1..=codes::RTAX_MAX {
         at = append(metrics, k, &mut words, at);

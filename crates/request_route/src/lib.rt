@@ -9,7 +9,7 @@ ghost use Rattle.refusal.specs.declared.Refusal.TheVariants.{Errno};
 use layout::{AddRoute4, ROUTE_WORDS, RouteRow, add_route4, route};
 use refusal::{Refusal, unless};
 
-// Table 0 is 254.
+// Table 0 is 254. A slice of at least the words that both requests begin with, since one to add and one to delete differ in length.
 pub fn table_named(q: &[u32]) -> u32
     requires { 12 ≤ length q.now }
     ensures { result ≡ table_named q.now }
@@ -71,7 +71,8 @@ pub fn form_check(q: &AddRoute4) -> Result<(), Refusal>
     )
 }
 
-// The row that a request asks for; the kinds that reject have no device.
+// The row that a request asks for; the kinds that reject have no device. No `Route4`: that has one of the seven kinds, and this is said
+// of any number.
 #[tactic(auto, unfolding(definition::specs::Reference::Routes::asked_route))]
 pub fn asked_route(q: &AddRoute4, linked: bool) -> RouteRow
     ensures { result ≡ asked_route q.now linked }

@@ -9,7 +9,8 @@ ghost use Rattle.request_select.specs.Laws.{same_place, same_fields};
 use layout::{DelRoute4, RouteRow, del_route4, route};
 use rows::Routes;
 
-// The row is in the table that is named, and has the destination, the tos and at least the priority.
+// The row is in the table that is named, and has the destination, the tos and at least the priority. This and `same_fields` are the
+// definition's relations between a request and a row, and no equality: the one has a bound in it, the other what matches any.
 fn same_place(q: &DelRoute4, t: u32, r: &RouteRow) -> bool
     ensures { result ≡ same_place q.now t r.now }
 {

@@ -35,6 +35,7 @@ pub fn covers(a: &AddressRow, ip: u32) -> bool
 }
 
 // Whether b, an address or a request for one, is in the subnet of a. A slice, since the two differ in length.
+// No equality: it is the mask of a that both are taken by.
 #[tactic(auto, unfolding(definition::specs::Reference::Addresses::same_subnet))]
 pub fn same_subnet(a: &AddressRow, b: &[u32]) -> bool
     requires { 14 ≤ length b.now }

@@ -56,7 +56,7 @@ fn set_life(mut row: AddressRow, q: &AddV4, clock: Nanoseconds) -> AddressRow
     row
 }
 
-// The row that a request asks for, made at that moment.
+// The row that a request asks for, made at that moment. No `From`: an array from a request and a clock, which are other crates' types.
 #[tactic(auto, unfolding(definition::specs::Reference::Addresses::asked, lists::specs::Lists::zeros))]
 pub fn asked(q: &AddV4, clock: Nanoseconds) -> AddressRow
     ensures { result ≡ asked q.now clock.0 }

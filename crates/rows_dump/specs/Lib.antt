@@ -7,3 +7,4 @@ pub mod Link
 pub mod Written
 pub mod Walk
 pub mod Dump
+pub mod Back

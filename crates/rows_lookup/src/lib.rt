@@ -122,7 +122,9 @@ fn ruled<'a>(found: Option<&'a RouteRow>) -> Option<Result<&'a RouteRow, Refusal
     }
 }
 
-// 255 and 254 together, then 253 if it is listed; none and a throw alike lead on, and at the end there is no route.
+// 255 and 254 together, then 253 if it is listed; none and a throw alike lead on, and at the end there is no route. Here and in what
+// asks it (`rows_source`, `request_prefsrc`, `request_gateway`) each function takes the rows and what is listed of the tables that it
+// reads, and no struct of both flags: a lookup's caller would search the tables for 255 in vain.
 pub fn lookup4_in<'a>(
     routes: Routes<'a>,
     default_listed: bool,

@@ -8,5 +8,5 @@ pub returns : goal.returns
 returns c =
     let m = c.args.message.bytes.now in
     new_route-laid c.args.up m (attributes c.args.message.body.now) _ c.lay.ensures
-    (c.route_words-route.ensures ∙ ap (λ (l : List ℕ). route_words m (attributes l)) c.of-fields.ensures) c.word.ensures c.half.ensures c.metrics_asked-metrics.ensures
+    (c.route_words-route.ensures ∙ ap (λ (l : List ℕ). route_words m (attributes l)) c.of-fields.ensures) c.word.ensures (c.from.ensures ∙ c.half.ensures) c.metrics_asked-metrics.ensures
     (c.nested.ensures ∙ ap (λ (l : List ℕ). metrics_in (attributes l)) c.of-fields.ensures)
