@@ -7,7 +7,8 @@ ghost use Rattle.netlink_attributes.specs.declared.fields.TheConstants.{CODES};
 
 use crate::{Attributes, bytes};
 
-// The codes that have a field: those below 18.
+// The codes that have a field: those below 18. Each method asks `k < CODES` of a number, where a type could say it: the codes are also
+// patterns of a `match` over what a socket sends, and the check finds the bound at every call.
 const CODES: usize = 18;
 
 // The attributes of some bytes, by their code: the payload of the last of each that has a field.

@@ -38,6 +38,8 @@ impl<'a> Attributes<'a> {
         ensures { result.now ≡ (parsed self.entry.left.now).spare }
     {
         let mut attributes = self;
+        // No `for` over `by_ref`: tried, but the library doesn't say of a `&mut` iterator that it stays the same reference, so nothing is
+        // known of `attributes` behind the loop.
         while attributes.next().is_some() {}
         attributes.left
     }

@@ -14,12 +14,42 @@ use netlink::{MessageType, codes};
 use netlink_attributes::{Attribute, Attributes, bytes};
 use refusal::{Refusal, unless};
 
-// A message that passed: its type, its own bytes, and those of its attributes.
+// A message that passed: its type, its own bytes, and those of its attributes. How long these may be is no ghost field: where a bound
+// is needed, a request of an address asks it, and those of a route ask nothing.
 #[derive(Clone, Copy)]
 pub struct Message<'a> {
     pub kind: MessageType,
     pub bytes: &'a [u8],
     pub body: &'a [u8],
+}
+
+impl Message<'_> {
+    // The lengths of the attributes.
+    fn lengths(self) -> bool
+        ensures { result ≡ right self.entry.body.now && (is_address (number_of self.entry.kind) || all nested_right (attributes self.entry.body.now)) }
+    {
+        match self.kind {
+            MessageType::NewAddr | MessageType::DelAddr => netlink_attributes::right(self.body),
+            MessageType::NewRoute | MessageType::DelRoute => {
+                netlink_attributes::right_nested(self.body)
+            }
+        }
+    }
+
+    // An attribute that has a field is as long as the field.
+    fn all_sized(self) -> bool
+        ensures { result ≡ all (sized_in (number_of self.entry.kind)) (attributes self.entry.body.now) }
+    {
+        Attributes::of(self.body).all(|a| sized_in(self.kind, a))
+    }
+
+    // Every attribute has its size, and a new address a local one.
+    #[tactic(auto, unfolding(netlink::specs::Reader::sizes))]
+    fn sizes(self) -> bool
+        ensures { result ≡ sizes (number_of self.entry.kind) (attributes self.entry.body.now) }
+    {
+        self.all_sized() && (self.kind != MessageType::NewAddr || has(self.body, codes::IFA_LOCAL))
+    }
 }
 
 // ---- lengths, type, family
@@ -47,16 +77,6 @@ fn headed(m: &[u8]) -> Result<usize, Refusal>
     Ok(end)
 }
 
-// The lengths of the attributes.
-fn lengths(kind: MessageType, body: &[u8]) -> bool
-    ensures { result ≡ right body.now && (is_address (number_of kind) || all nested_right (attributes body.now)) }
-{
-    match kind {
-        MessageType::NewAddr | MessageType::DelAddr => netlink_attributes::right(body),
-        MessageType::NewRoute | MessageType::DelRoute => netlink_attributes::right_nested(body),
-    }
-}
-
 // A message whose lengths, type and family are right.
 pub fn check_shape(m: &[u8]) -> Result<Message<'_>, Refusal>
     ensures refuses { Refuses result (shape_refusal m.now) }
@@ -65,15 +85,16 @@ pub fn check_shape(m: &[u8]) -> Result<Message<'_>, Refusal>
     let end = headed(m)?;
     let kind = MessageType::try_from(bytes::half(m, 4))?;
     let body = m.get(kind.attributes_at()..end).ok_or(Refusal::BadLength)?;
-    let lengths = lengths(kind, body);
-    let ours = m[codes::HEADER] == codes::AF_INET;
-    unless(lengths, Refusal::BadLength)?;
-    unless(ours, Refusal::OtherType)?;
-    Ok(Message {
+    let message = Message {
         kind,
         bytes: &m[..end],
         body,
-    })
+    };
+    let lengths = message.lengths();
+    let ours = m[codes::HEADER] == codes::AF_INET;
+    unless(lengths, Refusal::BadLength)?;
+    unless(ours, Refusal::OtherType)?;
+    Ok(message)
 }
 
 // ---- sizes
@@ -151,25 +172,11 @@ fn sized_in(kind: MessageType, a: Attribute) -> bool
     }
 }
 
-fn all_sized(kind: MessageType, body: &[u8]) -> bool
-    ensures { result ≡ all (sized_in (number_of kind)) (attributes body.now) }
-{
-    Attributes::of(body).all(|a| sized_in(kind, a))
-}
-
 // An attribute of a code is there.
 fn has(body: &[u8], code: usize) -> bool
     ensures { result ≡ given (last code (attributes body.now)) }
 {
     Attributes::of(body).any(|a| a.code == code)
-}
-
-// Every attribute has its size, and a new address a local one.
-#[tactic(auto, unfolding(netlink::specs::Reader::sizes))]
-fn sizes(kind: MessageType, body: &[u8]) -> bool
-    ensures { result ≡ sizes (number_of kind) (attributes body.now) }
-{
-    all_sized(kind, body) && (kind != MessageType::NewAddr || has(body, codes::IFA_LOCAL))
 }
 
 // ---- all of it
@@ -178,6 +185,6 @@ pub fn check(m: &[u8]) -> Result<Message<'_>, Refusal>
     ensures parts { IfOk result (Parts m.now) }
 {
     let message = check_shape(m)?;
-    unless(sizes(message.kind, message.body), Refusal::WrongSize)?;
+    unless(message.sizes(), Refusal::WrongSize)?;
     Ok(message)
 }

@@ -39,19 +39,6 @@ fn onlink_check(routes: Routes<'_>, q: &AddRoute4, local_listed: bool) -> Result
     Ok(true)
 }
 
-// The flow to a gateway: one scope narrower than the route's, link scope at least.
-fn to_gateway(q: &AddRoute4) -> Flow
-    requires { scope q.now < 256 }
-    ensures { flow_of result ≡ to_gateway q.now }
-{
-    Flow {
-        ip: q[route::GATEWAY],
-        tos: 0,
-        scope: (q[route::SCOPE] + 1).max(layout::SCOPE_LINK),
-        oif: q[add_route4::OIF],
-    }
-}
-
 // What the named table's own set answers with; a private table is not read.
 #[tactic(auto, using(crate::specs::Rows::own_upper, crate::specs::Rows::own_lower, crate::specs::Rows::own_none))]
 fn own_route<'a>(routes: Routes<'a>, t: u32, f: Flow) -> Option<&'a RouteRow>
@@ -66,7 +53,8 @@ fn own_route<'a>(routes: Routes<'a>, t: u32, f: Flow) -> Option<&'a RouteRow>
     None
 }
 
-// The route's own set of tables, where that has an answer that doesn't reject, else a lookup.
+// The route's own set of tables, where that has an answer that doesn't reject, else a lookup. The flow is to the gateway: one scope
+// narrower than the route's, link scope at least. Its sum asks for a bound, here and in `gateway4`; `fit_add_route4` would ask more.
 #[tactic(auto, unfolding(crate::specs::Rows::gateway_rows))]
 fn gateway_route<'a>(
     routes: Routes<'a>,
@@ -76,7 +64,12 @@ fn gateway_route<'a>(
     requires { scope q.now < 256 }
     ensures { lent_ok result ≡ answered (gateway_rows q.now default_listed routes.entry.rows.now) }
 {
-    let f = to_gateway(q);
+    let f = Flow {
+        ip: q[route::GATEWAY],
+        tos: 0,
+        scope: (q[route::SCOPE] + 1).max(layout::SCOPE_LINK),
+        oif: q[add_route4::OIF],
+    };
     match own_route(routes, request_route::table_named(q), f) {
         Some(r) if !kind::rejects(r[route::KIND]) => Ok(r),
         _ => rows_lookup::lookup4_in(routes, default_listed, f),
@@ -121,7 +114,6 @@ pub fn reach_check(
     local_listed: bool,
     default_listed: bool,
 ) -> Result<bool, Refusal>
-    requires { scope q.now < 256 }
     ensures { result ≡ reached (reach_rows q.now local_listed default_listed routes.entry.rows.now) }
 {
     let invalid = Refusal::Errno(layout::INVALID);

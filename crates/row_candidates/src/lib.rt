@@ -1,77 +1,29 @@
 // The routes that an address brings, and those that go with it.
 #![tactic(auto)]
 
-ghost use Rattle.std.specs.Prelude.{◌≡◌, List, [], ◌∷◌, ◌++◌, ◌≤◌, ◌<◌, length, take};
-ghost use Rattle.lists.specs.Lists.{Row};
+ghost use Rattle.std.specs.Prelude.{◌≡◌, ◌++◌, ◌<◌};
+ghost use Rattle.arrayvec.specs.ArrayVec.{array_vec_len};
 ghost use Rattle.kind.specs.Kind.{code_of};
-ghost use Rattle.definition.specs.Reference.Addresses.{kernel_route, local_route, up_routes, candidates};
+ghost use Rattle.definition.specs.Reference.Addresses.{primary_of, kernel_route, local_route, up_routes, candidates};
 ghost use Rattle.definition.specs.Reference.Removal.{leaving};
 ghost use Rattle.row_candidates.specs.Rows.{named_routes, prefix_routes, subnet_routes, subnet_route, scope_of, listed};
 
+use arrayvec::ArrayVec;
 use kind::Kind;
-use layout::{AddressRow, ROUTE_WORDS, RouteRow, address, route};
+use layout::{AddressRow, METRICS, RouteRow, address};
+use row_route::Route4;
 use rows::Addresses;
-use std::marker::Model;
 
 // At most four routes, in order.
-#[derive(Drop)]
-pub struct Block {
-    rows: [RouteRow; 4],
-    count: usize,
-}
+pub type Block = ArrayVec<RouteRow, 4>;
 
-impl Model for Block {
-    ghost Value = { List Row };
-
-    ghost view = { λ b. take b.count b.rows };
-
-    ghost invariant = { λ b. b.count ≤ 4 };
-}
-
-impl Block {
-    fn new() -> Block
-        ensures { result ≡ [] }
-    {
-        Block {
-            rows: [[0; ROUTE_WORDS]; 4],
-            count: 0,
-        }
-    }
-
-    fn push(&mut self, r: RouteRow)
-        requires { length self.old < 4 }
-        ensures { self.new ≡ self.old ++ r ∷ [] }
-    {
-        self.rows[self.count] = r;
-        self.count += 1;
-    }
-
-    // The route behind the others, if there is one.
-    fn extend(&mut self, r: Option<RouteRow>)
-        requires { length self.old < 4 }
-        ensures { self.new ≡ self.old ++ listed r }
-    {
-        if let Some(r) = r {
-            self.push(r);
-        }
-    }
-
-    // The routes that the address brings while the loopback is up.
-    #[tactic(auto, unfolding(definition::specs::Reference::Addresses::up_routes, definition::specs::Reference::Addresses::prefix_route))]
-    fn extend_up(&mut self, a: &AddressRow, source: u32)
-        requires { length self.old < 2 }
-        ensures { self.new ≡ self.old ++ up_routes source a.now }
-    {
-        self.extend(named_route(a, source));
-        self.extend(prefix_route(a, a[address::PRIORITY], source));
-        self.extend(subnet_route(a, source));
-    }
-
-    pub fn as_slice(&self) -> &[RouteRow]
-        ensures value { result.now ≡ self.now }
-        ensures few { length result.now ≤ 4 }
-    {
-        &self.rows[..self.count]
+// The route behind the others, if there is one.
+fn extend(block: &mut Block, r: Option<RouteRow>)
+    requires { array_vec_len block.old < 4 }
+    ensures { block.new.items ≡ block.old.items ++ listed r }
+{
+    if let Some(r) = r {
+        block.push(r);
     }
 }
 
@@ -89,26 +41,97 @@ fn scope_of(kind: Kind) -> u32
 pub fn kernel_route(dst: u32, len: u32, priority: u32, kind: Kind, source: u32) -> RouteRow
     ensures { result ≡ kernel_route dst len priority (code_of kind) source }
 {
-    let mut r = [0; ROUTE_WORDS];
-    r[route::TABLE] = layout::TABLE_LOCAL;
-    r[route::DST] = dst;
-    r[route::LEN] = len;
-    r[route::PRIORITY] = priority;
-    r[route::KIND] = u32::from(kind);
-    r[route::PROTO] = layout::PROTO_KERNEL;
-    r[route::SCOPE] = scope_of(kind);
-    r[route::PREFSRC_PRESENT] = 1;
-    r[route::PREFSRC] = source;
-    r[route::DEVICE] = 1;
-    r
+    RouteRow::from(Route4 {
+        table: layout::TABLE_LOCAL,
+        dst,
+        len,
+        tos: 0,
+        priority,
+        kind,
+        proto: layout::PROTO_KERNEL,
+        scope: scope_of(kind),
+        prefsrc: Some(source),
+        gateway: None,
+        device: true,
+        onlink: false,
+        uses_gateway: false,
+        metrics: [0; METRICS],
+    })
 }
 
-// What an address brings at once.
-#[tactic(auto, unfolding(definition::specs::Reference::Addresses::local_route))]
-fn local_route(a: &AddressRow, source: u32) -> RouteRow
-    ensures { result ≡ local_route source a.now }
-{
-    kernel_route(a[address::LOCAL], 32, 0, Kind::Local, source)
+// An address and the source of its routes.
+#[derive(Clone, Copy)]
+struct Sourced<'a> {
+    a: &'a AddressRow,
+    source: u32,
+}
+
+impl<'a> Sourced<'a> {
+    // Its source is the local address of the primary whose subnet it is in.
+    fn of(addresses: Addresses<'_>, a: &'a AddressRow) -> Self
+        ensures { (result.a.now ≡ a.now) × (result.source ≡ primary_of addresses.entry.rows.now a.now) }
+    {
+        Sourced {
+            a,
+            source: row_subnet::primary_of(addresses, a),
+        }
+    }
+
+    // What the address brings at once.
+    #[tactic(auto, unfolding(definition::specs::Reference::Addresses::local_route))]
+    fn local(self) -> RouteRow
+        ensures { result ≡ local_route self.entry.source self.entry.a.now }
+    {
+        kernel_route(self.a[address::LOCAL], 32, 0, Kind::Local, self.source)
+    }
+
+    // The route of the broadcast address that it names.
+    fn named(self) -> Option<RouteRow>
+        ensures { listed result ≡ named_routes self.entry.source self.entry.a.now }
+    {
+        if !row_subnet::names_broadcast(self.a) {
+            return None;
+        }
+        Some(kernel_route(
+            self.a[address::BROADCAST],
+            32,
+            0,
+            Kind::Broadcast,
+            self.source,
+        ))
+    }
+
+    // Its prefix route, with a priority.
+    fn prefix(self, priority: u32) -> Option<RouteRow>
+        ensures { listed result ≡ prefix_routes priority self.entry.source self.entry.a.now }
+    {
+        if !row_subnet::has_prefix_route(self.a) {
+            return None;
+        }
+        Some(prefix_route4(self.a, priority, self.source))
+    }
+
+    // Its subnet's broadcast route.
+    fn subnet(self) -> Option<RouteRow>
+        ensures { listed result ≡ subnet_routes self.entry.source self.entry.a.now }
+    {
+        if !row_subnet::has_broadcast_routes(self.a) {
+            return None;
+        }
+        let last = prefix::broadcast4(self.a[address::ADDRESS], self.a[address::PREFIX]);
+        Some(kernel_route(last, 32, 0, Kind::Broadcast, self.source))
+    }
+
+    // What it brings while the loopback is up, behind the routes of the block.
+    #[tactic(auto, unfolding(definition::specs::Reference::Addresses::up_routes, definition::specs::Reference::Addresses::prefix_route))]
+    fn up(self, block: &mut Block)
+        requires { array_vec_len block.old < 2 }
+        ensures { block.new.items ≡ block.old.items ++ up_routes self.entry.source self.entry.a.now }
+    {
+        extend(block, self.named());
+        extend(block, self.prefix(self.a[address::PRIORITY]));
+        extend(block, self.subnet());
+    }
 }
 
 // The prefix route of an address with a priority.
@@ -120,56 +143,25 @@ pub fn prefix_route4(a: &AddressRow, priority: u32, source: u32) -> RouteRow
     kernel_route(network, len, priority, Kind::Local, source)
 }
 
-// The route of the broadcast address that it names.
-fn named_route(a: &AddressRow, source: u32) -> Option<RouteRow>
-    ensures { listed result ≡ named_routes source a.now }
-{
-    if !row_subnet::names_broadcast(a) {
-        return None;
-    }
-    Some(kernel_route(a[address::BROADCAST], 32, 0, Kind::Broadcast, source))
-}
-
-// Its prefix route.
-fn prefix_route(a: &AddressRow, priority: u32, source: u32) -> Option<RouteRow>
-    ensures { listed result ≡ prefix_routes priority source a.now }
-{
-    if !row_subnet::has_prefix_route(a) {
-        return None;
-    }
-    Some(prefix_route4(a, priority, source))
-}
-
-// Its subnet's broadcast route.
-fn subnet_route(a: &AddressRow, source: u32) -> Option<RouteRow>
-    ensures { listed result ≡ subnet_routes source a.now }
-{
-    if !row_subnet::has_broadcast_routes(a) {
-        return None;
-    }
-    let last = prefix::broadcast4(a[address::ADDRESS], a[address::PREFIX]);
-    Some(kernel_route(last, 32, 0, Kind::Broadcast, source))
-}
-
 // The routes that it brings while the loopback is up.
 pub fn up_routes(a: &AddressRow, source: u32) -> Block
-    ensures { result ≡ up_routes source a.now }
+    ensures { result.items ≡ up_routes source a.now }
 {
     let mut block = Block::new();
-    block.extend_up(a, source);
+    Sourced { a, source }.up(&mut block);
     block
 }
 
 // All of them, in order.
 #[tactic(auto, unfolding(definition::specs::Reference::Addresses::candidates))]
 pub fn candidates(addresses: Addresses<'_>, a: &AddressRow, up: bool) -> Block
-    ensures { result ≡ candidates addresses.entry.rows.now up a.now }
+    ensures { result.items ≡ candidates addresses.entry.rows.now up a.now }
 {
-    let source = row_subnet::primary_of(addresses, a);
+    let sourced = Sourced::of(addresses, a);
     let mut block = Block::new();
-    block.push(local_route(a, source));
+    block.push(sourced.local());
     if up {
-        block.extend_up(a, source);
+        sourced.up(&mut block);
     }
     block
 }
@@ -177,13 +169,13 @@ pub fn candidates(addresses: Addresses<'_>, a: &AddressRow, up: bool) -> Block
 // An address's routes in the order in which they go, each with no priority named.
 #[tactic(auto, using(crate::specs::Laws::leaving_rows))]
 pub fn leaving(addresses: Addresses<'_>, a: &AddressRow) -> Block
-    ensures { result ≡ leaving addresses.entry.rows.now a.now }
+    ensures { result.items ≡ leaving addresses.entry.rows.now a.now }
 {
-    let source = row_subnet::primary_of(addresses, a);
+    let sourced = Sourced::of(addresses, a);
     let mut block = Block::new();
-    block.extend(prefix_route(a, 0, source));
-    block.extend(named_route(a, source));
-    block.extend(subnet_route(a, source));
-    block.push(local_route(a, source));
+    extend(&mut block, sourced.prefix(0));
+    extend(&mut block, sourced.named());
+    extend(&mut block, sourced.subnet());
+    block.push(sourced.local());
     block
 }

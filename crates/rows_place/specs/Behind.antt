@@ -1,14 +1,14 @@
--- The place behind the last element that passes a test, found by a pass from the front.
+-- The place behind the last element that passes a test, found by a pass from the back.
 -- Assumes nothing.
-use Rattle.std.specs.Prelude.{ℕ, suc, ◌+◌, ◌≤◌, ◌<◌, ◌≡◌, Bool, ◌||◌, length, get_or}
-use Rattle.std.proofs.Common.{arith, sym, ◌∙◌, length-take-le}
+use Rattle.std.specs.Prelude.{ℕ, suc, ◌≤◌, ◌≡◌, Bool, ◌||◌, length}
+use Rattle.std.proofs.Common.{arith, ◌∙◌}
 use Rattle.std.proofs.Math.Path.{refl, ap}
 use Rattle.std.proofs.Math.Bool.{true, false, cond}
 use mathlib.Core.List.{List, [], ◌∷◌, ◌++◌}
 use Rattle.std.proofs.Math.ListN.{take, drop}
 use Rattle.lists.specs.Lists.{any, behind_last}
 use Rattle.lists.specs.At.{insert_at}
-use Rattle.lists.specs.Split.{any-joined, take_more}
+use Rattle.lists.specs.Split.{any-joined}
 
 module _ {A : Type 0} (p : A → Bool) where
   -- 0 where none passes
@@ -35,7 +35,7 @@ module _ {A : Type 0} (p : A → Bool) where
       go false h = refl
 
   -- one element more at the end
-  behind-joined : (l : List A) (x : A) → behind_of (l ++ (x ∷ [])) ≡ cond (p x) (suc (length l)) (behind_of l)
+  pub behind-joined : (l : List A) (x : A) → behind_of (l ++ (x ∷ [])) ≡ cond (p x) (suc (length l)) (behind_of l)
   behind-joined [] x = go (p x)
     where
       go : (b : Bool) → ◌≡◌ {A = ℕ} (cond (b || false) 1 0) (cond b 1 0)
@@ -52,10 +52,3 @@ module _ {A : Type 0} (p : A → Bool) where
       go true b false m k n h = ap suc h
       go false true false m k n h = ap suc h
       go false false false m k n h = refl
-
-  pub behind_more : (l : List A) (i : ℕ) (d : A) → i < length l → cond (p (get_or l i d)) (i + 1) (behind_of (take i l)) ≡ behind_of (take (i + 1) l)
-  behind_more l i d h =
-      let long : length (take i l) ≡ i = length-take-le i l (omega arith) in
-      let same : i + 1 ≡ suc (length (take i l)) = omega arith in
-      ap (λ (n : ℕ). cond (p (get_or l i d)) n (behind_of (take i l))) same
-      ∙ sym (ap behind_of (take_more l i d h) ∙ behind-joined (take i l) (get_or l i d))

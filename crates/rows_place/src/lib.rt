@@ -29,13 +29,11 @@ pub fn place4(addresses: Addresses<'_>, new: &AddressRow) -> usize
     if row_subnet::secondary(new) {
         return addresses.rows.len();
     }
-    let mut place = 0;
-    for (i, old) in addresses.rows.iter().enumerate() {
-        if yields(new, old) {
-            place = i + 1;
-        }
-    }
-    place
+    addresses
+        .rows
+        .iter()
+        .rposition(|old| yields(new, old))
+        .map_or(0, |i| i + 1)
 }
 
 // The place of the requested address, of a request or another row: the one of the same local address and subnet.

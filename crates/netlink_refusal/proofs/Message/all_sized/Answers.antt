@@ -8,11 +8,11 @@ use Rattle.netlink.specs.Types.{number_of}
 use Rattle.netlink_attributes.specs.Steps.{ahead}
 use Rattle.netlink_attributes.specs.ChainLaws.{gives}
 use Rattle.lists.specs.Library.{all_list}
-use Rattle.netlink_refusal.proofs.all_sized.Goals as goal
+use Rattle.netlink_refusal.proofs.Message.all_sized.Goals as goal
 
 pub returns : goal.returns
 returns c =
-    let sized = sized_in (number_of c.args.kind) in
+    let sized = sized_in (number_of c.args.self.kind) in
     all_from_yields_List sized _ _ c.all.result c.all.ensures.ran (gives c.of.result) (λ x b q k. search (rules, tests))
     ∙ sym (all_list sized (ahead c.of.result))
     ∙ ap (λ (l : List ℕ). all sized (attributes l)) c.of.ensures
