@@ -1,6 +1,6 @@
 -- Lifetimes are numbers of seconds, the clock is one of nanoseconds (document 01, port order 2).
 -- Assumes nothing.
-use Rattle.std.specs.Prelude.{ℕ, ◌+◌, ◌-◌, ◌*◌, ◌/◌, ◌%◌, ◌^◌, min, Bool, cond, not, ◌&&◌, eqb, leb}
+use Rattle.std.specs.Prelude.{ℕ, ◌+◌, ◌-◌, ◌*◌, ◌/◌, ◌%◌, ◌^◌, min, Bool, cond, not, ◌&&◌, List, [], ◌∷◌, eqb, leb, get_or}
 use Rattle.life.specs.declared.Seconds.{Seconds}
 use Rattle.life.specs.declared.Nanoseconds.{Nanoseconds}
 use Rattle.life.specs.declared.Life.{Life}
@@ -62,6 +62,20 @@ left_of l now =
     record {
       preferred = seconds (left_preferred l.preferred.0 l.changed.0 now);
       valid = seconds (left_valid l.valid.0 l.preferred.0 l.changed.0 now);
+    }
+
+-- the six words that hold a life, and the life that six words hold
+abbrev pub words_of : Life → List ℕ
+words_of l =
+    l.valid.0 ∷ l.preferred.0 ∷ low_word l.created.0 ∷ high_word l.created.0 ∷ low_word l.changed.0 ∷ high_word l.changed.0 ∷ []
+
+abbrev pub life_of : List ℕ → Life
+life_of words =
+    record {
+      valid = seconds (get_or words 0 0);
+      preferred = seconds (get_or words 1 0);
+      created = nanoseconds (clock (get_or words 2 0) (get_or words 3 0));
+      changed = nanoseconds (clock (get_or words 4 0) (get_or words 5 0));
     }
 
 -- the lifetimes asked for at a moment

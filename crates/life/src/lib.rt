@@ -2,7 +2,7 @@
 #![tactic(auto)]
 
 ghost use Rattle.std.specs.Prelude.{◌≡◌, ◌-◌, [], ◌∷◌, get_or};
-ghost use Rattle.life.specs.Life.{reached, age, left_of, stored_seconds, life_set, seconds, nanoseconds, clock, low_word, high_word};
+ghost use Rattle.life.specs.Life.{reached, age, left_of, stored_seconds, life_set, seconds, nanoseconds, clock, low_word, high_word, life_of, words_of};
 
 #[derive(Clone, Copy, Debug, PartialEq, Eq)]
 pub struct Seconds(pub u32);
@@ -62,6 +62,45 @@ impl From<Nanoseconds> for [u32; 2] {
 
     fn from(n: Nanoseconds) -> [u32; 2] {
         [(n.0 % 4_294_967_296) as u32, (n.0 / 4_294_967_296) as u32]
+    }
+}
+
+// The lifetimes and moments as words, in the order in which a row holds them, and back.
+impl From<[u32; 6]> for Life {
+    ghost from_gives = { λ words life. life ≡ life_of words };
+
+    fn from(words: [u32; 6]) -> Life {
+        let [
+            valid,
+            preferred,
+            created,
+            created_high,
+            changed,
+            changed_high,
+        ] = words;
+        Life {
+            valid: Seconds(valid),
+            preferred: Seconds(preferred),
+            created: Nanoseconds::from([created, created_high]),
+            changed: Nanoseconds::from([changed, changed_high]),
+        }
+    }
+}
+
+impl From<Life> for [u32; 6] {
+    ghost from_gives = { λ life words. words ≡ words_of life };
+
+    fn from(life: Life) -> [u32; 6] {
+        let [created, created_high] = <[u32; 2]>::from(life.created);
+        let [changed, changed_high] = <[u32; 2]>::from(life.changed);
+        [
+            life.valid.0,
+            life.preferred.0,
+            created,
+            created_high,
+            changed,
+            changed_high,
+        ]
     }
 }
 

@@ -38,7 +38,7 @@ pub fn broadcast4(ip: u32, prefix: u32) -> u32
 pub fn same_network(a: u32, b: u32, prefix: u32) -> bool
     ensures { result ≡ eqb (network a prefix) (network b prefix) }
 {
-    (a ^ b) & mask4(prefix) == 0
+    network4(a, prefix) == network4(b, prefix)
 }
 
 pub fn flow_tos(tos: u32) -> u32

@@ -9,6 +9,7 @@ use Rattle.life.specs.declared.Left.{Left}
 use Rattle.life.specs.Life.{forever, seconds, nanoseconds, left_of, life_set}
 use Rattle.layout.specs.Flags.{has_bit}
 use Rattle.layout.specs.Address as Address
+use Rattle.layout.specs.Request as Request
 use Rattle.definition.specs.Reference.Addresses.{life_flags}
 use Rattle.row_address.specs.declared.Label.{Label}
 use Rattle.row_address.specs.declared.V4.{V4}
@@ -19,6 +20,10 @@ optional_of present value = cond (eqb present 1) (Some value) None
 
 abbrev pub label_of : Row → Label
 label_of a = record { len = Address.label_length a; words = get_or a 9 0 ∷ get_or a 10 0 ∷ get_or a 11 0 ∷ get_or a 12 0 ∷ [] }
+
+-- of the request to delete an address
+abbrev pub label_asked : Row → Label
+label_asked q = record { len = Request.label_length_given q; words = get_or q 7 0 ∷ get_or q 8 0 ∷ get_or q 9 0 ∷ get_or q 10 0 ∷ [] }
 
 abbrev pub life_of : Row → Life
 life_of a =

@@ -6,11 +6,11 @@ ghost use Rattle.prefix.specs.Mask.{mask};
 ghost use Rattle.layout.specs.Address.{optional, fit_label, fit_address};
 ghost use Rattle.definition.specs.Reference.Addresses.{life_flags};
 ghost use Rattle.definition.specs.Step.{left_call};
-ghost use Rattle.row_address.specs.V4.{v4_of, optional_of, label_of, life_of, secondary_v4, covers_v4, set_life_v4, left_v4};
+ghost use Rattle.row_address.specs.V4.{v4_of, optional_of, label_of, label_asked, life_of, secondary_v4, covers_v4, set_life_v4, left_v4};
 ghost use Rattle.row_address.specs.Words.{row_of};
 ghost use Rattle.row_address.specs.Row.{word_ends, left_reply, reply_of};
 
-use layout::{ADDRESS_WORDS, AddressRow, address};
+use layout::{ADDRESS_WORDS, AddV4, AddressRow, DelV4, address, del_v4};
 use life::{Left, Life, Lifetimes, Nanoseconds, Seconds};
 use refusal::Refusal;
 
@@ -108,8 +108,7 @@ impl From<V4> for AddressRow {
     ghost from_gives = { λ v row. (row ≡ row_of v) × (v4_of row ≡ v) };
 
     fn from(v: V4) -> AddressRow {
-        let [created, created_high] = <[u32; 2]>::from(v.life.created);
-        let [changed, changed_high] = <[u32; 2]>::from(v.life.changed);
+        let life = <[u32; 6]>::from(v.life);
         [
             v.local,
             v.address,
@@ -125,17 +124,17 @@ impl From<V4> for AddressRow {
             v.label.words[2],
             v.label.words[3],
             v.priority,
-            v.life.valid.0,
-            v.life.preferred.0,
-            created,
-            created_high,
-            changed,
-            changed_high,
+            life[0],
+            life[1],
+            life[2],
+            life[3],
+            life[4],
+            life[5],
         ]
     }
 }
 
-// The value beside a mark.
+// The value beside a mark. A pair and an `Option` are the library's, so this is no `From`.
 pub fn optional_of(present: u32, value: u32) -> Option<u32>
     ensures { result ≡ optional_of present value }
 {
@@ -158,16 +157,44 @@ impl From<&AddressRow> for Label {
     }
 }
 
-// `Life` is the crate life's, so this is no `From`.
+// The labels that requests name.
+impl From<&AddV4> for Label {
+    ghost from_gives = { λ q l. l ≡ label_of q.now };
+
+    fn from(q: &AddV4) -> Label {
+        Label {
+            len: q[address::LABEL_LENGTH],
+            words: [
+                q[address::LABEL],
+                q[address::LABEL_1],
+                q[address::LABEL_2],
+                q[address::LABEL_3],
+            ],
+        }
+    }
+}
+
+impl From<&DelV4> for Label {
+    ghost from_gives = { λ q l. l ≡ label_asked q.now };
+
+    fn from(q: &DelV4) -> Label {
+        Label {
+            len: q[del_v4::LABEL_LENGTH],
+            words: [
+                q[del_v4::LABEL],
+                q[del_v4::LABEL_1],
+                q[del_v4::LABEL_2],
+                q[del_v4::LABEL_3],
+            ],
+        }
+    }
+}
+
+// The life of a row, whose last six words it is. Both types are other crates', so this is no `From`.
 pub fn life_of(row: &AddressRow) -> Life
     ensures { result ≡ life_of row.now }
 {
-    Life {
-        valid: Seconds(row[address::VALID]),
-        preferred: Seconds(row[address::PREFERRED]),
-        created: Nanoseconds::from([row[address::CREATED], row[address::CREATED_HIGH]]),
-        changed: Nanoseconds::from([row[address::CHANGED], row[address::CHANGED_HIGH]]),
-    }
+    Life::from(*row.last_chunk::<6>().unwrap())
 }
 
 // The record of a row; of one that could stand in a well-formed state it gives the row again.

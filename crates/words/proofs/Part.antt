@@ -1,11 +1,10 @@
 -- What a write to a part of a slice is of the whole.
 -- Assumes nothing.
-use Rattle.std.proofs.Common.{◌≡◌, ℕ, zero, suc, ◌+◌, ◌-◌, ◌≤◌, List, ◌∷◌, length, refl, ap, ◌∙◌, drop-drop, arith, length-drop, length-take-le}
+use Rattle.std.proofs.Common.{◌≡◌, ℕ, zero, suc, ◌+◌, ◌≤◌, List, ◌∷◌, length, refl, ap, ◌∙◌, append_assoc, drop-drop, arith, length-drop, length-take-le}
 use Rattle.std.proofs.Math.ListN.{take, drop, replicate}
+use Rattle.std.proofs.Math.Seq.{paste}
 use borrow.Rule.Slice.PartMut.{put_mid}
 use Rattle.lists.specs.Lists.{put, span, zeros}
-use Rattle.lists.specs.Put.{put-part, span-part}
-use Rattle.lists.specs.Rows.{length-span}
 
 pub put_mid-put : (at k : ℕ) (vs l ws : List ℕ) → ws ≡ vs → k ≡ length vs → put_mid at k l ws ≡ put at vs l
 unfolding put
@@ -18,14 +17,9 @@ replicate-zeros zero (suc n) e = absurd (omega arith)
 replicate-zeros (suc m) zero e = absurd (omega arith)
 replicate-zeros (suc m) (suc n) e = ap (λ (l : List ℕ). 0 ∷ l) (replicate-zeros m n (omega arith))
 
--- a run of a part put in the part is one of the whole put in the whole
-pub moved : (a at b from to n : ℕ) (l ws : List ℕ) → let part = take (length l - a) (drop a l) in ws ≡ put at (span b n part) part
-    → a + at ≡ to → a + b ≡ from → from + n ≤ length l → to + n ≤ length l → put_mid a (length l - a) l ws ≡ put to (span from n l) l
-moved a at b from to n l ws e f g h k =
-    let m = length l - a in
-    let part = take m (drop a l) in
-    let wide : length part ≡ m = length-take-le m (drop a l) (rw length-drop (omega arith)) in
-    let long : length (span b n part) ≡ n = length-span b n part (omega arith) in
-    ap (λ (x : List ℕ). put_mid a m l x) e
-    ∙ put-part a m at (span b n part) l (omega arith) (omega arith)
-    ∙ rw (f, span-part a m b n l (omega arith), g)
+-- n words pasted are a run put in
+pub pasted : (from to n k : ℕ) (l ws : List ℕ) → ws ≡ paste l to (drop from l) k → k ≡ n → from + n ≤ length l → ws ≡ put to (span from n l) l
+unfolding put span
+pasted from to n k l ws e f h =
+    let long : length (take n (drop from l)) ≡ n = length-take-le n (drop from l) (rw length-drop (omega arith)) in
+    e ∙ rw (f, long) (append_assoc (take to l) (take n (drop from l)) (drop (to + n) l))

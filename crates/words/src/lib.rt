@@ -2,13 +2,8 @@
 #![tactic(auto)]
 
 ghost use Rattle.std.specs.Prelude.{◌≡◌, ◌++◌, ◌+◌, ◌≤◌, length};
-ghost use Rattle.lists.specs.Lists.{put, span, zeros, all_zero, eq_row, among};
+ghost use Rattle.lists.specs.Lists.{put, span, zeros, all_zero, eq_row};
 ghost use Rattle.words.specs.Scan.{or_all};
-
-// How many words a row has that moves: an address's and a route's.
-const ADDRESS_WORDS: usize = 20;
-
-const ROUTE_WORDS: usize = 32;
 
 // A word as a place, and as a wider number.
 pub fn wide(n: u32) -> usize
@@ -23,7 +18,7 @@ pub fn long(n: u32) -> u64
     n as u64
 }
 
-// The words vs from the place at on.
+// The words vs from the place at on: a `copy_from_slice` whose contract is the definitions' `put`, so that no caller shows it again.
 pub fn store(s: &mut [u32], at: usize, vs: &[u32])
     requires { at + length vs.now ≤ length s.old }
     ensures { s.new ≡ put at vs.now s.old }
@@ -39,7 +34,7 @@ pub fn copy(to: &mut [u32], from: &[u32])
     to.copy_from_slice(from);
 }
 
-// n zeros from the place at on.
+// n zeros from the place at on: a `fill` whose contract is the definitions' `put` of `zeros`.
 pub fn clear(s: &mut [u32], at: usize, n: usize)
     requires { at + n ≤ length s.old }
     ensures { s.new ≡ put at (zeros n) s.old }
@@ -47,54 +42,12 @@ pub fn clear(s: &mut [u32], at: usize, n: usize)
     s[at..at + n].fill(0);
 }
 
-// The n words that stand `far` words behind the front, copied to the front: the first word goes first. Where the distance
-// is a constant, the loop becomes one memmove. (The library has no copy_within; rotate_left takes three times as long.)
-#[inline(always)]
-fn walk_down(s: &mut [u32], far: usize, n: usize)
-    requires { far + n ≤ length s.old }
-    ensures { s.new ≡ put 0 (span far n s.old) s.old }
-{
-    for i in 0..n {
-        s[i] = s[far + i];
-    }
-}
-
 // The n words at from, copied to a place that is not behind them.
 pub fn move_down(s: &mut [u32], from: usize, to: usize, n: usize)
     requires { (to ≤ from) × (from + n ≤ length s.old) }
     ensures { s.new ≡ put to (span from n s.old) s.old }
 {
-    let part = &mut s[to..];
-    match from - to {
-        ADDRESS_WORDS => walk_down(part, ADDRESS_WORDS, n),
-        ROUTE_WORDS => walk_down(part, ROUTE_WORDS, n),
-        far => walk_down(part, far, n),
-    }
-}
-
-// The n words at the front, copied to a place `far` words behind it: the last word goes first.
-#[inline(always)]
-fn walk_up(s: &mut [u32], far: usize, n: usize)
-    requires { far + n ≤ length s.old }
-    ensures { s.new ≡ put far (span 0 n s.old) s.old }
-{
-    for i in (0..n).rev() {
-        s[far + i] = s[i];
-    }
-}
-
-// The n words at from, copied to a place that is not before them. A second function, since the words go in the other order: one for
-// both would ask for the direction and match on it.
-pub fn move_up(s: &mut [u32], from: usize, to: usize, n: usize)
-    requires { (from ≤ to) × (to + n ≤ length s.old) }
-    ensures { s.new ≡ put to (span from n s.old) s.old }
-{
-    let part = &mut s[from..];
-    match to - from {
-        ADDRESS_WORDS => walk_up(part, ADDRESS_WORDS, n),
-        ROUTE_WORDS => walk_up(part, ROUTE_WORDS, n),
-        far => walk_up(part, far, n),
-    }
+    s.copy_within(from..from + n, to);
 }
 
 // The words vs put in at a place behind which n words are in use: those move up.
@@ -102,7 +55,7 @@ pub fn insert(s: &mut [u32], at: usize, n: usize, vs: &[u32])
     requires { at + length vs.now + n ≤ length s.old }
     ensures { s.new ≡ put at (vs.now ++ span at n s.old) s.old }
 {
-    move_up(s, at, at + vs.len(), n);
+    s.copy_within(at..at + n, at + vs.len());
     store(s, at, vs);
 }
 
@@ -111,7 +64,7 @@ pub fn remove(s: &mut [u32], at: usize, k: usize, n: usize)
     requires { at + k + n ≤ length s.old }
     ensures { s.new ≡ put at (span (at + k) n s.old ++ zeros k) s.old }
 {
-    move_down(s, at + k, at, n);
+    s.copy_within(at + k..at + k + n, at);
     clear(s, at + n, k);
 }
 
@@ -142,11 +95,4 @@ pub fn same_words(a: &[u32], b: &[u32]) -> bool
     ensures { result ≡ eq_row a.now b.now }
 {
     a == b
-}
-
-// The number is one of the words.
-pub fn among(l: &[u32], n: u32) -> bool
-    ensures { result ≡ among n l.now }
-{
-    l.contains(&n)
 }

@@ -1,13 +1,7 @@
--- The words are put in the part that is lent on.
+-- The library's copy is the run put in.
 use Rattle.std.proofs.Common.{arith}
-use Rattle.words.proofs.Part.{moved}
+use Rattle.words.proofs.Part.{pasted}
 use Rattle.words.proofs.move_down.Goals as goal
 
-pub returns-in-20 : goal.returns-in-20
-returns-in-20 c = moved c.args.to 0 _ _ _ c.args.n c.args.s.now _ c.walk_down.ensures (omega arith) (omega arith) (omega arith) (omega arith)
-
-pub returns-in-32 : goal.returns-in-32
-returns-in-32 c = moved c.args.to 0 _ _ _ c.args.n c.args.s.now _ c.walk_down-in-32.ensures (omega arith) (omega arith) (omega arith) (omega arith)
-
-pub returns-in_default : goal.returns-in_default
-returns-in_default c = moved c.args.to 0 _ _ _ c.args.n c.args.s.now _ c.walk_down-in_default.ensures (omega arith) (omega arith) (omega arith) (omega arith)
+pub returns : goal.returns
+returns c = pasted c.args.from c.args.to c.args.n _ c.args.s.now _ c.copy_within.ensures.after (omega arith) (omega arith)
