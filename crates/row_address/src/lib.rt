@@ -1,8 +1,9 @@
 // An IPv4 address: its record, read from a row of words, and the methods that take it by value.
 #![tactic(auto)]
 
-ghost use Rattle.std.specs.Prelude.{◌≡◌, true, ◌+◌, ◌-◌, ◌*◌, ◌^◌, get_or};
+ghost use Rattle.std.specs.Prelude.{◌≡◌, ℕ, true, ◌+◌, ◌-◌, ◌*◌, ◌^◌, get_or};
 ghost use Rattle.prefix.specs.Mask.{mask};
+ghost use Rattle.layout.specs.Flags.{has_bit};
 ghost use Rattle.layout.specs.Address.{optional, fit_label, fit_address};
 ghost use Rattle.definition.specs.Reference.Addresses.{life_flags};
 ghost use Rattle.definition.specs.Step.{left_call};
@@ -20,6 +21,13 @@ pub const SECONDARY: u32 = 0x01;
 pub const DEPRECATED: u32 = 0x20;
 
 pub const PERMANENT: u32 = 0x80;
+
+// Whether a flag, a word in which one bit is set, is among `flags`.
+pub fn has(flags: u32, flag: u32) -> bool
+    ensures { (k : ℕ) → flag ≡ 2 ^ k → result ≡ has_bit k flags }
+{
+    flags & flag != 0
+}
 
 // Sixteen bytes, little-endian, of which the first `len` are the label.
 #[derive(Clone, Copy, Debug, PartialEq, Eq)]
@@ -86,14 +94,14 @@ impl V4 {
     pub fn secondary(self) -> bool
         ensures { result ≡ secondary_v4 self }
     {
-        self.flags & SECONDARY != 0
+        has(self.flags, SECONDARY)
     }
 
     // The lifetimes that it has left: forever while permanent.
     pub fn left(self, now: Nanoseconds) -> Left
         ensures { result ≡ left_v4 self now.0 }
     {
-        if self.flags & PERMANENT != 0 {
+        if has(self.flags, PERMANENT) {
             return Left {
                 preferred: Seconds(life::FOREVER),
                 valid: Seconds(life::FOREVER),
