@@ -1,18 +1,12 @@
 -- Rows read into records, and the refusals of the calls.
 -- Assumes nothing.
 use Rattle.std.specs.Prelude.{ℕ, ◌+◌, ◌<◌, ◌≡◌, ◌≢◌, refl, true, false, Bool, cond, ◌&&◌, List, []}
-use Rattle.std.specs.Prelude.{◌∷◌, ◌++◌, map, length, get_or, take, set, eqb, Option, Some, None, Err, MatchOption}
+use Rattle.std.specs.Prelude.{◌∷◌, ◌++◌, map, length, get_or, take, set, eqb, Err}
 use Rattle.std.specs.Prelude.{Result as Answer}
 use Rattle.std.proofs.Common.{arith, sym, ap, subst, ◌∙◌, add-one, take-suc, take-suc-set}
 use Rattle.std.proofs.lemmas.List.{map-append}
-use Rattle.std.proofs.Math.Option as Own
-use Rattle.std.proofs.Math.Option.{some, none}
-use Rattle.std.specs.List.{find}
-use Rattle.std.specs.Option.{option_map}
 use denote.Ref.{Bor}
-use Rattle.lists.specs.Lists.{Row, first}
-use Rattle.lists.specs.Library.{own, first_find}
-use Rattle.definition.specs.Reference.Source.{eligible, reaches, select4, local_of}
+use Rattle.lists.specs.Lists.{Row}
 use Rattle.row_address.specs.declared.V4.{V4}
 use Rattle.row_address.specs.Words.{row_of}
 use Rattle.refusal.specs.declared.Refusal.{Refusal}
