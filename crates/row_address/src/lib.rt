@@ -3,7 +3,7 @@
 
 ghost use Rattle.std.specs.Prelude.{◌≡◌, ℕ, true, ◌+◌, ◌-◌, ◌*◌, ◌^◌, get_or};
 ghost use Rattle.prefix.specs.Mask.{mask};
-ghost use Rattle.layout.specs.Flags.{has_bit};
+ghost use Rattle.layout.specs.Flags.{has_bit, set_bit, clear_bit};
 ghost use Rattle.layout.specs.Address.{optional, fit_label, fit_address};
 ghost use Rattle.definition.specs.Reference.Addresses.{life_flags};
 ghost use Rattle.definition.specs.Step.{left_call};
@@ -22,11 +22,23 @@ pub const DEPRECATED: u32 = 0x20;
 
 pub const PERMANENT: u32 = 0x80;
 
-// Whether a flag, a word in which one bit is set, is among `flags`.
+// Flags: words in which one bit is set, of which `flags` is any number. Whether one is there; with it; without it.
 pub fn has(flags: u32, flag: u32) -> bool
     ensures { (k : ℕ) → flag ≡ 2 ^ k → result ≡ has_bit k flags }
 {
     flags & flag != 0
+}
+
+pub fn set(flags: u32, flag: u32) -> u32
+    ensures { (k : ℕ) → flag ≡ 2 ^ k → result ≡ set_bit k flags }
+{
+    flags | flag
+}
+
+pub fn clear(flags: u32, flag: u32) -> u32
+    ensures { (k : ℕ) → flag ≡ 2 ^ k → result ≡ clear_bit k flags }
+{
+    flags & !flag
 }
 
 // Sixteen bytes, little-endian, of which the first `len` are the label.
@@ -52,15 +64,16 @@ pub struct V4 {
 }
 
 // A valid lifetime that never ends makes an address permanent, a preferred one of 0 deprecated.
+#[tactic(auto, unfolding(definition::specs::Reference::Addresses::life_flags))]
 pub fn life_flags(flags: u32, valid: u32, preferred: u32) -> u32
     ensures { result ≡ life_flags valid preferred flags }
 {
-    let mut kept = flags & !PERMANENT & !DEPRECATED;
+    let mut kept = clear(clear(flags, PERMANENT), DEPRECATED);
     if valid == life::FOREVER {
-        kept |= PERMANENT;
+        kept = set(kept, PERMANENT);
     }
     if preferred == 0 {
-        kept |= DEPRECATED;
+        kept = set(kept, DEPRECATED);
     }
     kept
 }
