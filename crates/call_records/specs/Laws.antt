@@ -1,18 +1,12 @@
--- What is found among records is what the reference finds among their rows.
+-- Rows read into records, and the refusals of the calls.
 -- Assumes nothing.
 use Rattle.std.specs.Prelude.{ℕ, ◌+◌, ◌<◌, ◌≡◌, ◌≢◌, refl, true, false, Bool, cond, ◌&&◌, List, []}
-use Rattle.std.specs.Prelude.{◌∷◌, ◌++◌, map, length, get_or, take, set, eqb, Option, Some, None, Err, MatchOption}
+use Rattle.std.specs.Prelude.{◌∷◌, ◌++◌, map, length, get_or, take, set, eqb, Err}
 use Rattle.std.specs.Prelude.{Result as Answer}
 use Rattle.std.proofs.Common.{arith, sym, ap, subst, ◌∙◌, add-one, take-suc, take-suc-set}
 use Rattle.std.proofs.lemmas.List.{map-append}
-use Rattle.std.proofs.Math.Option as Own
-use Rattle.std.proofs.Math.Option.{some, none}
-use Rattle.std.specs.List.{find}
-use Rattle.std.specs.Option.{option_map}
 use denote.Ref.{Bor}
-use Rattle.lists.specs.Lists.{Row, first}
-use Rattle.lists.specs.Library.{own, first_find}
-use Rattle.definition.specs.Reference.Source.{eligible, reaches, select4, local_of}
+use Rattle.lists.specs.Lists.{Row}
 use Rattle.row_address.specs.declared.V4.{V4}
 use Rattle.row_address.specs.Words.{row_of}
 use Rattle.refusal.specs.declared.Refusal.{Refusal}
@@ -23,53 +17,6 @@ use Rattle.lists.specs.Bools.{test-case}
 use Rattle.definition.specs.Preservation.Fit.{length-address}
 use Rattle.definition.specs.Words.{state_size, formed}
 use Rattle.definition.specs.Step.{checked}
-
--- the first of the rows is the row of the first that is found
-pub find_map : {A B : Type 0} (f : A → B) (p : B → Bool) (l : List A) → find p (map f l) ≡ option_map f (find (λ a. p (f a)) l)
-find_map f p [] = refl
-find_map f p (a ∷ l) = go (p (f a)) (find_map f p l)
-  where
-    go : (b : Bool) → find p (map f l) ≡ option_map f (find (λ a. p (f a)) l) → cond b (Some (f a)) (find p (map f l)) ≡ option_map f (cond b (Some a) (find (λ a. p (f a)) l))
-    go true h = refl
-    go false h = h
-
--- ---- select4
-module _ (scope : ℕ) where
-  abbrev pub passes : Own.Option ℕ → V4 → Bool
-  passes dst v = eligible scope (row_of v) && reaches dst (row_of v)
-
-  rows-find : (dst : Own.Option ℕ) (l : List V4) → first (λ a. eligible scope a && reaches dst a) (map row_of l) ≡ own (option_map row_of (find (passes dst) l))
-  rows-find dst l =
-      first_find (λ (a : Row). eligible scope a && reaches dst a) (map row_of l)
-      ∙ ap (λ (o : Option Row). own o) (find_map row_of (λ (a : Row). eligible scope a && reaches dst a) l)
-
-  -- every address reaches where there is no destination
-  first-any : (l : List Row) → first (eligible scope) l ≡ first (λ a. eligible scope a && reaches none a) l
-  first-any [] = refl
-  first-any (a ∷ l) = go (eligible scope a) (first-any l)
-    where
-      go : (b : Bool) → first (eligible scope) l ≡ first (λ a. eligible scope a && reaches none a) l
-          → cond b (some a) (first (eligible scope) l) ≡ cond (b && true) (some a) (first (λ a. eligible scope a && reaches none a) l)
-      go true h = refl
-      go false h = h
-
-  local-found : (o : Option (Bor V4)) → own (option_map (λ a. a.now.local) o) ≡ local_of (own (option_map row_of (option_map (λ a. a.now) o)))
-  local-found None = refl
-  local-found (Some a) = refl
-
-  -- x is found in the destination's subnet, else o without one
-  pub select-found : (dst : Own.Option ℕ) (l : List V4) (x o : Option (Bor V4)) (r : Option ℕ) → option_map (λ a. a.now) x ≡ find (passes dst) l
-      → MatchOption x (option_map (λ a. a.now) o ≡ find (passes none) l) (λ a. o ≡ Some a)
-      → r ≡ option_map (λ a. a.now.local) o → own r ≡ select4 (map row_of l) dst scope
-  unfolding select4
-  select-found dst l None o r e h f =
-      rw (f, rows-find dst l, ← e, first-any (map row_of l), rows-find none l, ← h) (local-found o)
-  select-found dst l (Some a) o r e h f = rw (f, rows-find dst l, ← e, h)
-
--- ---- what is found among records, among their rows
-pub found-rows : (p : Row → Bool) (l : List V4) (o : Option (Bor V4)) → option_map (λ b. b.now) o ≡ find (λ b. p (row_of b)) l → option_map (λ b. row_of b.now) o ≡ find p (map row_of l)
-found-rows p l None e = rw (find_map row_of p l, ← e)
-found-rows p l (Some b) e = rw (find_map row_of p l, ← e)
 
 -- ---- rows read into records, one after the other
 pub read_more : (rows : List V4) (i : ℕ) (l : List Row) (v : V4) → i < length rows → i < length l → row_of v ≡ get_or l i [] → map row_of (take i rows) ≡ take i l

@@ -1,9 +1,7 @@
 // select4 and primary_of over addresses as records: a lent slice of `V4`, and above it the words of a state.
 #![tactic(auto)]
 
-ghost use Rattle.std.specs.Prelude.{◌≡◌, ◌≤◌, true, cond, ◌&&◌, map, length, IfOk};
-ghost use Rattle.std.specs.List.{find};
-ghost use Rattle.std.specs.Option.{option_map};
+ghost use Rattle.std.specs.Prelude.{◌≡◌, ◌≤◌, true, cond, map, length, IfOk};
 ghost use Rattle.refusal.specs.Refusal.{Refuses};
 ghost use Rattle.lists.specs.Library.{own};
 ghost use Rattle.layout.specs.Address.{fit_address};
@@ -14,8 +12,7 @@ ghost use Rattle.state.specs.Represents.{Represents};
 ghost use Rattle.call_read.specs.Answer.{Says, optional, valuing};
 ghost use Rattle.call_records.specs.Call.{primary_of_call};
 ghost use Rattle.definition.specs.Reference.Addresses.{primary_of};
-ghost use Rattle.definition.specs.Reference.Source.{eligible, reaches, select4};
-ghost use Rattle.row_subnet.specs.OwnRoutes.{primary_for};
+ghost use Rattle.definition.specs.Reference.Source.{select4};
 
 use layout::{ADDRESS_LIMIT, ADDRESS_WORDS, AddressRow};
 use refusal::Refusal;
@@ -23,68 +20,18 @@ use row_address::V4;
 use rows::Addresses;
 use state::Stored;
 
-// A primary of the asked scope or a wider one (a smaller number is wider); nowhere counts as host.
-#[tactic(auto, unfolding(definition::specs::Reference::Source::eligible))]
-fn eligible(a: &V4, scope: u32) -> bool
-    ensures { result ≡ eligible scope (row_of a.now) }
-{
-    !a.secondary() && a.scope.min(layout::SCOPE_HOST) <= scope
-}
-
-// In the destination's subnet, if there is one.
-#[tactic(auto, unfolding(definition::specs::Reference::Addresses::covers))]
-fn reaches(a: &V4, dst: Option<u32>) -> bool
-    ensures { result ≡ reaches (own dst) (row_of a.now) }
-{
-    match dst {
-        Some(ip) => a.covers(ip),
-        None => true,
-    }
-}
-
-// The first address that is eligible and in the destination's subnet.
-fn first(addresses: &[V4], dst: Option<u32>, scope: u32) -> Option<&V4>
-    ensures { option_map (λ a. a.now) result ≡ find (λ a. eligible scope (row_of a) && reaches (own dst) (row_of a)) addresses.now }
-{
-    addresses
-        .iter()
-        .find(|a| eligible(a, scope) && reaches(a, dst))
-}
-
 // The first address that is eligible and in the destination's subnet, else the first that is eligible.
 pub fn select4(addresses: &[V4], dst: Option<u32>, scope: u32) -> Option<u32>
     ensures { own result ≡ select4 (map row_of addresses.now) (own dst) scope }
 {
-    first(addresses, dst, scope)
-        .or_else(|| first(addresses, None, scope))
-        .map(|a| a.local)
-}
-
-// Whether b is a primary whose subnet a is in.
-#[tactic(auto, unfolding(definition::specs::Reference::Addresses::same_subnet, definition::specs::Reference::Addresses::covers))]
-fn primary_for(b: &V4, a: &V4) -> bool
-    ensures { result ≡ primary_for (row_of a.now) (row_of b.now) }
-{
-    !b.secondary() && b.prefix == a.prefix && b.covers(a.address)
-}
-
-// The first primary whose subnet a is in.
-fn primary_at<'a>(addresses: &'a [V4], a: &V4) -> Option<&'a V4>
-    ensures { option_map (λ b. b.now) result ≡ find (λ b. primary_for (row_of a.now) (row_of b)) addresses.now }
-{
-    addresses.iter().find(|b| primary_for(b, a))
+    rows_source::select4(addresses, dst, scope)
 }
 
 // The local address of the first primary whose subnet it is in, for a secondary; else its own.
-#[tactic(auto, unfolding(definition::specs::Reference::Addresses::primary_of))]
 pub fn primary_of(addresses: &[V4], a: V4) -> u32
     ensures { result ≡ primary_of (map row_of addresses.now) (row_of a) }
 {
-    if !a.secondary() {
-        return a.local;
-    }
-    let primary = primary_at(addresses, &a).unwrap_or(&a);
-    primary.local
+    row_subnet::primary_of(addresses, &a)
 }
 
 // The records of rows, in lent room.

@@ -1,8 +1,9 @@
 // An IPv4 address: its record, read from a row of words, and the methods that take it by value.
 #![tactic(auto)]
 
-ghost use Rattle.std.specs.Prelude.{◌≡◌, true, ◌+◌, ◌-◌, ◌*◌, ◌^◌, get_or};
+ghost use Rattle.std.specs.Prelude.{◌≡◌, ℕ, true, ◌+◌, ◌-◌, ◌*◌, ◌^◌, get_or};
 ghost use Rattle.prefix.specs.Mask.{mask};
+ghost use Rattle.layout.specs.Flags.{has_bit, set_bit, clear_bit};
 ghost use Rattle.layout.specs.Address.{optional, fit_label, fit_address};
 ghost use Rattle.definition.specs.Reference.Addresses.{life_flags};
 ghost use Rattle.definition.specs.Step.{left_call};
@@ -20,6 +21,25 @@ pub const SECONDARY: u32 = 0x01;
 pub const DEPRECATED: u32 = 0x20;
 
 pub const PERMANENT: u32 = 0x80;
+
+// Flags: words in which one bit is set, of which `flags` is any number. Whether one is there; with it; without it.
+pub fn has(flags: u32, flag: u32) -> bool
+    ensures { (k : ℕ) → flag ≡ 2 ^ k → result ≡ has_bit k flags }
+{
+    flags & flag != 0
+}
+
+pub fn set(flags: u32, flag: u32) -> u32
+    ensures { (k : ℕ) → flag ≡ 2 ^ k → result ≡ set_bit k flags }
+{
+    flags | flag
+}
+
+pub fn clear(flags: u32, flag: u32) -> u32
+    ensures { (k : ℕ) → flag ≡ 2 ^ k → result ≡ clear_bit k flags }
+{
+    flags & !flag
+}
 
 // Sixteen bytes, little-endian, of which the first `len` are the label.
 #[derive(Clone, Copy, Debug, PartialEq, Eq)]
@@ -44,15 +64,16 @@ pub struct V4 {
 }
 
 // A valid lifetime that never ends makes an address permanent, a preferred one of 0 deprecated.
+#[tactic(auto, unfolding(definition::specs::Reference::Addresses::life_flags))]
 pub fn life_flags(flags: u32, valid: u32, preferred: u32) -> u32
     ensures { result ≡ life_flags valid preferred flags }
 {
-    let mut kept = flags & !PERMANENT & !DEPRECATED;
+    let mut kept = clear(clear(flags, PERMANENT), DEPRECATED);
     if valid == life::FOREVER {
-        kept |= PERMANENT;
+        kept = set(kept, PERMANENT);
     }
     if preferred == 0 {
-        kept |= DEPRECATED;
+        kept = set(kept, DEPRECATED);
     }
     kept
 }
@@ -86,14 +107,14 @@ impl V4 {
     pub fn secondary(self) -> bool
         ensures { result ≡ secondary_v4 self }
     {
-        self.flags & SECONDARY != 0
+        has(self.flags, SECONDARY)
     }
 
     // The lifetimes that it has left: forever while permanent.
     pub fn left(self, now: Nanoseconds) -> Left
         ensures { result ≡ left_v4 self now.0 }
     {
-        if self.flags & PERMANENT != 0 {
+        if has(self.flags, PERMANENT) {
             return Left {
                 preferred: Seconds(life::FOREVER),
                 valid: Seconds(life::FOREVER),

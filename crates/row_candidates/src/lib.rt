@@ -73,7 +73,7 @@ impl<'a> Sourced<'a> {
     {
         Sourced {
             a,
-            source: row_subnet::primary_of(addresses, a),
+            source: row_subnet::primary_of(addresses.rows, a),
         }
     }
 

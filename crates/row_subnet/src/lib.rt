@@ -1,37 +1,107 @@
 // Tests of one address row, and the primary whose subnet an address is in.
 #![tactic(auto)]
 
-ghost use Rattle.std.specs.Prelude.{◌≡◌, ◌≤◌, length};
+ghost use Rattle.std.specs.Prelude.{◌≡◌, ◌≤◌, length, map};
 ghost use Rattle.std.specs.List.{find};
 ghost use Rattle.std.specs.Option.{option_map};
-ghost use Rattle.layout.specs.Address.{secondary, no_prefix_route};
+ghost use Rattle.lists.specs.Lists.{Row};
+ghost use Rattle.layout.specs.Address.{local, address, prefix, scope, flags, secondary, no_prefix_route};
+ghost use Rattle.row_address.specs.Words.{row_of};
 ghost use Rattle.definition.specs.Reference.Addresses.{covers, same_subnet, own_network, names_broadcast, primary_of};
 ghost use Rattle.row_subnet.specs.OwnRoutes.{has_prefix_route, has_broadcast_routes, primary_for};
 
-use layout::{AddressRow, address};
-use rows::Addresses;
+use layout::{ADDRESS_WORDS, AddressRow, address};
+use row_address::V4;
 
 // rtnetlink's IFA_F_NOPREFIXROUTE.
 const NO_PREFIX_ROUTE: u32 = 0x200;
 
-pub fn secondary(a: &AddressRow) -> bool
-    ensures { result ≡ secondary a.now }
+// An address as its row of words or as its record.
+pub trait Address {
+    ghost words: { Self → Row };
+
+    fn local(&self) -> u32
+        ensures { result ≡ local (words self.now) };
+
+    fn address(&self) -> u32
+        ensures { result ≡ address (words self.now) };
+
+    fn prefix(&self) -> u32
+        ensures { result ≡ prefix (words self.now) };
+
+    fn scope(&self) -> u32
+        ensures { result ≡ scope (words self.now) };
+
+    fn flags(&self) -> u32
+        ensures { result ≡ flags (words self.now) };
+}
+
+impl Address for [u32; ADDRESS_WORDS] {
+    ghost words = { λ a. a };
+
+    fn local(&self) -> u32 {
+        self[address::LOCAL]
+    }
+
+    fn address(&self) -> u32 {
+        self[address::ADDRESS]
+    }
+
+    fn prefix(&self) -> u32 {
+        self[address::PREFIX]
+    }
+
+    fn scope(&self) -> u32 {
+        self[address::SCOPE]
+    }
+
+    fn flags(&self) -> u32 {
+        self[address::FLAGS]
+    }
+}
+
+impl Address for V4 {
+    ghost words = { row_of };
+
+    fn local(&self) -> u32 {
+        self.local
+    }
+
+    fn address(&self) -> u32 {
+        self.address
+    }
+
+    fn prefix(&self) -> u32 {
+        self.prefix
+    }
+
+    fn scope(&self) -> u32 {
+        self.scope
+    }
+
+    fn flags(&self) -> u32 {
+        self.flags
+    }
+}
+
+pub fn secondary<A: Address>(a: &A) -> bool
+    ensures { result ≡ secondary (A.words a.now) }
 {
-    a[address::FLAGS] & row_address::SECONDARY != 0
+    row_address::has(a.flags(), row_address::SECONDARY)
 }
 
 pub fn no_prefix_route(a: &AddressRow) -> bool
     ensures { result ≡ no_prefix_route a.now }
 {
-    a[address::FLAGS] & NO_PREFIX_ROUTE != 0
+    row_address::has(a.flags(), NO_PREFIX_ROUTE)
 }
 
 // Whether ip is in the address's subnet.
 #[tactic(auto, unfolding(definition::specs::Reference::Addresses::covers))]
-pub fn covers(a: &AddressRow, ip: u32) -> bool
-    ensures { result ≡ covers a.now ip }
+pub fn covers<A: Address>(a: &A, ip: u32) -> bool
+    ensures { result ≡ covers (A.words a.now) ip }
 {
-    prefix::same_network(ip, a[address::ADDRESS], a[address::PREFIX])
+    prefix::same_network(ip, a.address(), a.prefix())
 }
 
 // Whether b, an address or a request for one, is in the subnet of a. A slice, since the two differ in length.
@@ -76,27 +146,28 @@ pub fn has_broadcast_routes(a: &AddressRow) -> bool
 }
 
 // Whether b is a primary whose subnet a is in.
-pub fn primary_for(b: &AddressRow, a: &AddressRow) -> bool
-    ensures { result ≡ primary_for a.now b.now }
+#[tactic(auto, unfolding(definition::specs::Reference::Addresses::same_subnet))]
+pub fn primary_for<A: Address>(b: &A, a: &A) -> bool
+    ensures { result ≡ primary_for (A.words a.now) (A.words b.now) }
 {
-    !secondary(b) && same_subnet(b, a)
+    !secondary(b) && b.prefix() == a.prefix() && covers(b, a.address())
 }
 
 // The first primary whose subnet a is in.
-pub fn primary_at<'a>(addresses: Addresses<'a>, a: &AddressRow) -> Option<&'a AddressRow>
-    ensures { option_map (λ b. b.now) result ≡ find (primary_for a.now) addresses.entry.rows.now }
+pub fn primary_at<'a, A: Address>(addresses: &'a [A], a: &A) -> Option<&'a A>
+    ensures { option_map (λ b. b.now) result ≡ find (λ b. primary_for (A.words a.now) (A.words b)) addresses.now }
 {
-    addresses.rows.iter().find(|b| primary_for(b, a))
+    addresses.iter().find(|b| primary_for(*b, a))
 }
 
 // The local address of the first primary whose subnet it is in, for a secondary; else its own.
 #[tactic(auto, unfolding(definition::specs::Reference::Addresses::primary_of))]
-pub fn primary_of(addresses: Addresses<'_>, a: &AddressRow) -> u32
-    ensures { result ≡ primary_of addresses.entry.rows.now a.now }
+pub fn primary_of<A: Address>(addresses: &[A], a: &A) -> u32
+    ensures { result ≡ primary_of (map A.words addresses.now) (A.words a.now) }
 {
     if !secondary(a) {
-        return a[address::LOCAL];
+        return a.local();
     }
     let primary = primary_at(addresses, a).unwrap_or(a);
-    primary[address::LOCAL]
+    primary.local()
 }

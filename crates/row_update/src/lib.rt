@@ -1,9 +1,9 @@
 // The address rows that requests and changes make.
 #![tactic(auto)]
 
-ghost use Rattle.std.specs.Prelude.{◌≡◌};
-ghost use Rattle.layout.specs.Flags.{clear_bit, set_bit};
-ghost use Rattle.layout.specs.Address.{secondary_bit, deprecated_bit};
+ghost use Rattle.std.specs.Prelude.{◌≡◌, ℕ, ◌^◌};
+ghost use Rattle.layout.specs.Flags.{set_bit};
+ghost use Rattle.layout.specs.Address.{flags, set_flags};
 ghost use Rattle.layout.specs.Request.{valid_asked, preferred_asked};
 ghost use Rattle.definition.specs.Reference.Addresses.{set_life, asked, as_secondary, changed_to};
 ghost use Rattle.definition.specs.Reference.Removal.{deprecate};
@@ -14,22 +14,13 @@ use life::{Lifetimes, Nanoseconds, Seconds};
 // The words that a request to add an address and its row share.
 const SHARED: usize = 14;
 
-fn as_primary(flags: u32) -> u32
-    ensures { result ≡ clear_bit secondary_bit flags }
+// The row with a flag.
+fn flagged(a: &AddressRow, flag: u32) -> AddressRow
+    ensures { (k : ℕ) → flag ≡ 2 ^ k → result ≡ set_flags (set_bit k (flags a.now)) a.now }
 {
-    flags & !row_address::SECONDARY
-}
-
-fn second(flags: u32) -> u32
-    ensures { result ≡ set_bit secondary_bit flags }
-{
-    flags | row_address::SECONDARY
-}
-
-fn deprecated(flags: u32) -> u32
-    ensures { result ≡ set_bit deprecated_bit flags }
-{
-    flags | row_address::DEPRECATED
+    let mut row = *a;
+    row[address::FLAGS] = row_address::set(row[address::FLAGS], flag);
+    row
 }
 
 // The row with the lifetimes that a request asks for at that moment.
@@ -63,7 +54,7 @@ pub fn asked(q: &AddV4, clock: Nanoseconds) -> AddressRow
 {
     let mut row = [0; ADDRESS_WORDS];
     row[..SHARED].copy_from_slice(&q[..SHARED]);
-    row[address::FLAGS] = as_primary(row[address::FLAGS]);
+    row[address::FLAGS] = row_address::clear(row[address::FLAGS], row_address::SECONDARY);
     row = set_life(row, q, clock);
     let [created, created_high] = <[u32; 2]>::from(clock);
     row[address::CREATED] = created;
@@ -87,17 +78,13 @@ pub fn changed_to(q: &AddV4, old: &AddressRow, clock: Nanoseconds) -> AddressRow
 pub fn as_secondary(a: &AddressRow) -> AddressRow
     ensures { result ≡ as_secondary a.now }
 {
-    let mut row = *a;
-    row[address::FLAGS] = second(row[address::FLAGS]);
-    row
+    flagged(a, row_address::SECONDARY)
 }
 
-// The row marked as deprecated. One word is written, as in `as_secondary`, by another rule: a function for both would be given it.
+// The row marked as deprecated.
 #[tactic(auto, unfolding(definition::specs::Reference::Removal::deprecate))]
 pub fn deprecate(a: &AddressRow) -> AddressRow
     ensures { result ≡ deprecate a.now }
 {
-    let mut row = *a;
-    row[address::FLAGS] = deprecated(row[address::FLAGS]);
-    row
+    flagged(a, row_address::DEPRECATED)
 }

@@ -1,14 +1,15 @@
 // The source choice over rows of addresses and routes.
 #![tactic(auto)]
 
-ghost use Rattle.std.specs.Prelude.{◌≡◌, ◌&&◌};
+ghost use Rattle.std.specs.Prelude.{◌≡◌, ◌&&◌, map};
 ghost use Rattle.std.specs.List.{find};
 ghost use Rattle.std.specs.Option.{option_map};
 ghost use Rattle.lists.specs.Library.{own};
 ghost use Rattle.definition.specs.Reference.Source.{eligible, reaches, select4, source4};
 ghost use Rattle.rows_source.specs.Source.{source_rows};
 
-use layout::{AddressRow, RouteRow, address, route};
+use layout::{RouteRow, route};
+use row_subnet::Address;
 use rows::{Addresses, Routes};
 use rows_lookup::Flow;
 
@@ -17,43 +18,35 @@ const LOOPBACK: u32 = 0x7f000001;
 
 // A primary of the asked scope or a wider one (a smaller number is wider); nowhere counts as host.
 #[tactic(auto, unfolding(definition::specs::Reference::Source::eligible))]
-fn eligible(a: &AddressRow, scope: u32) -> bool
-    ensures { result ≡ eligible scope a.now }
+fn eligible<A: Address>(a: &A, scope: u32) -> bool
+    ensures { result ≡ eligible scope (A.words a.now) }
 {
-    !row_subnet::secondary(a) && a[address::SCOPE].min(layout::SCOPE_HOST) <= scope
+    !row_subnet::secondary(a) && a.scope().min(layout::SCOPE_HOST) <= scope
 }
 
 // In the destination's subnet, if there is one.
-fn reaches(a: &AddressRow, dst: Option<u32>) -> bool
-    ensures { result ≡ reaches (own dst) a.now }
+fn reaches<A: Address>(a: &A, dst: Option<u32>) -> bool
+    ensures { result ≡ reaches (own dst) (A.words a.now) }
 {
     dst.is_none_or(|ip| row_subnet::covers(a, ip))
 }
 
-fn first_eligible<'a>(addresses: Addresses<'a>, scope: u32) -> Option<&'a AddressRow>
-    ensures { option_map (λ a. a.now) result ≡ find (eligible scope) addresses.entry.rows.now }
-{
-    addresses.rows.iter().find(|a| eligible(a, scope))
-}
-
-fn first_near<'a>(addresses: Addresses<'a>, dst: Option<u32>, scope: u32) -> Option<&'a AddressRow>
-    ensures { option_map (λ a. a.now) result ≡ find (λ a. eligible scope a && reaches (own dst) a) addresses.entry.rows.now }
+// The first address that is eligible and in the destination's subnet.
+fn first<A: Address>(addresses: &[A], dst: Option<u32>, scope: u32) -> Option<&A>
+    ensures { option_map (λ a. a.now) result ≡ find (λ a. eligible scope (A.words a) && reaches (own dst) (A.words a)) addresses.now }
 {
     addresses
-        .rows
         .iter()
-        .find(|a| eligible(a, scope) && reaches(a, dst))
+        .find(|a| eligible(*a, scope) && reaches(*a, dst))
 }
 
 // The first address that is eligible and in the destination's subnet, else the first that is eligible.
-pub fn select4(addresses: Addresses<'_>, dst: Option<u32>, scope: u32) -> Option<u32>
-    ensures { own result ≡ select4 addresses.entry.rows.now (own dst) scope }
+pub fn select4<A: Address>(addresses: &[A], dst: Option<u32>, scope: u32) -> Option<u32>
+    ensures { own result ≡ select4 (map A.words addresses.now) (own dst) scope }
 {
-    let chosen = match first_near(addresses, dst, scope) {
-        Some(a) => a,
-        None => first_eligible(addresses, scope)?,
-    };
-    Some(chosen[address::LOCAL])
+    first(addresses, dst, scope)
+        .or_else(|| first(addresses, None, scope))
+        .map(|a| a.local())
 }
 
 // The source for a route's row: its preferred source; else for a local one the destination itself, for another the choice by
@@ -69,7 +62,7 @@ pub fn source4(addresses: Addresses<'_>, row: &RouteRow, ip: u32) -> Option<u32>
         return Some(ip);
     }
     let gateway = row_address::optional_of(row[route::GATEWAY_PRESENT], row[route::GATEWAY]);
-    select4(addresses, gateway, row[route::SCOPE])
+    select4(addresses.rows, gateway, row[route::SCOPE])
 }
 
 // The source for a destination by the addresses, the routes and whether 253 is listed: 127.0.0.1 where there is no route or no address.

@@ -38,7 +38,7 @@ pub fn local4(s: Stored<'_>, ip: u32) -> bool
 pub fn select4(s: Stored<'_>, dst: Option<u32>, scope: u32) -> Option<u32>
     ensures { (st : State) → Represents s.entry.words.now st → own result ≡ select4 st.addresses (own dst) scope }
 {
-    rows_source::select4(s.addresses(), dst, scope)
+    rows_source::select4(s.addresses().rows, dst, scope)
 }
 
 // The source for a route's row and a destination.

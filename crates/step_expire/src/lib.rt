@@ -27,13 +27,13 @@ struct Clock {
 fn permanent(a: &AddressRow) -> bool
     ensures { result ≡ permanent a.now }
 {
-    a[address::FLAGS] & row_address::PERMANENT != 0
+    row_address::has(a[address::FLAGS], row_address::PERMANENT)
 }
 
 fn deprecated(a: &AddressRow) -> bool
     ensures { result ≡ deprecated a.now }
 {
-    a[address::FLAGS] & row_address::DEPRECATED != 0
+    row_address::has(a[address::FLAGS], row_address::DEPRECATED)
 }
 
 impl Clock {

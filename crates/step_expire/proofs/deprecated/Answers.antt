@@ -1,6 +1,0 @@
-use Rattle.layout.specs.Bits.{has_and}
-use Rattle.layout.specs.Address.{flags}
-use Rattle.step_expire.proofs.deprecated.Goals as goal
-
-pub returns : goal.returns
-returns c = has_and 5 (flags c.args.a.now)
