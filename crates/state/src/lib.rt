@@ -106,7 +106,7 @@ impl StoredMut<'_> {
         requires row_value { fit_route row.now ≡ true }
         ensures { Becomes (λ st. with_routes (insert_at i row.now st.routes) st) self.old self.new }
     {
-        held::insert(self, i, row);
+        held::insert::<RouteRow>(self, i, row);
     }
 
     pub fn remove_route(&mut self, i: usize)

@@ -2,7 +2,7 @@
 // what it is, the flags of a new route or 0, the row, zeros.
 #![tactic(auto)]
 
-ghost use Rattle.std.specs.Prelude.{◌≡◌, ◌∷◌, [], ◌++◌, ◌+◌, ◌*◌, ◌≤◌, length};
+ghost use Rattle.std.specs.Prelude.{◌≡◌, ◌∷◌, [], ◌++◌, ◌+◌, ◌-◌, ◌*◌, ◌≤◌, length};
 ghost use Rattle.lists.specs.Lists.{zeros};
 ghost use Rattle.layout.specs.Event.{new_addr4, del_addr4, new_route4, del_route4};
 ghost use Rattle.step_events.specs.Tells.{Tells};
@@ -12,17 +12,9 @@ mod change;
 pub use change::Change;
 use layout::{AddressRow, EVENT_WORDS, EventRow, RouteRow, event};
 
-fn address_event(kind: u32, a: &AddressRow) -> EventRow
-    ensures { result ≡ kind ∷ 0 ∷ (a.now ++ zeros 12) }
-{
-    let mut row = [0u32; EVENT_WORDS];
-    row[event::KIND] = kind;
-    words::store(&mut row, event::ROW, a);
-    row
-}
-
-fn route_event(kind: u32, flags: u32, r: &RouteRow) -> EventRow
-    ensures { result ≡ kind ∷ flags ∷ r.now }
+fn event_row<const N: usize>(kind: u32, flags: u32, r: &[u32; N]) -> EventRow
+    requires { N ≤ 32 }
+    ensures { result ≡ kind ∷ flags ∷ (r.now ++ zeros (32 - N)) }
 {
     let mut row = [0u32; EVENT_WORDS];
     row[event::KIND] = kind;
@@ -42,12 +34,14 @@ impl Change<'_> {
         self.told += 1;
     }
 
+    // Four, and each asks for room: only a caller knows how many rows it still tells, so that is no fact of the struct. One method for an
+    // enum of four would have the caller build what the method takes apart.
     pub fn new_addr4(&mut self, a: &AddressRow)
         requires { 34 * (self.old.told + 1) ≤ length self.old.events.now }
         ensures tells { Tells (new_addr4 a.now ∷ []) self.old self.new }
         ensures state { self.new.state.words.now ≡ self.old.state.words.now }
     {
-        self.tell(&address_event(event::NEW_ADDR4, a));
+        self.tell(&event_row(event::NEW_ADDR4, 0, a));
     }
 
     pub fn del_addr4(&mut self, a: &AddressRow)
@@ -55,7 +49,7 @@ impl Change<'_> {
         ensures tells { Tells (del_addr4 a.now ∷ []) self.old self.new }
         ensures state { self.new.state.words.now ≡ self.old.state.words.now }
     {
-        self.tell(&address_event(event::DEL_ADDR4, a));
+        self.tell(&event_row(event::DEL_ADDR4, 0, a));
     }
 
     pub fn new_route4(&mut self, r: &RouteRow, flags: u32)
@@ -63,7 +57,7 @@ impl Change<'_> {
         ensures tells { Tells (new_route4 r.now flags ∷ []) self.old self.new }
         ensures state { self.new.state.words.now ≡ self.old.state.words.now }
     {
-        self.tell(&route_event(event::NEW_ROUTE4, flags, r));
+        self.tell(&event_row(event::NEW_ROUTE4, flags, r));
     }
 
     pub fn del_route4(&mut self, r: &RouteRow)
@@ -71,6 +65,6 @@ impl Change<'_> {
         ensures tells { Tells (del_route4 r.now ∷ []) self.old self.new }
         ensures state { self.new.state.words.now ≡ self.old.state.words.now }
     {
-        self.tell(&route_event(event::DEL_ROUTE4, 0, r));
+        self.tell(&event_row(event::DEL_ROUTE4, 0, r));
     }
 }

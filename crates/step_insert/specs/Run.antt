@@ -1,36 +1,55 @@
--- Among ordered rows those alike a new one stand together: where they begin and end, found in one pass.
+-- Among ordered rows those alike a new one stand together: where they begin and end, found by halves.
 -- Assumes nothing.
-use Rattle.std.specs.Prelude.{ℕ, suc, ◌+◌, ◌≤◌, ◌<◌, ◌≡◌, Bool, ◌||◌, ltb, length, take}
+use Rattle.std.specs.Prelude.{ℕ, zero, suc, ◌+◌, ◌≤◌, ◌<◌, ◌≡◌, Bool, ltb, length, take}
 use Rattle.std.proofs.Math.Path.{refl, ap}
-use Rattle.std.proofs.Common.{sym, ◌∙◌, arith, take-append-drop, take_all, length-take-le}
+use Rattle.std.proofs.Common.{sym, ◌∙◌, arith, take-append-drop, length-take-le}
 use Rattle.std.proofs.Math.Bool.{true, false, not, not-not, or-false}
-use mathlib.Core.List.{List, [], ◌∷◌, ◌++◌}
+use mathlib.Core.List.{List, [], ◌∷◌}
 use Rattle.std.proofs.Math.ListN.{get_or, drop}
 use Rattle.std.proofs.Math.Seq.{drop-cons}
+use Rattle.std.specs.List.Sorted.{IsPartitionedBy, IsPartitionPoint}
+use Rattle.std.proofs.lemmas.Bool.{not-true}
 use Rattle.lists.specs.Lists.{Row, all, any, eq_row, pairwise}
 use Rattle.lists.specs.Bools.{test-case, fails, true-false, or_case, not-both, false-not, contrary}
 use Rattle.lists.specs.All.{all_mono, all_cons, eq_row-true, pairwise-head, pairwise_tail}
-use Rattle.lists.specs.At.{insert_at}
-use Rattle.lists.specs.Count.{tick, tick-one, tick-none, count, count_append, count-apart, count_most}
+use Rattle.lists.specs.At.{insert_at, all-at}
+use Rattle.lists.specs.Count.{tick, tick-one, tick-none, count, count-apart, count_most}
 use Rattle.lists.specs.Place.{place_of}
-use Rattle.lists.specs.Split.{any-joined, pairwise_drop, count-all, count_sum, any-ltb, any-apart, count-more, all_more, any-more, around_at}
+use Rattle.lists.specs.Split.{any-joined, pairwise_drop, count_cut, count-all, count_sum, any-ltb, any-apart, around_at}
 use Rattle.layout.specs.Route.{before, alike}
 use Rattle.definition.specs.Words.{ordered}
 use Rattle.definition.specs.Reference.Insert.{ahead, behind}
 use Rattle.definition.specs.Preservation.Order.{before-never, alike-before, before-alike, alike-sym, alike_refl, level-alike}
 use Rattle.definition.proofs.Noninterference.Struck.{before-between, split-ahead, split-behind}
 
--- the first i rows looked at: how many are before the new one, none after it, whether it is among them
-pub record LoopInvariant (new : Row) (l : List Row) (i start : ℕ) (there : Bool) : Type 0 where
-  pub begins : start ≡ count (λ r. before r new) (take i l)
-  pub goes_on : all (λ r. not (before new r)) (take i l) ≡ true
-  pub is-there : there ≡ any (eq_row new) (take i l)
-
 -- the rows alike it are those from start up to end
 pub record Run (new : Row) (l : List Row) (start end : ℕ) (there : Bool) : Type 0 where
   pub begins : start ≡ count (λ r. before r new) l
   pub ends : end ≡ count (λ r. not (before new r)) l
   pub is-there : there ≡ any (eq_row new) l
+
+module _ {A : Type 0} (p : A → Bool) where
+  -- where an element that passes has those before it pass, a search by halves may be made
+  parted : (r : A → A → Bool) (l : List A) → ((x y : A) → r x y ≡ true → p y ≡ true → p x ≡ true) → pairwise r l ≡ true → IsPartitionedBy p l
+  parted r [] f o i j d le h e = absurd (omega arith)
+  parted r (x ∷ l) f o zero zero d le h e = e
+  parted r (x ∷ l) f o zero (suc j) d le h e = f x (get_or l j d) (all-at (r x) j l d (omega arith) (pairwise-head r x l o)) e
+  parted r (x ∷ l) f o (suc i) zero d le h e = absurd (omega arith)
+  parted r (x ∷ l) f o (suc i) (suc j) d le h e = parted r l f (pairwise_tail r x l o) i j d (omega arith) (omega arith) e
+
+  -- what it finds: those up to i pass, the others don't
+  cut_at : (l : List A) (i : ℕ) → i ≤ length l → IsPartitionPoint (λ y. p y ≡ true) (λ y. p y ≡ false) l i
+      → (all p (take i l) ≡ true) × (all (λ y. not (p y)) (drop i l) ≡ true)
+  cut_at [] zero h k = (refl, refl)
+  cut_at [] (suc i) h k = absurd (omega arith)
+  cut_at (x ∷ l) zero h k = (
+    refl,
+    all_cons (λ y. not (p y)) x l (ap not (k.1 0 x (omega arith) (omega arith)))
+        (cut_at l zero (omega arith) ((λ j d a b. absurd (omega arith)), (λ j d a b. k.1 (suc j) d (omega arith) (omega arith)))).1,
+  )
+  cut_at (x ∷ l) (suc i) h k =
+      let rest = cut_at l i (omega arith) ((λ j d a b. k.0 (suc j) d (omega arith) (omega arith)), (λ j d a b. k.1 (suc j) d (omega arith) (omega arith))) in
+      (all_cons p x (take i l) (k.0 0 x (omega arith) (omega arith)) rest.0, rest.1)
 
 module _ (new : Row) where
   -- ---- a row is before the new one, alike, or after it
@@ -85,41 +104,56 @@ module _ (new : Row) where
       count-apart (λ y. not (before y x)) (λ r. before r new) l
       (λ y e. fails (before y new) (λ f. test-case (before y x) (λ g. not-both (before y x) g e) (λ g. true-false (before x new) (before-between y x new f g) h))) k
 
-  -- ---- the pass
-  pub sofar-start : (l : List Row) → LoopInvariant new l 0 0 false
-  sofar-start l = record { begins = refl; goes_on = refl; is-there = refl }
+  -- ---- cut by halves
+  -- the first i rows are before the new one, of the rest the first m alike, no others
+  module _ (l : List Row) (o : ordered l ≡ true) where
+    pub ahead-parted : IsPartitionedBy (λ r. before r new) l
+    unfolding ordered
+    ahead-parted =
+        parted (λ r. before r new) (λ a b. not (before b a)) l
+        (λ a b h k. before-between b a new k (not-true (before b a) h)) o
 
-  module _ (l : List Row) (i start : ℕ) (there : Bool) (s : LoopInvariant new l i start there) where
-    pub sofar-next : i < length l → before new (get_or l i []) ≡ false
-        → LoopInvariant new l (i + 1) (start + tick (before (get_or l i []) new)) (there || eq_row new (get_or l i []))
-    sofar-next h e =
-        record {
-          begins = omega (arith, s.begins, count-more l i [] h (λ r. before r new));
-          goes_on = all_more l i [] h (λ r. not (before new r)) s.goes_on (ap not e);
-          is-there = ap (λ (b : Bool). b || eq_row new (get_or l i [])) s.is-there ∙ sym (any-more l i [] h (eq_row new));
-        }
+    pub behind-parted : (i : ℕ) → IsPartitionedBy (λ r. not (before new r)) (drop i l)
+    unfolding ordered
+    behind-parted i =
+        parted (λ r. not (before new r)) (λ a b. not (before b a)) (drop i l)
+        (λ a b h k. ap not (contrary (before new a) (before b a) (λ e. before-between new b a e (not-true (before new b) k)) (not-true (before b a) h)))
+        (pairwise_drop (λ a b. not (before b a)) i l o)
 
-    pub sofar-end : length l ≤ i → Run new l start (length l) there
-    sofar-end h =
-        let whole : take i l ≡ l = take_all i l h in
-        let k : all (λ r. not (before new r)) l ≡ true = rw whole at s.goes_on in
-        record {
-          begins = rw whole at s.begins;
-          ends = sym (count-all (λ r. not (before new r)) l k);
-          is-there = rw whole at s.is-there;
-        }
-
-    pub sofar-stop : i < length l → ordered l ≡ true → before new (get_or l i []) ≡ true → Run new l start i there
-    sofar-stop h o e =
-        let after : all (before new) (drop i l) ≡ true = after-from l i o h e in
-        let long : length (take i l) ≡ i = length-take-le i l (omega arith) in
-        let cut : take i l ++ drop i l ≡ l = take-append-drop i l in
-        let none : any (eq_row new) (drop i l) ≡ false = any-apart (before new) (eq_row new) (drop i l) after-not_equal after in
-        record {
-          begins = omega (arith, s.begins, sym (ap (count (λ r. before r new)) cut), count_append (λ r. before r new) (take i l) (drop i l), count-apart (before new) (λ r. before r new) (drop i l) after-not-before after);
-          ends = omega (arith, sym (ap (count (λ r. not (before new r))) cut), count_append (λ r. not (before new r)) (take i l) (drop i l), count-all (λ r. not (before new r)) (take i l) s.goes_on, count-apart (before new) (λ r. not (before new r)) (drop i l) (λ r f. ap not f) after);
-          is-there = s.is-there ∙ sym (sym (ap (any (eq_row new)) cut) ∙ any-joined (eq_row new) (take i l) (drop i l) ∙ rw none (or-false (any (eq_row new) (take i l))));
-        }
+  pub run_cut : (l : List Row) (i m : ℕ) → i ≤ length l → m ≤ length (drop i l)
+      → IsPartitionPoint (λ r. before r new ≡ true) (λ r. before r new ≡ false) l i
+      → IsPartitionPoint (λ r. not (before new r) ≡ true) (λ r. not (before new r) ≡ false) (drop i l) m
+      → Run new l i (i + m) (any (eq_row new) (take m (drop i l)))
+  run_cut l i m b d h k =
+      let ahead : Row → Bool = λ r. before r new in
+      let within : Row → Bool = λ r. not (before new r) in
+      let rest = drop i l in
+      let front = cut_at ahead l i b h in
+      let back = cut_at within rest m d k in
+      let after : all (before new) (drop m rest) ≡ true = simp not-not at back.1 in
+      let none-front : any (eq_row new) (take i l) ≡ false = any-apart ahead (eq_row new) (take i l) before-not_equal front.0 in
+      let none-behind : any (eq_row new) (drop m rest) ≡ false = any-apart (before new) (eq_row new) (drop m rest) after-not_equal after in
+      record {
+        begins = omega (arith, length-take-le i l b, count_cut ahead l i, count-all ahead (take i l) front.0, count-apart (λ r. not (before r new)) ahead rest (λ r e. not-true (before r new) e) front.1);
+        ends =
+            omega (
+              arith,
+              length-take-le i l b,
+              length-take-le m rest d,
+              count_cut within l i,
+              count_cut within rest m,
+              count-all within (take i l) (all_mono ahead within (take i l) (λ r e. ap not (before-not-after r e)) front.0),
+              count-all within (take m rest) back.0,
+              count-apart (before new) within (drop m rest) (λ r e. ap not e) after,
+            );
+        is-there =
+            sym (ap (any (eq_row new)) (sym (take-append-drop i l))
+            ∙ any-joined (eq_row new) (take i l) rest
+            ∙ rw none-front
+            (ap (any (eq_row new)) (sym (take-append-drop m rest))
+            ∙ any-joined (eq_row new) (take m rest) (drop m rest)
+            ∙ rw none-behind (or-false (any (eq_row new) (take m rest)))));
+      }
 
   -- ---- what a run says
   place-alike : (l : List Row) → ordered l ≡ true → any (alike new) l ≡ true → place_of (alike new) l ≡ count (λ r. before r new) l

@@ -43,8 +43,8 @@ pub struct FoundRun {
     pub read: usize,
 }
 
-// The search for the run: one pass from the first row, which reads no row twice, since `see` is called once for a row. It ends
-// with the first row after the run. The rows need not be in order.
+// The search for the run: one pass from the first row, rows in any order (document 02, Paper 3). It reads no row twice, since `see` is
+// called once for a row, and ends with the first row after the run.
 pub fn find_run(routes: Routes<'_>, new: &RouteRow) -> FoundRun
     ensures start_value { (result.start ≡ run_start new.now routes.entry.rows.now) × (result.end ≡ run_end new.now routes.entry.rows.now) × (result.read ≡ rows_read new.now routes.entry.rows.now) }
     ensures start_le_end { (result.start ≤ result.end) × (result.end ≤ length routes.entry.rows.now) }
@@ -84,24 +84,10 @@ pub fn alike4(run: &[RouteRow], new: &RouteRow) -> Alike
     ensures run { ordered run.now ≡ true → Run new.now run.now result.start result.end result.there }
     ensures start_le_end { (result.start ≤ result.end) × (result.end ≤ length run.now) }
 {
-    let mut start = 0usize;
-    let mut there = false;
-    for (i, r) in run.iter().enumerate() {
-        if row_route::before(new, r) {
-            return Alike {
-                start,
-                end: i,
-                there,
-            };
-        }
-        start += usize::from(row_route::before(r, new));
-        there |= words::same_words(new, r);
-    }
-    Alike {
-        start,
-        end: run.len(),
-        there,
-    }
+    let start = run.partition_point(|r| row_route::before(r, new));
+    let end = start + run[start..].partition_point(|r| !row_route::before(new, r));
+    let there = run[start..end].contains(new);
+    Alike { start, end, there }
 }
 
 // Where an insertion puts the row: a row more at a place with the flags emitted, or another row in place of one.
