@@ -5,6 +5,7 @@ use denote.Ref.{MutBor}
 use Rattle.std.specs.Fn.{Once, FnOnceTakesAtMut, FnOnceReturnsAtMut}
 use Rattle.refusal.specs.declared.Refusal.{Refusal}
 use Rattle.step_events.specs.declared.change.Change.{Change}
+use Rattle.call_change.specs.declared.Ended.{Ended}
 
 -- a change of the words w and the event buffer ev, of which nothing is told
 pub record Begins (w ev : List ℕ) (a : Change) : Type 0 where
@@ -24,6 +25,21 @@ Step F = Once F (MutBor Change × Unit {0}) (Answer (Unit {0}) Refusal × (MutBo
 module _ {F : Type 0} (g : Step F) (f : F) where
   abbrev pub Takes : List ℕ → List ℕ → Type 0
   Takes w ev = (a : Change) → Begins w ev a → FnOnceTakesAtMut g f a
+
+  -- it went from one change to another: what is handed back holds what it left, on the places of the other
+  pub record Went (w ev : MutBor (List ℕ)) (l : Ended) : Type 0 where
+    pub from : Change
+    pub to : Change
+    pub gave : Answer (Unit {0}) Refusal
+    pub begins : Begins w.now ev.now from
+    pub ran : FnOnceReturnsAtMut g f from gave to
+    pub state_from : from.state.words.ghost_name ≡ w.ghost_name
+    pub state_to : l.words.ghost_name ≡ to.state.words.ghost_name
+    pub left : l.words.now ≡ to.state.words.now
+    pub events_from : from.events.ghost_name ≡ ev.ghost_name
+    pub events_to : l.events.ghost_name ≡ to.events.ghost_name
+    pub rows : l.events.now ≡ to.events.now
+    pub answer : l.told ≡ counted to gave
 
   -- it went from one change to another; where that still is on the places of the first, they hold what it left
   pub record Ran (w w' ev ev' : List ℕ) (r : Answer ℕ Refusal) : Type 0 where

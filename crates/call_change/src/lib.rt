@@ -5,9 +5,11 @@
 ghost use Rattle.std.specs.Prelude.{◌≡◌, ◌≤◌, true, length};
 ghost use Rattle.layout.specs.Event as Event;
 ghost use Rattle.definition.specs.Step.{event_room, up_call, down_call, add_v4_call, del_v4_call, expire_call, add_route4_call, del_route4_call};
-ghost use Rattle.state.specs.Represents.{represents};
+ghost use Rattle.definition.specs.State.{State};
+ghost use Rattle.definition.specs.Reference.Addresses.{down};
+ghost use Rattle.state.specs.Represents.{Represents, represents};
 ghost use Rattle.call_change.specs.Answer.{Answers};
-ghost use Rattle.call_change.specs.Ran.{Takes, Ran};
+ghost use Rattle.call_change.specs.Ran.{Takes, Went, Ran};
 
 use layout::{AddRoute4, AddV4, BASE_WORDS, DelRoute4, DelV4, EVENT_BUFFER};
 use life::Nanoseconds;
@@ -15,8 +17,50 @@ use refusal::Refusal;
 use state::StoredMut;
 use step_events::Change;
 
+// What a step left in the words that it was lent, and how many rows it told.
+struct Ended<'a, 'b> {
+    words: &'a mut [u32],
+    events: &'b mut [u32],
+    told: Result<usize, Refusal>,
+}
+
+// A step on a change of which nothing is told. The words are handed back, since behind a struct that stands in a struct nothing is
+// known of what was lent to it.
+fn on_change<'a, 'b, F: FnOnce(&mut Change<'_, '_>) -> Result<(), Refusal>>(
+    words: &'a mut [u32],
+    events: &'b mut [u32],
+    step: F,
+) -> Ended<'a, 'b>
+    requires takes { Takes F.FnOnce step words.old events.old }
+    requires holds { represents words.old ≡ true }
+    ensures { Went F.FnOnce step words.entry events.entry result }
+{
+    let state = StoredMut { words };
+    let mut change = Change {
+        state,
+        events,
+        told: 0,
+    };
+    let came = step(&mut change);
+    let Change {
+        state,
+        events,
+        told,
+    } = change;
+    let StoredMut { words } = state;
+    let told = match came {
+        Ok(()) => Ok(told),
+        Err(refusal) => Err(refusal),
+    };
+    Ended {
+        words,
+        events,
+        told,
+    }
+}
+
 // A step on the words that hold the state and the event buffer, and how many rows it told.
-fn changed<F: FnOnce(&mut Change<'_>) -> Result<(), Refusal>>(
+fn changed<F: FnOnce(&mut Change<'_, '_>) -> Result<(), Refusal>>(
     words: &mut [u32],
     events: &mut [u32],
     step: F,
@@ -25,13 +69,8 @@ fn changed<F: FnOnce(&mut Change<'_>) -> Result<(), Refusal>>(
     requires holds { represents words.old ≡ true }
     ensures { Ran F.FnOnce step words.old words.new events.old events.new result }
 {
-    let mut change = Change {
-        state: StoredMut { words },
-        events,
-        told: 0,
-    };
-    step(&mut change)?;
-    Ok(change.told)
+    let ended = on_change(words, events, step);
+    ended.told
 }
 
 // The device goes up: 127.0.0.1 if it isn't there, then the routes of every address.
@@ -53,13 +92,20 @@ pub fn down(state: &mut [u32], events: &mut [u32]) -> Result<usize, Refusal>
     down_lent(state, events.len(), events)
 }
 
+fn down_held(words: &mut [u32])
+    requires { represents words.old ≡ true }
+    ensures { (st : State) → Represents words.old st → Represents words.new (down st).state }
+{
+    let mut state = StoredMut { words };
+    state_retain::down(&mut state);
+}
+
 // The same for a caller that was lent room for so many words of events, and lends on any.
 pub fn down_lent(state: &mut [u32], room: usize, events: &mut [u32]) -> Result<usize, Refusal>
     ensures { Answers (down_call room state.old) state.new events.old events.new result }
 {
     call_read::checked(state, EVENT_BUFFER <= room, true, Ok(()))?;
-    let words = &mut state[..BASE_WORDS];
-    state_retain::down(&mut StoredMut { words });
+    down_held(&mut state[..BASE_WORDS]);
     Ok(0)
 }
 

@@ -31,7 +31,7 @@ fn step_of(came: Result<(), Refusal>) -> Result<(), Refusal>
 }
 
 // A requested address put in, or the one that is there changed, where the request says so.
-pub fn add_v4(change: &mut Change<'_>, q: &AddV4, clock: Nanoseconds) -> Result<(), Refusal>
+pub fn add_v4(change: &mut Change<'_, '_>, q: &AddV4, clock: Nanoseconds) -> Result<(), Refusal>
     requires q_fit { fit_add_v4 q.now ≡ true }
     requires in_bounds { 34 * (change.old.told + 5) ≤ length change.old.events.now }
     ensures told { TellsAtMost 5 change.old change.new }
@@ -49,7 +49,7 @@ pub fn add_v4(change: &mut Change<'_>, q: &AddV4, clock: Nanoseconds) -> Result<
 }
 
 // The routes of address i.
-fn install_at(change: &mut Change<'_>, i: usize) -> Result<(), Refusal>
+fn install_at(change: &mut Change<'_, '_>, i: usize) -> Result<(), Refusal>
     requires i_bound { i < address_count change.old.state.words.now }
     requires in_bounds { 34 * (change.old.told + 4) ≤ length change.old.events.now }
     ensures told { TellsAtMost 4 change.old change.new }
@@ -68,7 +68,7 @@ fn install_at(change: &mut Change<'_>, i: usize) -> Result<(), Refusal>
 
 // The routes of every address, in order. Out of line, so that its routes don't stand on the stack of `up` while an address is added.
 #[inline(never)]
-fn install_all(change: &mut Change<'_>) -> Result<(), Refusal>
+fn install_all(change: &mut Change<'_, '_>) -> Result<(), Refusal>
     requires in_bounds { 34 * (change.old.told + 324) ≤ length change.old.events.now }
     ensures told { OnOk result (TellsAtMost 320 change.old change.new) }
     ensures adds_from { AddsFrom every change.old change.new result }
@@ -81,7 +81,7 @@ fn install_all(change: &mut Change<'_>) -> Result<(), Refusal>
 }
 
 // 127.0.0.1 if it isn't there, with its routes; then the routes that every address has.
-pub fn up(change: &mut Change<'_>, clock: Nanoseconds) -> Result<(), Refusal>
+pub fn up(change: &mut Change<'_, '_>, clock: Nanoseconds) -> Result<(), Refusal>
     requires in_bounds { 34 * (change.old.told + event_limit) ≤ length change.old.events.now }
     ensures told { OnOk result (TellsAtMost 325 change.old change.new) }
     ensures adds_from { AddsFrom (up clock.0) change.old change.new result }

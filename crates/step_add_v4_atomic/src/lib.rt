@@ -46,8 +46,8 @@ fn copy_state(to: &mut StoredMut<'_>, from: Stored<'_>)
     words::copy(to.words, from.words);
 }
 
-// A change to a state, of which nothing is told yet. The borrow checker asks one lifetime of both.
-fn begun<'a>(state: StoredMut<'a>, events: &'a mut [u32]) -> Change<'a>
+// A change to a state, of which nothing is told yet.
+fn begun<'a, 'b>(state: StoredMut<'a>, events: &'b mut [u32]) -> Change<'a, 'b>
     ensures state { result.state.words.now ≡ state.entry.words.now }
     ensures events { result.events.now ≡ events.old }
     ensures told { result.told ≡ 0 }
@@ -60,7 +60,7 @@ fn begun<'a>(state: StoredMut<'a>, events: &'a mut [u32]) -> Change<'a>
 }
 
 // What was tried on a copy: its words are taken over, and what it told is told behind what was told before.
-fn copy_back(change: &mut Change<'_>, tried: &Change<'_>)
+fn copy_back(change: &mut Change<'_, '_>, tried: &Change<'_, '_>)
     requires { 34 * (change.old.told + tried.now.told) ≤ length change.old.events.now }
     ensures { CopiedBack tried.now change.old change.new }
 {
@@ -75,7 +75,7 @@ fn copy_back(change: &mut Change<'_>, tried: &Change<'_>)
 }
 
 // It and `try_up` stay two: what differs is the call and its buffer, and a closure over a lent change would say more than both.
-fn try_add_v4(change: &mut Change<'_>, q: &AddV4, clock: Nanoseconds) -> Result<(), Refusal>
+fn try_add_v4(change: &mut Change<'_, '_>, q: &AddV4, clock: Nanoseconds) -> Result<(), Refusal>
     requires q_fit { fit_add_v4 q.now ≡ true }
     requires in_bounds { 34 * (change.old.told + 5) ≤ length change.old.events.now }
     ensures told { TellsAtMost 5 change.old change.new }
@@ -91,7 +91,7 @@ fn try_add_v4(change: &mut Change<'_>, q: &AddV4, clock: Nanoseconds) -> Result<
 }
 
 // A requested address put in, or the one that is there changed, where the request says so.
-pub fn add_v4(change: &mut Change<'_>, q: &AddV4, clock: Nanoseconds) -> Result<(), Refusal>
+pub fn add_v4(change: &mut Change<'_, '_>, q: &AddV4, clock: Nanoseconds) -> Result<(), Refusal>
     requires q_fit { fit_add_v4 q.now ≡ true }
     requires in_bounds { 34 * (change.old.told + 5) ≤ length change.old.events.now }
     ensures told { TellsAtMost 5 change.old change.new }
@@ -103,7 +103,7 @@ pub fn add_v4(change: &mut Change<'_>, q: &AddV4, clock: Nanoseconds) -> Result<
     try_add_v4(change, q, clock)
 }
 
-fn try_up(change: &mut Change<'_>, clock: Nanoseconds) -> Result<(), Refusal>
+fn try_up(change: &mut Change<'_, '_>, clock: Nanoseconds) -> Result<(), Refusal>
     requires in_bounds { 34 * (change.old.told + event_limit) ≤ length change.old.events.now }
     ensures told { OnOk result (TellsAtMost 325 change.old change.new) }
     ensures comes_whole { (st : State) → Represents change.old.state.words.now st → fit_state st ≡ true → ComesWhole st (goes (up clock.0 st)) change.old change.new result }
@@ -118,7 +118,7 @@ fn try_up(change: &mut Change<'_>, clock: Nanoseconds) -> Result<(), Refusal>
 }
 
 // 127.0.0.1 if it isn't there, with its routes; then the routes that every address has.
-pub fn up(change: &mut Change<'_>, clock: Nanoseconds) -> Result<(), Refusal>
+pub fn up(change: &mut Change<'_, '_>, clock: Nanoseconds) -> Result<(), Refusal>
     requires in_bounds { 34 * (change.old.told + event_limit) ≤ length change.old.events.now }
     ensures told { OnOk result (TellsAtMost 325 change.old change.new) }
     ensures comes_whole { (st : State) → Represents change.old.state.words.now st → fit_state st ≡ true → ComesWhole st (goes (up clock.0 st)) change.old change.new result }

@@ -44,7 +44,7 @@ fn find<'a>(addresses: Addresses<'a>, q: &DelV4) -> Option<&'a AddressRow>
     addresses.rows.iter().find(|a| deletes(q, a))
 }
 
-pub fn del_v4(change: &mut Change<'_>, q: &DelV4) -> Result<(), Refusal>
+pub fn del_v4(change: &mut Change<'_, '_>, q: &DelV4) -> Result<(), Refusal>
     requires { SomeRoom potential change.old }
     ensures { (st : State) → RoomFor potential st change.old → ComesWhole st (del_v4 q.now st) change.old change.new result }
 {

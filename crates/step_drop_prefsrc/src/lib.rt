@@ -9,7 +9,7 @@ ghost use Rattle.step_drop_prefsrc.specs.Dependents.{dependents_go};
 use step_events::Change;
 
 // The main rows with the preferred source ip go, in their order: they are told, and then taken out together.
-pub fn drop_dependents(change: &mut Change<'_>, ip: u32)
+pub fn drop_dependents(change: &mut Change<'_, '_>, ip: u32)
     requires { SomeRoom potential change.old }
     ensures { (st : State) → RoomFor potential st change.old → EmitsWithin potential st (dependents_go ip st) change.old change.new }
 {

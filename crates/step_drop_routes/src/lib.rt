@@ -16,7 +16,7 @@ use state::Stored;
 use step_events::Change;
 
 // A route goes unless an address wants it.
-fn unless_wanted(change: &mut Change<'_>, r: &RouteRow)
+fn unless_wanted(change: &mut Change<'_, '_>, r: &RouteRow)
     requires { SomeRoom potential change.old }
     ensures { (st : State) → RoomFor potential st change.old → EmitsWithin potential st (unless_wanted r.now st) change.old change.new }
 {
@@ -27,7 +27,7 @@ fn unless_wanted(change: &mut Change<'_>, r: &RouteRow)
     step_kernel_del::kernel_del4(change, r);
 }
 
-fn delete_unwanted(change: &mut Change<'_>, rows: &[RouteRow])
+fn delete_unwanted(change: &mut Change<'_, '_>, rows: &[RouteRow])
     requires { SomeRoom potential change.old }
     ensures { (st : State) → RoomFor potential st change.old → EmitsWithin potential st (through unless_wanted rows.now st) change.old change.new }
 {
@@ -61,7 +61,7 @@ fn falls(s: Stored<'_>, ip: u32, lost: bool) -> bool
         && state_tables::listed(s, layout::TABLE_MAIN)
 }
 
-fn fall(change: &mut Change<'_>, ip: u32, lost: bool)
+fn fall(change: &mut Change<'_, '_>, ip: u32, lost: bool)
     requires { SomeRoom potential change.old }
     ensures { (st : State) → RoomFor potential st change.old → EmitsWithin potential st (fall_from ip lost st) change.old change.new }
 {
@@ -71,7 +71,7 @@ fn fall(change: &mut Change<'_>, ip: u32, lost: bool)
 }
 
 // The routes of an address ip that is gone, and what goes with them.
-pub fn take_routes(change: &mut Change<'_>, rows: &[RouteRow], ip: u32)
+pub fn take_routes(change: &mut Change<'_, '_>, rows: &[RouteRow], ip: u32)
     requires { SomeRoom potential change.old }
     ensures { (st : State) → RoomFor potential st change.old → EmitsWithin potential st (routes_go ip rows.now st) change.old change.new }
 {

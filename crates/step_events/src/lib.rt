@@ -23,7 +23,7 @@ fn event_row<const N: usize>(kind: u32, flags: u32, r: &[u32; N]) -> EventRow
     row
 }
 
-impl Change<'_> {
+impl Change<'_, '_> {
     // One row more.
     fn tell(&mut self, row: &EventRow)
         requires { 34 * (self.old.told + 1) ≤ length self.old.events.now }

@@ -58,7 +58,7 @@ impl Clock {
 }
 
 // The address at i becomes the row a, marked, and is told.
-fn mark(change: &mut Change<'_>, i: usize, a: &AddressRow)
+fn mark(change: &mut Change<'_, '_>, i: usize, a: &AddressRow)
     requires i_bound { (i < address_count change.old.state.words.now) × (34 * (change.old.told + 1) ≤ length change.old.events.now) × (fit_address a.now ≡ true) }
     ensures tells { Tells (new_addr4 (deprecate a.now) ∷ []) change.old change.new }
     ensures represents { (st : State) → Represents change.old.state.words.now st → Represents change.new.state.words.now (with_addresses (set st.addresses i (deprecate a.now)) st) }
@@ -69,7 +69,7 @@ fn mark(change: &mut Change<'_>, i: usize, a: &AddressRow)
 }
 
 // What comes of the address at i, and the place that is next: the first one again where addresses went.
-fn iteration(change: &mut Change<'_>, clock: Clock, i: usize) -> usize
+fn iteration(change: &mut Change<'_, '_>, clock: Clock, i: usize) -> usize
     requires some_room { SomeRoom potential change.old }
     requires i_bound { i < address_count change.old.state.words.now }
     ensures next { result ≡ next_place i (address_count change.old.state.words.now) (address_count change.new.state.words.now) }
@@ -88,7 +88,7 @@ fn iteration(change: &mut Change<'_>, clock: Clock, i: usize) -> usize
 
 // Every address that is due goes, each that fades is marked. The list changes under the loop, and the place goes back to the first,
 // so it is a `while` over a place: no `for` and no iterator could begin again.
-pub fn expire(change: &mut Change<'_>, allowance: Nanoseconds, clock: Nanoseconds)
+pub fn expire(change: &mut Change<'_, '_>, allowance: Nanoseconds, clock: Nanoseconds)
     requires { SomeRoom potential change.old }
     ensures { (st : State) → RoomFor potential st change.old → EmitsWithin potential st (expire allowance.0 clock.0 st) change.old change.new }
 {

@@ -18,7 +18,7 @@ use step_events::Change;
 const CREATE_APPEND: u32 = 0xc00;
 
 // Its table is listed, and it is put behind the rows alike it and told, unless it is there.
-pub fn kernel_add4(change: &mut Change<'_>, new: &RouteRow) -> Result<(), Refusal>
+pub fn kernel_add4(change: &mut Change<'_, '_>, new: &RouteRow) -> Result<(), Refusal>
     requires value { fit_route new.now ≡ true }
     requires in_bounds { 34 * (change.old.told + 1) ≤ length change.old.events.now }
     ensures told { TellsAtMost 1 change.old change.new }

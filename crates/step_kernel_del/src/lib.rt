@@ -40,7 +40,7 @@ fn find_match(routes: Routes<'_>, p: &RouteRow) -> Option<usize>
 }
 
 // The first row that p names goes, if there is one. Where there is no route there need be no room for its event.
-pub fn kernel_del4(change: &mut Change<'_>, p: &RouteRow)
+pub fn kernel_del4(change: &mut Change<'_, '_>, p: &RouteRow)
     requires in_bounds { 0 < route_count change.old.state.words.now → 34 * (change.old.told + 1) ≤ length change.old.events.now }
     ensures upper_bound { change.new.told ≤ change.old.told + 1 }
     ensures emits { (st : State) → Represents change.old.state.words.now st → Emits (kernel_del4 p.now st) change.old change.new }

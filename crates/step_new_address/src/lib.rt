@@ -20,7 +20,7 @@ use rows::{Routes, Rows};
 use step_events::Change;
 
 // The routes, in order.
-pub fn install(change: &mut Change<'_>, routes: Routes<'_>) -> Result<(), Refusal>
+pub fn install(change: &mut Change<'_, '_>, routes: Routes<'_>) -> Result<(), Refusal>
     requires in_bounds { 34 * (change.old.told + length routes.rows.now) ≤ length change.old.events.now }
     ensures told { TellsAtMost (length routes.entry.rows.now) change.old change.new }
     ensures addresses { address_count change.new.state.words.now ≡ address_count change.old.state.words.now }
@@ -33,7 +33,7 @@ pub fn install(change: &mut Change<'_>, routes: Routes<'_>) -> Result<(), Refusa
 }
 
 // An address put in its place and told, then the routes that it brings.
-pub fn new_address(change: &mut Change<'_>, new: &AddressRow, up: bool) -> Result<(), Refusal>
+pub fn new_address(change: &mut Change<'_, '_>, new: &AddressRow, up: bool) -> Result<(), Refusal>
     requires value { fit_address new.now ≡ true }
     requires in_bounds { 34 * (change.old.told + 5) ≤ length change.old.events.now }
     ensures told { TellsAtMost 5 change.old change.new }
@@ -56,7 +56,7 @@ pub fn new_address(change: &mut Change<'_>, new: &AddressRow, up: bool) -> Resul
 }
 
 // An address's prefix route with a request's priority put in, and then the one with its own taken out.
-fn moved(change: &mut Change<'_>, q: &AddV4, old: &AddressRow) -> Result<(), Refusal>
+fn moved(change: &mut Change<'_, '_>, q: &AddV4, old: &AddressRow) -> Result<(), Refusal>
     requires value { fit_address old.now ≡ true }
     requires in_bounds { 34 * (change.old.told + 2) ≤ length change.old.events.now }
     ensures told { TellsAtMost 2 change.old change.new }
@@ -75,7 +75,7 @@ fn moved(change: &mut Change<'_>, q: &AddV4, old: &AddressRow) -> Result<(), Ref
 
 // Address i, which is the requested one, with the request's priority, proto and lifetimes.
 pub fn change_v4(
-    change: &mut Change<'_>,
+    change: &mut Change<'_, '_>,
     i: usize,
     q: &AddV4,
     clock: Nanoseconds,

@@ -23,7 +23,7 @@ fn place_of(addresses: Addresses<'_>, a: &AddressRow) -> Option<usize>
 }
 
 // The first row equal to a goes, and is told.
-fn take_out(change: &mut Change<'_>, a: &AddressRow)
+fn take_out(change: &mut Change<'_, '_>, a: &AddressRow)
     requires { Present a.now change.old }
     ensures { (st : State) → RoomFor potential st change.old → any (eq_row a.now) st.addresses ≡ true → EmitsWithin potential st (gone_from a.now st) change.old change.new }
 {
@@ -34,7 +34,7 @@ fn take_out(change: &mut Change<'_>, a: &AddressRow)
 }
 
 // The address a goes, its routes that none wants, and what falls with it.
-pub fn remove_one(change: &mut Change<'_>, a: &AddressRow)
+pub fn remove_one(change: &mut Change<'_, '_>, a: &AddressRow)
     requires { Present a.now change.old }
     ensures { (st : State) → RoomFor potential st change.old → any (eq_row a.now) st.addresses ≡ true → EmitsWithin potential st (remove_one a.now st) change.old change.new }
 {
@@ -51,7 +51,7 @@ fn goes_with(a: &AddressRow, b: &AddressRow) -> bool
 }
 
 // The address at i goes if it goes with the primary a.
-fn gone_iteration(change: &mut Change<'_>, a: &AddressRow, i: usize)
+fn gone_iteration(change: &mut Change<'_, '_>, a: &AddressRow, i: usize)
     requires some_room { SomeRoom potential change.old }
     requires i_bound { i < address_count change.old.state.words.now }
     ensures { (st : State) → RoomFor potential st change.old → EmitsWithin potential st (gone_turn a.now i st) change.old change.new }
@@ -64,7 +64,7 @@ fn gone_iteration(change: &mut Change<'_>, a: &AddressRow, i: usize)
 
 // The secondaries that go with the primary a, in their order: a pass over the n that are there when it begins. Each that
 // goes brings those behind it a place forward.
-fn remove_secondaries(change: &mut Change<'_>, a: &AddressRow)
+fn remove_secondaries(change: &mut Change<'_, '_>, a: &AddressRow)
     requires { SomeRoom potential change.old }
     ensures { (st : State) → RoomFor potential st change.old → EmitsWithin potential st (secondaries a.now st) change.old change.new }
 {
@@ -76,7 +76,7 @@ fn remove_secondaries(change: &mut Change<'_>, a: &AddressRow)
 }
 
 // The address a goes; a primary takes its secondaries with it, which go first.
-pub fn remove_v4(change: &mut Change<'_>, a: &AddressRow)
+pub fn remove_v4(change: &mut Change<'_, '_>, a: &AddressRow)
     requires { Present a.now change.old }
     ensures { (st : State) → RoomFor potential st change.old → any (eq_row a.now) st.addresses ≡ true → EmitsWithin potential st (remove_v4 a.now st) change.old change.new }
 {

@@ -21,7 +21,7 @@ use state::Stored;
 use step_events::Change;
 
 // The first row that the request names goes. No table is listed.
-pub fn del_route4(change: &mut Change<'_>, q: &DelRoute4) -> Result<(), Refusal>
+pub fn del_route4(change: &mut Change<'_, '_>, q: &DelRoute4) -> Result<(), Refusal>
     requires fit { fit_del_route4 q.now ≡ true }
     requires in_bounds { 34 * (change.old.told + 1) ≤ length change.old.events.now }
     ensures { (st : State) → Represents change.old.state.words.now st → ComesWhole st (del_route4_request q.now st) change.old change.new result }
@@ -81,7 +81,7 @@ fn check(s: Stored<'_>, q: &AddRoute4) -> Result<bool, Refusal>
 }
 
 // The row is put in before its table is listed: where it has no room, nothing is written.
-fn add_checked(change: &mut Change<'_>, q: &AddRoute4, t: u32, linked: bool) -> Result<(), Refusal>
+fn add_checked(change: &mut Change<'_, '_>, q: &AddRoute4, t: u32, linked: bool) -> Result<(), Refusal>
     requires s_len_bound { length (list_table t (tables_of change.old.state.words.now)) ≤ 32 }
     requires fit { fit_route (asked_route q.now linked) ≡ true }
     requires in_bounds { 34 * (change.old.told + 1) ≤ length change.old.events.now }
@@ -107,7 +107,7 @@ fn add_checked(change: &mut Change<'_>, q: &AddRoute4, t: u32, linked: bool) -> 
 }
 
 // The table is listed whatever comes of it, unless a list has no room.
-pub fn add_route4(change: &mut Change<'_>, q: &AddRoute4) -> Result<(), Refusal>
+pub fn add_route4(change: &mut Change<'_, '_>, q: &AddRoute4) -> Result<(), Refusal>
     requires fit { fit_add_route4 q.now ≡ true }
     requires in_bounds { 34 * (change.old.told + 1) ≤ length change.old.events.now }
     ensures { (st : State) → Represents change.old.state.words.now st → fit_state st ≡ true → ComesWhole st (add_route4 q.now st) change.old change.new result }

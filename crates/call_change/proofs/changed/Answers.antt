@@ -1,30 +1,17 @@
--- `call_change::changed` meets its contract.
-use Rattle.std.proofs.Common.{rules, refl}
-use Rattle.call_read.specs.Laws.{exit}
+-- `call_change::changed` meets its contract: what is handed back is what was lent.
+use Rattle.std.proofs.Common.{rules, sym, ◌≡◌, ◌∙◌}
 use Rattle.call_change.proofs.changed.Goals as goal
-
-pub returns-in_err-step : goal.returns-in_err-step
-returns-in_err-step g c =
-    record {
-      from = _;
-      to = c.step.new.arg2;
-      gave = c.step.result;
-      begins = record { words = refl; buffer = refl; none = refl };
-      ran = record { shown = _; shows = refl; left = _; met = c.step.ensures; leaves = refl };
-      left = search rules;
-      rows = search rules;
-      answer = rw c.in_err-step.was (exit c.from_residual.ensures.1);
-    }
 
 pub returns : goal.returns
 returns g c =
+    let t = c.on_change-ended.ensures in
     record {
-      from = _;
-      to = c.step.new.arg2;
-      gave = c.step.result;
-      begins = record { words = refl; buffer = refl; none = refl };
-      ran = record { shown = _; shows = refl; left = _; met = c.step.ensures; leaves = refl };
-      left = search rules;
-      rows = search rules;
-      answer = rw c.in_ok-step.was refl;
+      from = t.from;
+      to = t.to;
+      gave = t.gave;
+      begins = t.begins;
+      ran = t.ran;
+      left = λ e. search (rules, sym t.state_from ∙ e ∙ sym t.state_to, t.left);
+      rows = λ e. search (rules, sym t.events_from ∙ e ∙ sym t.events_to, t.rows);
+      answer = t.answer;
     }

@@ -13,12 +13,12 @@ unfolding down_call
 returns-in_err-checked c =
     answers-refused (semantics (Call.down c.args.room)) c.args.state.now c.args.events.now (c.checked.ensures.refuses 0 refl) c.in_err-checked.was c.from_residual.ensures.1
 
-pub slice_bounds-words-end-2 : goal.slice_bounds-words-end-2
-slice_bounds-words-end-2 c = sym (lent (passed (semantics (Call.down c.args.room)).checks c.args.state.now (c.checked.ensures.refuses 0 refl) c.in_ok-checked.was))
+pub slice_bounds-down_held-end-2 : goal.slice_bounds-down_held-end-2
+slice_bounds-down_held-end-2 c = sym (lent (passed (semantics (Call.down c.args.room)).checks c.args.state.now (c.checked.ensures.refuses 0 refl) c.in_ok-checked.was))
 
 pub returns : goal.returns
 unfolding down_call
 returns c =
     let p = passed (semantics (Call.down c.args.room)).checks c.args.state.now (c.checked.ensures.refuses 0 refl) c.in_ok-checked.was in
     answers-passed (semantics (Call.down c.args.room)) c.args.state.now p
-    (down_answers c.args.state.now c.args.events.now p (c.down.ensures (state_of c.args.state.now) p.holds))
+    (down_answers c.args.state.now c.args.events.now p (c.down_held.ensures (state_of c.args.state.now) p.holds))
