@@ -39,12 +39,8 @@ fn settle(s: &mut [u32], i: usize, j: usize) -> usize
     if i == j {
         return j + 1;
     }
-    words::move_down(
-        s,
-        ROUTES_AT + ROUTE_WORDS * i,
-        ROUTES_AT + ROUTE_WORDS * j,
-        ROUTE_WORDS,
-    );
+    let row = *route_row(s, i);
+    words::store(s, ROUTES_AT + ROUTE_WORDS * j, &row);
     j + 1
 }
 
