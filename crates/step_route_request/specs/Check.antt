@@ -85,10 +85,6 @@ pub own-listed : {w : List ℕ} {st : State} → Represents w st → (u t : ℕ)
 own-listed {w} {st} h u t b e f = or_listed h u t b f ∙ ap (λ (x : ℕ). listed x st || eqb x t) e
 
 -- ---- the checks over the rows
-pub scope-fits : (q : Row) → fit_add_route4 q ≡ true → scope q < 256
-unfolding fit_add_route4
-scope-fits q h = ltb-true (scope q) 256 (simp and_iff at h).0.0.0.0.0.1
-
 -- the table that a preferred source may be local in is never 254
 own-other : (t : ℕ) → (eqb t local_table && eqb (prefsrc_table t) main_table) ≡ false
 own-other t =

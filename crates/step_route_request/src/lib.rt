@@ -68,7 +68,6 @@ fn prefsrc_check(
 
 // Every check before the insertion, as it comes out once the table is listed: nothing is written yet.
 fn check(s: Stored<'_>, q: &AddRoute4) -> Result<bool, Refusal>
-    requires { fit_add_route4 q.now ≡ true }
     ensures { (st : State) → Represents s.entry.words.now st → result ≡ reached (check_all q.now (create4 (table_named q.now) st)) }
 {
     request_route::form_check(q)?;

@@ -2,11 +2,8 @@
 -- Assumes nothing.
 use Rattle.std.proofs.Common.{eqb, arith, ◌||◌}
 use Rattle.std.proofs.lemmas.Grind.{common_steps}
-use Rattle.step_route_request.specs.Check.{or_listed, scope-fits, check-refused, check-on}
+use Rattle.step_route_request.specs.Check.{or_listed, check-refused, check-on}
 use Rattle.step_route_request.proofs.check.Goals as goal
-
-pub reach_check-requires : goal.reach_check-requires
-reach_check-requires c = scope-fits c.args.q.now c.requires
 
 pub returns-in_err-linked : goal.returns-in_err-linked
 returns-in_err-linked c = λ st h.
