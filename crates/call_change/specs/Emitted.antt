@@ -2,7 +2,7 @@
 -- Assumes nothing.
 use Rattle.std.specs.Prelude.{ℕ, ◌≤◌, ◌<◌, ◌≡◌, true, List, eqb, length, Ok, Err, IfOk}
 use Rattle.std.specs.Prelude.{Result as Answer}
-use Rattle.std.proofs.Common.{arith, ap, ◌∙◌, eqb-true}
+use Rattle.std.proofs.Common.{arith, ap, eqb-true}
 use Rattle.std.proofs.Math.Path.{refl}
 use Rattle.std.proofs.lemmas.Bool.{false≢true}
 use Rattle.lists.specs.Lists.{Row}

@@ -7,10 +7,10 @@ use Rattle.std.proofs.Math.Bool.{and-false}
 use Rattle.lists.specs.Lists.{Row, flat, put}
 use Rattle.lists.specs.Put.{put-no-rows}
 use Rattle.lists.specs.Bools.{and_right, cond-true, cond-false}
-use Rattle.definition.specs.Words.{base_size, state_size, encode, base, state_of, leaves}
+use Rattle.definition.specs.Words.{base_size, state_size, encode, base, leaves}
 use Rattle.definition.specs.Call.{numbers}
-use Rattle.definition.specs.Step.{Result, refuses, Checks, Semantics, checked, answered, result, roomy, outcome, perform, request_is, events_fit, event_room}
-use Rattle.definition.specs.Reference.Addresses.{Outcome, goes, refused}
+use Rattle.definition.specs.Step.{Result, refuses, Semantics, checked, answered, result, roomy, outcome, perform, request_is, events_fit, event_room}
+use Rattle.definition.specs.Reference.Addresses.{Outcome}
 use Rattle.definition.proofs.Preservation.Step.{acted}
 use Rattle.call_read.specs.Laws.{Passed, call-refused, call-passed, exit, refuses_some}
 use Rattle.call_read.specs.Answer.{answer_by, valuing, refused_by}

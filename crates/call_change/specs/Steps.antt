@@ -8,7 +8,7 @@ use Rattle.lists.specs.Lists.{Row, flat, put}
 use Rattle.lists.specs.Count.{count_most}
 use Rattle.lists.specs.Bools.{and_iff, test-case, cond-true, cond-false}
 use Rattle.lists.specs.Put.{put-no-rows}
-use Rattle.definition.specs.State.{State, Out, sizes, stays}
+use Rattle.definition.specs.State.{State, Out, sizes}
 use Rattle.definition.specs.Words.{within, base_size, base, state_of, encode}
 use Rattle.definition.specs.Step.{Checks, outcome, roomy, event_room}
 use Rattle.definition.specs.Reference.Addresses.{Outcome, goes, refused, down}

@@ -18,6 +18,7 @@ use state::StoredMut;
 use step_events::Change;
 
 // What a step left in the words that it was lent, and how many rows it told.
+#[derive(Drop)]
 struct Ended<'a, 'b> {
     words: &'a mut [u32],
     events: &'b mut [u32],

@@ -1,5 +1,5 @@
 -- `call_change::add_route4_lent` meets its contract.
-use Rattle.std.proofs.Common.{rules, arith, sym, ap, subst, refl, length, ℕ, List, ◌≡◌, ◌≤◌, ◌*◌, ◌+◌, true}
+use Rattle.std.proofs.Common.{rules, arith, sym, ap, subst, length, ℕ, List, ◌≡◌, ◌≤◌, ◌*◌, ◌+◌, true}
 use Rattle.layout.specs.Request.{add_route4_size, fit_add_route4}
 use Rattle.definition.specs.Reference.Routes.{add_route4}
 use Rattle.definition.specs.Reference.Insert.{insert4}

@@ -1,5 +1,5 @@
 -- `call_change::add_v4` meets its contract.
-use Rattle.std.proofs.Common.{rules, arith, sym, ap, subst, refl, length, ℕ, List, ◌≡◌, ◌≤◌, ◌*◌, ◌+◌, true}
+use Rattle.std.proofs.Common.{rules, arith, sym, ap, subst, length, ℕ, List, ◌≡◌, ◌≤◌, ◌*◌, ◌+◌, true}
 use Rattle.layout.specs.Request.{add_v4_size, fit_add_v4}
 use Rattle.definition.specs.Reference.Addresses.{add_v4}
 use Rattle.definition.proofs.Preservation.Numbers.{add_v4-number}

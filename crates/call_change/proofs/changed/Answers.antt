@@ -1,5 +1,5 @@
 -- `call_change::changed` meets its contract: what is handed back is what was lent.
-use Rattle.std.proofs.Common.{rules, sym, ◌≡◌, ◌∙◌}
+use Rattle.std.proofs.Common.{rules, sym, ◌∙◌}
 use Rattle.call_change.proofs.changed.Goals as goal
 
 pub returns : goal.returns

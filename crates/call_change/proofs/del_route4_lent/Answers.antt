@@ -1,5 +1,5 @@
 -- `call_change::del_route4_lent` meets its contract.
-use Rattle.std.proofs.Common.{rules, arith, sym, ap, subst, refl, length, ℕ, List, ◌≡◌, ◌≤◌, ◌*◌, ◌+◌, true}
+use Rattle.std.proofs.Common.{rules, arith, sym, ap, subst, length, ℕ, List, ◌≡◌, ◌≤◌, ◌*◌, ◌+◌, true}
 use Rattle.layout.specs.Request.{del_route4_size, fit_del_route4}
 use Rattle.definition.specs.Reference.Routes.{del_route4_request}
 use Rattle.definition.proofs.Preservation.Numbers.{del_route4-number}

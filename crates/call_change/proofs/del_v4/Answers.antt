@@ -1,5 +1,5 @@
 -- `call_change::del_v4` meets its contract.
-use Rattle.std.proofs.Common.{rules, arith, sym, refl, length}
+use Rattle.std.proofs.Common.{rules, sym, length}
 use Rattle.layout.specs.Request.{del_v4_size, fit_del_v4}
 use Rattle.definition.specs.Reference.Removal.{del_v4}
 use Rattle.definition.specs.Preservation.Shrinking.{potential}

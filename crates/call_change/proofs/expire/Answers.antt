@@ -1,5 +1,5 @@
 -- `call_change::expire` meets its contract.
-use Rattle.std.proofs.Common.{rules, sym, refl, length, leb-true}
+use Rattle.std.proofs.Common.{rules, sym, length, leb-true}
 use Rattle.life.specs.Life.{allowance}
 use Rattle.definition.specs.Reference.Addresses.{goes}
 use Rattle.definition.specs.Reference.Removal.{expire}

@@ -1,21 +1,24 @@
 -- `call_change::on_change` meets its contract.
-use Rattle.std.proofs.Common.{refl, ap, ◌∙◌}
-use Rattle.call_change.specs.Ran.{counted}
+use Rattle.std.proofs.Common.{refl, sym, ◌∙◌}
 use Rattle.call_change.proofs.on_change.Goals as goal
+use Rattle.call_change.proofs.on_change.Goals.{in-Ok, in-Err}
 
 pub returns : goal.returns
 returns g c =
     record {
       from = _;
-      to = c.step.new.arg2;
-      gave = c.step.result;
+      to = c.step-came.new.arg2;
+      gave = c.step-came.result;
       begins = record { words = refl; buffer = refl; none = refl };
-      ran = record { shown = _; shows = refl; left = _; met = c.step.ensures; leaves = refl };
+      ran = record { shown = _; shows = refl; left = _; met = c.step-came.ensures; leaves = refl };
       state_from = refl;
       state_to = refl;
       left = refl;
       events_from = refl;
       events_to = refl;
       rows = refl;
-      answer = ?;
+      answer = elim c.match-came.branch [
+        | in-Ok w ↦ w.told-is ∙ sym (rw w.in-Ok.is)
+        | in-Err w ↦ w.told-is ∙ sym (rw w.in-Err.is)
+      ];
     }
