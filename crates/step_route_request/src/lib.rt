@@ -80,7 +80,12 @@ fn check(s: Stored<'_>, q: &AddRoute4) -> Result<bool, Refusal>
 }
 
 // The row is put in before its table is listed: where it has no room, nothing is written.
-fn add_checked(change: &mut Change<'_, '_>, q: &AddRoute4, t: u32, linked: bool) -> Result<(), Refusal>
+fn add_checked(
+    change: &mut Change<'_, '_>,
+    q: &AddRoute4,
+    t: u32,
+    linked: bool,
+) -> Result<(), Refusal>
     requires s_len_bound { length (list_table t (tables_of change.old.state.words.now)) ≤ 32 }
     requires fit { fit_route (asked_route q.now linked) ≡ true }
     requires in_bounds { 34 * (change.old.told + 1) ≤ length change.old.events.now }
