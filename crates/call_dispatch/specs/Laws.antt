@@ -10,7 +10,7 @@ use Rattle.lists.specs.Put.{put-no-rows}
 use Rattle.refusal.specs.declared.Refusal.{Refusal}
 use Rattle.layout.specs.Address.{fit_address}
 use Rattle.definition.specs.Call.{Call, Reply, Numbers, numbers}
-use Rattle.definition.specs.Step.{Result, Buffer, unlent, for_events, for_row, alters, semantics, step, dump4_call, left_call}
+use Rattle.definition.specs.Step.{Buffer, unlent, for_events, for_row, alters, semantics, step, dump4_call, left_call}
 use Rattle.definition.proofs.Preservation.Step.{perform-reads}
 use Rattle.definition.specs.Noninterference.Public.{Lent, Made, many}
 use Rattle.definition.proofs.Noninterference.ReadBack.{shaped}

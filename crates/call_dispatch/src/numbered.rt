@@ -3,6 +3,7 @@ ghost use Rattle.std.specs.Prelude.{◌≡◌, length};
 ghost use Rattle.call_dispatch.specs.Numbered.{clock_of, call_by, code_of, call_of, Did};
 
 use call_reply::Reply;
+use life::Nanoseconds;
 use std::error::Error;
 use std::fmt;
 
@@ -115,11 +116,12 @@ impl fmt::Display for Call {
 fn clock_of(low: u32, high: u32) -> u64
     ensures { result ≡ clock_of low high }
 {
-    words::long(low) + words::long(high) * 4294967296
+    Nanoseconds::from([low, high]).0
 }
 
 impl Call {
-    // The call on the state and the buffer that it is lent, with its request or row and its numbers.
+    // The call on the state and the buffer that it is lent, with its request or row and its numbers. The one place where a call that is
+    // recorded by its number is made: each takes what is its own of these.
     pub fn make(
         self,
         state: &mut [u32],

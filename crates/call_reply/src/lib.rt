@@ -8,7 +8,7 @@ ghost use Rattle.definition.specs.Step.{unfit};
 ghost use Rattle.call_read.specs.Answer.{answer_by, refused_by, nothing, flag, valuing, optional};
 ghost use Rattle.call_message.specs.Answer.{asked_by};
 ghost use Rattle.row_address.specs.Row.{reply_of as row-address·reply_of};
-ghost use Rattle.call_reply.specs.Answer.{reply_from, reply_of};
+ghost use Rattle.call_reply.specs.Answer.{left_by, reply_from, reply_of};
 
 use call_message::Asked;
 use life::Left;
@@ -141,7 +141,23 @@ impl Values for Asked {
     }
 }
 
+impl Values for Left {
+    ghost numbers = { left_by };
+
+    ghost fits = { λ _. ⊤ };
+
+    fn values(self) -> Reply {
+        Reply {
+            number: 0,
+            present: 0,
+            value: self.preferred.0,
+            second: self.valid.0,
+        }
+    }
+}
+
 impl Reply {
+    // A method and no From, which asks nothing of what it converts: a number of rows has to fit a word.
     pub fn of<T: Values>(answer: Result<T, Refusal>) -> Reply
         requires { IfOk answer T.fits }
         ensures { result ≡ reply_from (answer_by T.numbers answer) }
@@ -156,13 +172,5 @@ impl Reply {
 pub fn remaining(l: Result<Left, Refusal>) -> Reply
     ensures { result ≡ reply_of (row-address·reply_of l) }
 {
-    match l {
-        Err(refusal) => Reply::from(refusal),
-        Ok(left) => Reply {
-            number: 0,
-            present: 0,
-            value: left.preferred.0,
-            second: left.valid.0,
-        },
-    }
+    Reply::of(l)
 }

@@ -41,10 +41,8 @@ fn replay_message(rt: &impl Print, i: u32, message: &[u8], lent: usize, up: u32)
 
 // Three words: what begins the list, and each record. None where the input ends sooner.
 fn read_head(input: &mut impl Read) -> Option<[u32; 3]> {
-    let mut bytes = [0u8; 12];
-    input.read_exact(&mut bytes).ok()?;
     let mut head = [0u32; 3];
-    endian::words_of(&bytes, &mut head);
+    streams::read_words(input, &mut head).ok()?;
     Some(head)
 }
 
@@ -71,15 +69,10 @@ fn replay_records(rt: &impl Print, input: &mut impl Read, records: u32) -> u32 {
     records
 }
 
-fn at_end(input: &mut impl Read) -> bool {
-    let mut byte = [0u8; 1];
-    input.read_exact(&mut byte).is_err()
-}
-
 fn replay_list(rt: &impl Print, input: &mut impl Read, records: u32) {
     let there = replay_records(rt, input, records);
     let _ = println!(rt; "{there} messages of {records}");
-    if !at_end(input) {
+    if !streams::at_end(input) {
         let _ = println!(rt; "there is more behind the last record");
     }
 }

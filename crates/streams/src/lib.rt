@@ -1,12 +1,37 @@
-// What the programs read and what they say of it: an input to its end or to the end of a buffer, and on standard error what failed.
+// What the programs read and what they say of it: an input to its end or to the end of a buffer, words, and on standard error what
+// failed.
 #![tactic(auto)]
 
-ghost use Rattle.std.specs.Prelude.{◌<◌, length, take, IfOk};
+ghost use Rattle.std.specs.Prelude.{◌≡◌, ◌<◌, ◌≤◌, ℕ, false, [], ◌∷◌, length, take, IfOk};
 ghost use Rattle.std.specs.Io.{ReadsAtMost};
 ghost use Rattle.std.specs.Io.KnownBytes.{Consumes, IsAtEnd};
+ghost use Rattle.endian.specs.Endian.{bytes_of};
 
 use std::io::{Cursor, Read, Write};
 use std::{fmt, io, str};
+
+// The most words that are read at once.
+pub const MOST_WORDS: usize = 4096;
+
+// As many words as there is room for, each of four bytes; an error where the input ends sooner.
+pub fn read_words<R: Read>(input: &mut R, words: &mut [u32]) -> io::Result<()>
+    requires { length words.old ≤ 4096 }
+    ensures { IfOk result (λ _. Consumes (R.remaining input.old) (R.remaining input.new) (bytes_of words.new)) }
+{
+    let mut room = [0u8; 4 * MOST_WORDS];
+    let bytes = &mut room[..4 * words.len()];
+    input.read_exact(bytes)?;
+    endian::words_of(bytes, words);
+    Ok(())
+}
+
+// Whether no byte more can be read: where it is false, there was one.
+pub fn at_end<R: Read>(input: &mut R) -> bool
+    ensures { result ≡ false → (b : ℕ) × Consumes (R.remaining input.old) (R.remaining input.new) (b ∷ []) }
+{
+    let mut byte = [0u8; 1];
+    input.read_exact(&mut byte).is_err()
+}
 
 // Reads until the bytes are full or the input ends; how many were read. A read that fails is no end: its error is returned.
 pub fn read_full<R: Read>(input: &mut R, bytes: &mut [u8]) -> io::Result<usize>

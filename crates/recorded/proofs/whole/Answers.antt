@@ -15,5 +15,4 @@ returns-then-r-gt4096 c = simp (le-leb _ _ c.if-r-lt-HEAD.false, lt-leb _ _ c.if
 
 pub returns : goal.returns
 returns c =
-    tests c.args.r.now c.check.result c.wide.result c.wide-2.result c.if-r-lt-HEAD.false c.if-r-gt4096.false c.check.ensures
-    c.wide.ensures c.wide-2.ensures
+    tests c.args.r.now c.check.result c.if-r-lt-HEAD.false c.if-r-gt4096.false c.check.ensures

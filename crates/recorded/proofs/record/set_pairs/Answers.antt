@@ -2,7 +2,7 @@
 use Rattle.std.proofs.Common.{sym, refl, ap, ◌∙◌, ◌+◌, drop, List, ℕ}
 use Rattle.std.specs.List.{fold}
 use Rattle.recorded.specs.Laws.{set_pair, next-pair, no-pairs, fold-pairs}
-use Rattle.recorded.proofs.set_pairs.Goals as goal
+use Rattle.recorded.proofs.record.set_pairs.Goals as goal
 
 pub loop-at-preserved : goal.loop-at-preserved
 loop-at-preserved c =
