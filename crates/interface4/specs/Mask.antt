@@ -1,14 +1,16 @@
 -- Requests with a netmask on bytes: where there are as many bytes as there must be, the call on their words, given back as bytes.
 -- Assumes nothing.
-use Rattle.std.specs.Prelude.{ℕ, ◌*◌, ◌≡◌, ◌≢◌, refl, Bool, true, false, cond, ◌&&◌, List, [], eqb, leb, length}
+use Rattle.std.specs.Prelude.{ℕ, zero, suc, set, ◌*◌, ◌<◌, ◌≡◌, ◌≢◌, refl, Bool, true, false, cond, ◌&&◌, List, [], ◌∷◌, eqb, leb, get_or, length, flat_map}
+use Rattle.std.specs.Int.{w32, to_le_bytes}
+use Rattle.std.specs.Int.Count.{ones}
+use Rattle.std.proofs.lemmas.Nat.{ones-le}
 use native.Mathlib.Omega.{arith}
 use Rattle.std.proofs.Math.Path.{sym, ap, subst}
 use Rattle.std.proofs.Common.{◌∙◌, eqb-true, eq-eqb, ne_eqb}
 use Rattle.lists.specs.Lists.{Row, flat, put}
-use Rattle.lists.specs.Put.{put_whole}
 use Rattle.lists.specs.Bools.{test-case, cond-true, cond-false, true-false, and_left}
 use Rattle.endian.specs.Endian.{words_of, bytes_of}
-use Rattle.endian.specs.Laws.{Below, length-words_of, length-bytes_of, bytes-words, words-bytes, words-below}
+use Rattle.endian.specs.Laws.{Below, length-words_of, bytes-words, words-bytes, words-below}
 use Rattle.netmask.specs.Netmask.{good, bad_mask, prefix_of}
 use Rattle.definition.specs.Words.{state_size, formed}
 use Rattle.definition.specs.Call.{Call, Reply, Numbers, numbers, refusal}
@@ -84,9 +86,32 @@ mask-made c fit x {s} {b} {n} {s'} {b'} changes h e m =
     in
     subst (λ (z : Result). MadeOn fit z s b n s' b') (sym e) (subst (λ (f : Bool). MadeOn f y s b n s' b') (sym h) same)
 
+-- the bytes of the words, four by four
+quads-bytes : (q : List ℕ) (b : List (List ℕ)) → length b ≡ length q → ((i : ℕ) → i < length q → get_or b i [] ≡ to_le_bytes w32 (get_or q i 0)) → flat_map (λ x. x) b ≡ bytes_of q
+unfolding bytes_of
+quads-bytes [] [] e h = refl
+quads-bytes [] (x ∷ b) e h = absurd (omega (arith, e))
+quads-bytes (w ∷ q) [] e h = absurd (omega (arith, e))
+quads-bytes (w ∷ q) (x ∷ b) e h =
+    let first : x ≡ to_le_bytes w32 w = h 0 (omega arith) in
+    let rest : flat_map (λ x. x) b ≡ bytes_of q = quads-bytes q b (omega (arith, e)) (λ i k. h (suc i) (omega (arith, k))) in
+    rw (first, rest)
+
 -- a request's words as bytes are its words
-pub bytes_back : (q b : List ℕ) {b' : List ℕ} → length b ≡ 4 * length q → b' ≡ put 0 (bytes_of q) b → Below 4294967296 q → words_of b' ≡ q
-bytes_back q b h e low = ap words_of (e ∙ put_whole (bytes_of q) b (omega (arith, length-bytes_of q))) ∙ words-bytes q low
+pub quads_back : (q : List ℕ) (b : List (List ℕ)) → length b ≡ length q → ((i : ℕ) → i < length q → get_or b i [] ≡ to_le_bytes w32 (get_or q i 0)) → Below 4294967296 q
+    → words_of (flat_map (λ x. x) b) ≡ q
+quads_back q b e h low = ap words_of (quads-bytes q b e h) ∙ words-bytes q low
+
+-- with the prefix in the place of the mask they are words still
+set_below : (n : ℕ) (q : List ℕ) (i v : ℕ) → Below n q → v < n → Below n (set q i v)
+set_below n [] i v h k j = h j
+set_below n (x ∷ q) zero v h k zero = k
+set_below n (x ∷ q) zero v h k (suc j) = h (suc j)
+set_below n (x ∷ q) (suc i) v h k zero = h 0
+set_below n (x ∷ q) (suc i) v h k (suc j) = set_below n q i v (λ l. h (suc l)) k j
+
+pub prefixed_below : (at : ℕ) (q : List ℕ) → Below 4294967296 q → Below 4294967296 (prefixed at q)
+prefixed_below at q h = set_below 4294967296 q at (ones (mask_at at q)) h (omega (arith, ones-le 32 (mask_at at q) (h at)))
 
 pub state-long : (s : List ℕ) (room : ℕ) → with s (4 * event_room) room ≡ true → length s ≡ 4 * state_size
 state-long s room h = eqb-true (length s) (4 * state_size) (and_left (state_fits s) (leb (4 * event_room) room) h)

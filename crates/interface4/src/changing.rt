@@ -32,7 +32,7 @@ trait Changing<const ROOM: usize> {
         ensures { Did (step (change.call q.now clock event_room) state.old)
             events.old result state.new events.new };
 
-    // With this reply it left every word.
+    // With this reply it left every word. It is asked of the reply, and of no Result: the calls of call_dispatch, which these are, give one.
     fn still(reply: Reply) -> bool
         ensures { result ≡ change.still reply.number reply.value };
 

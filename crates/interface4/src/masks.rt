@@ -1,8 +1,8 @@
 // Requests for an address with a netmask in place of the prefix, on words and on bytes, and the prefix of a netmask.
-ghost use Rattle.std.specs.Prelude.{◌≡◌, ◌≢◌, ◌<◌, true, ◌*◌, length, MatchResult};
+ghost use Rattle.std.specs.Prelude.{◌≡◌, ◌≢◌, ◌<◌, ◌≤◌, true, ◌*◌, length, flat_map, MatchResult};
 ghost use Rattle.refusal.specs.Refusal.{number_of};
 ghost use Rattle.netmask.specs.Netmask.{good};
-ghost use Rattle.layout.specs.Request.{add_v4_size, del_v4_size};
+ghost use Rattle.layout.specs.Request.{add_v4_size, del_v4_size, del_route4_size};
 ghost use Rattle.endian.specs.Endian.{words_of};
 ghost use Rattle.definition.specs.Call.{refusal};
 ghost use Rattle.definition.specs.Step.{checked, event_room};
@@ -18,10 +18,6 @@ use crate::{EVENT_BYTES, STATE_BYTES, changing};
 use call_reply::Reply;
 use layout::{ADD_V4_WORDS, DEL_V4_WORDS, STATE_WORDS, address, del_v4};
 use refusal::Refusal;
-
-const ADD_V4_BYTES: usize = 4 * ADD_V4_WORDS;
-
-const DEL_V4_BYTES: usize = 4 * DEL_V4_WORDS;
 
 #[unsafe(no_mangle)]
 pub extern "C" fn interface4_prefix(mask: u32) -> Reply
@@ -55,16 +51,6 @@ pub extern "C" fn interface4w_del_v4_mask(
     Reply::of(call_mask::del_v4(state, request, events))
 }
 
-// The words of a request as bytes.
-fn as_bytes<const B: usize>(q: &[u32]) -> [u8; B]
-    requires { B ≡ 4 * length q.now }
-    ensures { words_of result ≡ q.now }
-{
-    let mut bytes = [0u8; B];
-    endian::bytes_of(q, &mut bytes);
-    bytes
-}
-
 // The refusal of a mask, behind those of the state and of the room for events.
 fn refuse(state: &[u8], room: usize, bad: Refusal) -> Reply
     requires { number_of bad ≢ 0 }
@@ -79,26 +65,25 @@ fn refuse(state: &[u8], room: usize, bad: Refusal) -> Reply
     Reply::of(call_read::checked::<()>(&s, true, true, Err(bad)))
 }
 
-// The bytes of a request of N words with the prefix in the place of the mask, or the reply that refuses it.
-fn asked<const N: usize, const B: usize>(
+// A request of N words with the prefix in the place of the mask, each word as its bytes, or the reply that refuses it.
+fn asked<const N: usize>(
     state: &[u8],
     request: &[u8],
     at: usize,
     room: usize,
-) -> Result<[u8; B], Reply>
-    requires at { at < N }
-    requires bytes { B ≡ 4 * N }
+) -> Result<[[u8; 4]; N], Reply>
+    requires { (at < N) × (N ≤ del_route4_size) }
     ensures { MatchResult result
-        (λ own. (length request.now ≡ 4 * N) × (good (mask_at at (words_of request.now)) ≡ true) × (words_of own ≡ prefixed at (words_of request.now)))
+        (λ own. (length request.now ≡ 4 * N) × (good (mask_at at (words_of request.now)) ≡ true) × (words_of (flat_map (λ x. x) own) ≡ prefixed at (words_of request.now)))
         (λ r. BadBytes N at request.now state.now room r) }
 {
-    if request.len() != B {
+    if request.len() != 4 * N {
         return Err(Reply::from(Refusal::WrongLength));
     }
     let mut q = [0u32; N];
     endian::words_of(request, &mut q);
     match call_mask::prefixed(&q, at) {
-        Ok(own) => Ok(as_bytes(&own)),
+        Ok(own) => Ok(own.map(u32::to_le_bytes)),
         Err(bad) => Err(refuse(state, room, bad)),
     }
 }
@@ -114,8 +99,8 @@ pub extern "C" fn interface4_add_v4_mask(
         (add_v4_mask_call (words_of request.now) event_room clock (words_of state.old))
         state.old events.old (numbers_in result) state.new events.new }
 {
-    match asked::<ADD_V4_WORDS, ADD_V4_BYTES>(state, request, address::PREFIX, events.len()) {
-        Ok(own) => changing::interface4_add_v4(state, &own, events, clock),
+    match asked::<ADD_V4_WORDS>(state, request, address::PREFIX, events.len()) {
+        Ok(own) => changing::interface4_add_v4(state, own.as_flattened(), events, clock),
         Err(refused) => refused,
     }
 }
@@ -130,8 +115,8 @@ pub extern "C" fn interface4_del_v4_mask(
         (del_v4_mask_call (words_of request.now) event_room (words_of state.old))
         state.old events.old (numbers_in result) state.new events.new }
 {
-    match asked::<DEL_V4_WORDS, DEL_V4_BYTES>(state, request, del_v4::PREFIX, events.len()) {
-        Ok(own) => changing::interface4_del_v4(state, &own, events),
+    match asked::<DEL_V4_WORDS>(state, request, del_v4::PREFIX, events.len()) {
+        Ok(own) => changing::interface4_del_v4(state, own.as_flattened(), events),
         Err(refused) => refused,
     }
 }

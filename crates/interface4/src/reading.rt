@@ -41,6 +41,7 @@ pub extern "C" fn interface4_lookup4(state: &[u8], row: &mut [u8], ip: u32) -> R
     interface4_lookup4_flow(state, row, ip, 0, 0)
 }
 
+// As interface4_dump4 but for the size and the call: a trait for the two would be longer than the second body.
 #[unsafe(no_mangle)]
 pub extern "C" fn interface4_lookup4_flow(
     state: &[u8],
@@ -59,7 +60,7 @@ pub extern "C" fn interface4_lookup4_flow(
     endian::words_of(state, &mut s);
     let mut l = [0u32; ROUTE_WORDS];
     let answer = call_dispatch::lookup4_flow(&s, &mut l, ip, tos, oif);
-    given::give_rows(&l, ROUTE_WORDS, (answer.number == 0) as u32, row);
+    given::give_rows(&l, ROUTE_WORDS, u32::from(answer.number == 0), row);
     answer
 }
 

@@ -1,6 +1,7 @@
 -- `interface4::masks::interface4_del_v4_mask` meets its contract.
 -- Assumes nothing.
-use Rattle.std.proofs.Common.{rules}
+use Rattle.std.proofs.Common.{rules, ap, ◌∙◌}
+use Rattle.endian.specs.Endian.{words_of}
 use Rattle.call_mask.specs.Masked.{del_v4_mask_call}
 use Rattle.interface4.specs.Mask.{good-on, refused-on, del_v4_asking}
 use Rattle.interface4.proofs.masks.interface4_del_v4_mask.Goals as goal
@@ -8,7 +9,7 @@ use Rattle.interface4.proofs.masks.interface4_del_v4_mask.Goals as goal
 pub returns-in-Ok : goal.returns-in-Ok
 unfolding del_v4_mask_call
 returns-in-Ok c =
-    good-on del_v4_asking c.args.request.now c.args.state.now c.args.events.now c.in-Ok.ensures.0 c.in-Ok.ensures.1 c.in-Ok.ensures.2 (search rules) c.interface4_del_v4.ensures
+    good-on del_v4_asking c.args.request.now c.args.state.now c.args.events.now c.in-Ok.ensures.0 c.in-Ok.ensures.1 (ap words_of c.as_flattened.ensures.value ∙ c.in-Ok.ensures.2) (search rules) c.interface4_del_v4.ensures
 
 pub returns-in-Err : goal.returns-in-Err
 unfolding del_v4_mask_call

@@ -19,4 +19,4 @@ returns c =
     let there = fits (4 * Route.size) c.args.state.now c.args.row.now fit in
     let words = words-whole state_size c.args.state.now _ _ there.state refl c.words_of.ensures in
     found-yes c.args.ip c.args.tos c.args.oif c.args.state.now c.args.row.now words refl c.lookup4_flow-answer.ensures fit
-    (λ i. (c.shared_slice_known-1.given i).fits) c.give_rows.ensures.out_after c.give_rows.ensures.below
+    (λ i. (c.shared_slice_known-1.given i).fits) (rw c.from-2.ensures at c.give_rows.ensures.out_after) c.give_rows.ensures.below
