@@ -114,7 +114,7 @@ pub(crate) fn insert<R: Held>(s: &mut StoredMut<'_>, i: usize, row: &R)
     words::insert(
         words,
         R::AT + R::WIDTH * i,
-        R::WIDTH * (words::wide(n) - i),
+        R::WIDTH * (n as usize - i),
         row.words(),
     );
     words[R::COUNT] = n + 1;
@@ -131,7 +131,7 @@ pub(crate) fn remove<R: Held>(s: &mut StoredMut<'_>, i: usize)
         words,
         R::AT + R::WIDTH * i,
         R::WIDTH,
-        R::WIDTH * (words::wide(n) - i),
+        R::WIDTH * (n as usize - i),
     );
     words[R::COUNT] = n;
 }

@@ -25,14 +25,14 @@ pub fn address_count(s: &[u32]) -> usize
     requires { length s.now ≡ base_size }
     ensures { result ≡ address_count s.now }
 {
-    words::wide(s[ADDRESS_COUNT])
+    s[ADDRESS_COUNT] as usize
 }
 
 pub fn route_count(s: &[u32]) -> usize
     requires { length s.now ≡ base_size }
     ensures { result ≡ route_count s.now }
 {
-    words::wide(s[ROUTE_COUNT])
+    s[ROUTE_COUNT] as usize
 }
 
 impl<'a> Stored<'a> {

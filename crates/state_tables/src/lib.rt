@@ -15,7 +15,7 @@ use state::{Stored, StoredMut};
 pub fn tables<'a>(s: Stored<'a>) -> &'a [u32]
     ensures { result.now ≡ tables_of s.entry.words.now }
 {
-    let end = TABLES_AT + words::wide(s.words[TABLE_COUNT]);
+    let end = TABLES_AT + s.words[TABLE_COUNT] as usize;
     &s.words[TABLES_AT..end]
 }
 
@@ -35,7 +35,7 @@ pub fn add_table(s: &mut StoredMut<'_>, t: u32)
     }
     let words = &mut *s.words;
     let n = words[TABLE_COUNT];
-    words[TABLES_AT + words::wide(n)] = t;
+    words[TABLES_AT + n as usize] = t;
     words[TABLE_COUNT] = n + 1;
 }
 

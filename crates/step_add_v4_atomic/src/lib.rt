@@ -35,7 +35,7 @@ fn has_room(s: Stored<'_>, rows: usize) -> bool
     s.addresses().rows.len() < ADDRESS_LIMIT
         && rows <= ROUTE_LIMIT
         && s.routes().rows.len() <= ROUTE_LIMIT - rows
-        && words::wide(s.words[TABLE_COUNT]) <= TABLES_BEFORE
+        && s.words[TABLE_COUNT] as usize <= TABLES_BEFORE
 }
 
 // The words of another state.
@@ -43,7 +43,7 @@ fn copy_state(to: &mut StoredMut<'_>, from: Stored<'_>)
     ensures words { to.new.words.now ≡ from.entry.words.now }
     ensures place { to.new.words.ghost_name ≡ to.old.words.ghost_name }
 {
-    words::copy(to.words, from.words);
+    to.words.copy_from_slice(from.words);
 }
 
 // A change to a state, of which nothing is told yet.
@@ -82,7 +82,7 @@ fn try_add_v4(change: &mut Change<'_, '_>, q: &AddV4, clock: Nanoseconds) -> Res
     ensures comes_whole { (st : State) → Represents change.old.state.words.now st → fit_state st ≡ true → ComesWhole st (add_v4 q.now clock.0 st) change.old change.new result }
 {
     let mut copy = [0; BASE_WORDS];
-    words::copy(&mut copy, change.state.stored().words);
+    copy.copy_from_slice(change.state.stored().words);
     let mut rows = [0; ADDED_BUFFER];
     let mut tried = begun(StoredMut { words: &mut copy }, &mut rows);
     step_add_v4::add_v4(&mut tried, q, clock)?;
@@ -109,7 +109,7 @@ fn try_up(change: &mut Change<'_, '_>, clock: Nanoseconds) -> Result<(), Refusal
     ensures comes_whole { (st : State) → Represents change.old.state.words.now st → fit_state st ≡ true → ComesWhole st (goes (up clock.0 st)) change.old change.new result }
 {
     let mut copy = [0; BASE_WORDS];
-    words::copy(&mut copy, change.state.stored().words);
+    copy.copy_from_slice(change.state.stored().words);
     let mut rows = [0; EVENT_BUFFER];
     let mut tried = begun(StoredMut { words: &mut copy }, &mut rows);
     step_add_v4::up(&mut tried, clock)?;

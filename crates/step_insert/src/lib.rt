@@ -163,7 +163,7 @@ fn plan4(routes: Routes<'_>, new: &RouteRow, flags: u32) -> Result<Option<Placem
     if end <= start {
         return created(flags, start, CREATE | EXCL);
     }
-    let first = words::same_words(new, &own[alike.start]);
+    let first = *new == own[alike.start];
     among(flags, start, end, alike.there, first)
 }
 

@@ -7,9 +7,8 @@ use Rattle.std.specs.Int.Bits.{bit_or, or_add_and}
 use Rattle.std.specs.List.{fold}
 use Rattle.std.specs.Simd.{first_chunks}
 use Rattle.std.proofs.lemmas.Nat.{and_le_l, and_le_r}
-use Rattle.lists.specs.Lists.{all_zero, eq_row}
+use Rattle.lists.specs.Lists.{all_zero}
 use Rattle.lists.specs.Bools.{and_left, and_right, and_both, same_test}
-use Rattle.lists.specs.All.{eq_row-true}
 
 -- the or of all the words
 abbrev pub or_all : List ℕ → ℕ
@@ -58,6 +57,3 @@ scanned first k n l =
     ∙ ap (λ (b : Bool). eqb first 0 && b) (and_comm (all_zero (drop (n * k) l)) (all_zero (take (n * k) l)) ∙ sym (zero_append (take (n * k) l) (drop (n * k) l)) ∙ ap all_zero (take-append-drop (n * k) l))
     ∙ ap (λ (b : Bool). b && all_zero l) (sym (turned first))
 
--- rows of other lengths are not the same
-pub other-long : (l m : List ℕ) → (length l ≡ length m → ⊥) → false ≡ eq_row l m
-other-long l m h = same_test false (eq_row l m) (λ e. cc) (λ e. absurd (h (ap length (eq_row-true l m e))))

@@ -2,21 +2,8 @@
 #![tactic(auto)]
 
 ghost use Rattle.std.specs.Prelude.{◌≡◌, ◌++◌, ◌+◌, ◌≤◌, length};
-ghost use Rattle.lists.specs.Lists.{put, span, zeros, all_zero, eq_row};
+ghost use Rattle.lists.specs.Lists.{put, span, zeros, all_zero};
 ghost use Rattle.words.specs.Scan.{or_all};
-
-// A word as a place, and as a wider number.
-pub fn wide(n: u32) -> usize
-    ensures { result ≡ n }
-{
-    n as usize
-}
-
-pub fn long(n: u32) -> u64
-    ensures { result ≡ n }
-{
-    n as u64
-}
 
 // The words vs from the place at on: a `copy_from_slice` whose contract is the definitions' `put`, so that no caller shows it again.
 pub fn store(s: &mut [u32], at: usize, vs: &[u32])
@@ -26,28 +13,12 @@ pub fn store(s: &mut [u32], at: usize, vs: &[u32])
     s[at..at + vs.len()].copy_from_slice(vs);
 }
 
-// All the words of another slice: a state into a local, and back.
-pub fn copy(to: &mut [u32], from: &[u32])
-    requires { length from.now ≡ length to.old }
-    ensures { to.new ≡ from.now }
-{
-    to.copy_from_slice(from);
-}
-
 // n zeros from the place at on: a `fill` whose contract is the definitions' `put` of `zeros`.
 pub fn clear(s: &mut [u32], at: usize, n: usize)
     requires { at + n ≤ length s.old }
     ensures { s.new ≡ put at (zeros n) s.old }
 {
     s[at..at + n].fill(0);
-}
-
-// The n words at from, copied to a place that is not behind them.
-pub fn move_down(s: &mut [u32], from: usize, to: usize, n: usize)
-    requires { (to ≤ from) × (from + n ≤ length s.old) }
-    ensures { s.new ≡ put to (span from n s.old) s.old }
-{
-    s.copy_within(from..from + n, to);
 }
 
 // The words vs put in at a place behind which n words are in use: those move up.
@@ -88,11 +59,4 @@ pub fn all_zero(s: &[u32]) -> bool
         .iter()
         .fold(*first | or_of(end), |some, part| some | or_of(part))
         == 0
-}
-
-// The two are the same words, as many.
-pub fn same_words(a: &[u32], b: &[u32]) -> bool
-    ensures { result ≡ eq_row a.now b.now }
-{
-    a == b
 }

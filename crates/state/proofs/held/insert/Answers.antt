@@ -11,7 +11,7 @@ bounds-words-COUNT g c = rw c.COUNT.ensures (held-place g.met.R.Held.held (repre
 pub insert-requires : goal.insert-requires
 insert-requires g c =
     let k = g.met.R.Held.held in
-    rw (c.AT.ensures, c.WIDTH.ensures, c.WIDTH-2.ensures, c.words.ensures, c.wide.ensures, c.COUNT.ensures, k.wide _ c.requires.row_value)
+    rw (c.AT.ensures, c.WIDTH.ensures, c.WIDTH-2.ensures, c.words.ensures, c.COUNT.ensures, k.wide _ c.requires.row_value)
     (held-room k (represented c.args.s.now.holds) c.args.i c.requires.i_bound.0 c.requires.i_bound.1)
 
 pub overflow_add-words : goal.overflow_add-words
@@ -27,7 +27,7 @@ invariant_of-s g c =
     let h = represented c.args.s.now.holds in
     record {
       holds = representing {st = g.R.Held.with (insert_at c.args.i (g.R.Held.words c.args.row.now) (g.R.Held.rows st)) st}
-          (rw (c.insert.ensures, c.AT.ensures, c.WIDTH.ensures, c.WIDTH-2.ensures, c.words.ensures, c.wide.ensures, c.COUNT.ensures, c.COUNT-2.ensures)
+          (rw (c.insert.ensures, c.AT.ensures, c.WIDTH.ensures, c.WIDTH-2.ensures, c.words.ensures, c.COUNT.ensures, c.COUNT-2.ensures)
           (held-insert k h c.args.i _ (omega (arith, held-count k h, c.requires.i_bound)) (omega (arith, held-count k h, c.requires.i_bound)) c.requires.row_value));
     }
 
@@ -36,7 +36,7 @@ returns g c =
     let k = g.met.R.Held.held in
     record {
       holds = λ st h.
-          rw (c.insert.ensures, c.AT.ensures, c.WIDTH.ensures, c.WIDTH-2.ensures, c.words.ensures, c.wide.ensures, c.COUNT.ensures, c.COUNT-2.ensures)
+          rw (c.insert.ensures, c.AT.ensures, c.WIDTH.ensures, c.WIDTH-2.ensures, c.words.ensures, c.COUNT.ensures, c.COUNT-2.ensures)
           (held-insert k h c.args.i _ (omega (arith, held-count k h, c.requires.i_bound)) (omega (arith, held-count k h, c.requires.i_bound)) c.requires.row_value);
       place = refl;
     }

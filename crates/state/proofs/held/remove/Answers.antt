@@ -19,11 +19,11 @@ overflow_add-AT g c =
 pub overflow_mul-WIDTH-2 : goal.overflow_mul-WIDTH-2
 overflow_mul-WIDTH-2 g c =
     let h = represented c.args.s.now.holds in
-    rw (c.WIDTH-3.ensures, c.wide.ensures, c.COUNT.ensures) (omega (arith, held-end g.met.R.Held.held h c.args.i c.requires.i_bound, holds-long h))
+    rw (c.WIDTH-3.ensures, c.COUNT.ensures) (omega (arith, held-end g.met.R.Held.held h c.args.i c.requires.i_bound, holds-long h))
 
 pub remove-requires : goal.remove-requires
 remove-requires g c =
-    rw (c.AT.ensures, c.WIDTH.ensures, c.WIDTH-2.ensures, c.WIDTH-3.ensures, c.wide.ensures, c.COUNT.ensures)
+    rw (c.AT.ensures, c.WIDTH.ensures, c.WIDTH-2.ensures, c.WIDTH-3.ensures, c.COUNT.ensures)
     (held-end g.met.R.Held.held (represented c.args.s.now.holds) c.args.i c.requires.i_bound)
 
 pub invariant_of-s : goal.invariant_of-s
@@ -33,7 +33,7 @@ invariant_of-s g c =
     let h = represented c.args.s.now.holds in
     record {
       holds = representing {st = g.R.Held.with (remove_at c.args.i (g.R.Held.rows st)) st}
-          (rw (c.remove.ensures, c.AT.ensures, c.WIDTH.ensures, c.WIDTH-2.ensures, c.WIDTH-3.ensures, c.wide.ensures, c.COUNT.ensures, c.COUNT-2.ensures)
+          (rw (c.remove.ensures, c.AT.ensures, c.WIDTH.ensures, c.WIDTH-2.ensures, c.WIDTH-3.ensures, c.COUNT.ensures, c.COUNT-2.ensures)
           (held-remove k h c.args.i (omega (arith, held-count k h, c.requires.i_bound))));
     }
 
@@ -42,7 +42,7 @@ returns g c =
     let k = g.met.R.Held.held in
     record {
       holds = λ st h.
-          rw (c.remove.ensures, c.AT.ensures, c.WIDTH.ensures, c.WIDTH-2.ensures, c.WIDTH-3.ensures, c.wide.ensures, c.COUNT.ensures, c.COUNT-2.ensures)
+          rw (c.remove.ensures, c.AT.ensures, c.WIDTH.ensures, c.WIDTH-2.ensures, c.WIDTH-3.ensures, c.COUNT.ensures, c.COUNT-2.ensures)
           (held-remove k h c.args.i (omega (arith, held-count k h, c.requires.i_bound)));
       place = refl;
     }
