@@ -68,45 +68,48 @@ module _ {at place width limit : ℕ} {fits : Row → Bool} {rows : State → Li
     held-end i b = omega (arith, holds-long h, within_words i (get_or w place 0 - 1 - i) (omega (arith, held-count, k.within h)))
 
     module _ (i : ℕ) where
-      pub held-insert : (r : Row) → i ≤ length (rows st) → length (rows st) < limit → fits r ≡ true
+      pub held-insert : (r : Row) → i ≤ get_or w place 0 → get_or w place 0 < limit → fits r ≡ true
           → Represents (set (put (at + width * i) (r ++ span (at + width * i) (width * (get_or w place 0 - i)) w) w) place (get_or w place 0 + 1)) (with (insert_at i r (rows st)) st)
       held-insert r b space f =
           let l = insert_at i r (rows st) in
-          let n : get_or w place 0 + 1 ≡ length l = omega (arith, held-count, length-insert_at i r (rows st) b) in
+          let long : length l ≡ length (rows st) + 1 = length-insert_at i r (rows st) (omega (arith, held-count)) in
+          let n : get_or w place 0 + 1 ≡ length l = omega (arith, held-count) in
           let m : i + (get_or w place 0 - i) ≡ length (rows st) = omega (arith, held-count) in
-          let more : width * length (rows st) + width ≤ width * limit = omega (arith, simp mul-suc at (mul-le-mul_left width space)) in
+          let few : length (rows st) < limit = omega (arith, held-count) in
+          let more : width * length (rows st) + width ≤ width * limit = omega (arith, simp mul-suc at (mul-le-mul_left width few)) in
           rw n
-          (k.becomes h l (put (at + width * i) (r ++ span (at + width * i) (width * (get_or w place 0 - i)) w) w) (omega (arith, length-insert_at i r (rows st) b)) (all-insert_at fits i r (rows st) f (k.fitting h))
+          (k.becomes h l (put (at + width * i) (r ++ span (at + width * i) (width * (get_or w place 0 - i)) w) w) (omega (arith, held-count)) (all-insert_at fits i r (rows st) f (k.fitting h))
           (ap (λ (x : List ℕ). put (at + width * i) (r ++ span (at + width * i) (width * (get_or w place 0 - i)) x) x) parts
           ∙ row_insert (k.before st) (k.behind st) (width * limit) at width (rows st) (k.starts h) (all_wide (rows st) (k.fitting h)) room i (get_or w place 0 - i) r m (k.wide r f) more))
 
-      pub held-remove : i < length (rows st)
+      pub held-remove : i < get_or w place 0
           → Represents (set (put (at + width * i) (span (at + width * i + width) (width * (get_or w place 0 - 1 - i)) w ++ zeros width) w) place (get_or w place 0 - 1)) (with (remove_at i (rows st)) st)
       held-remove b =
           let l = remove_at i (rows st) in
-          let long : length l ≡ length (rows st) - 1 = length-remove_at i (rows st) b in
+          let long : length l ≡ length (rows st) - 1 = length-remove_at i (rows st) (omega (arith, held-count)) in
           let n : get_or w place 0 - 1 ≡ length l = omega (arith, held-count) in
-          let m : i + 1 + (length l - i) ≡ length (rows st) = omega arith in
+          let m : i + 1 + (length l - i) ≡ length (rows st) = omega (arith, held-count) in
           rw n
           (k.becomes h l (put (at + width * i) (span (at + width * i + width) (width * (length l - i)) w ++ zeros width) w) (omega (arith, k.within h)) (all-remove_at fits i (rows st) (k.fitting h))
           (ap (λ (x : List ℕ). put (at + width * i) (span (at + width * i + width) (width * (length l - i)) x ++ zeros width) x) parts
           ∙ row_remove (k.before st) (k.behind st) (width * limit) at width (rows st) (k.starts h) (all_wide (rows st) (k.fitting h)) room i (length l - i) m))
 
       -- the count stays as it is
-      pub held-replace : (r : Row) → i < length (rows st) → fits r ≡ true → Represents (put (at + width * i) r w) (with (set (rows st) i r) st)
+      pub held-replace : (r : Row) → i < get_or w place 0 → fits r ≡ true → Represents (put (at + width * i) r w) (with (set (rows st) i r) st)
       held-replace r b f =
           let l = set (rows st) i r in
+          let there : i < length (rows st) = omega (arith, held-count) in
           let x = put (at + width * i) r w in
           let long : length l ≡ length (rows st) = length-set (rows st) i r in
           let words : x ≡ k.before st ++ (pad (width * limit) (flat l) ++ k.behind st) =
           ap (put (at + width * i) r) parts
-          ∙ row_replace (k.before st) (k.behind st) (width * limit) at width (rows st) (k.starts h) (all_wide (rows st) (k.fitting h)) room i r b (k.wide r f)
+          ∙ row_replace (k.before st) (k.behind st) (width * limit) at width (rows st) (k.starts h) (all_wide (rows st) (k.fitting h)) room i r there (k.wide r f)
           in
           let inside : place < length (k.before st) = omega (arith, k.starts h, k.place_before) in
           let count : length l ≡ get_or x place 0 =
           long ∙ sym (ap (λ (y : List ℕ). get_or y place 0) words ∙ get_or-append (k.before st) _ 0 place inside ∙ k.counted st)
           in
-          let done : Represents (set x place (length l)) (with l st) = k.becomes h l x (omega (arith, k.within h)) (all_set fits i r (rows st) b f (k.fitting h)) words in
+          let done : Represents (set x place (length l)) (with l st) = k.becomes h l x (omega (arith, k.within h)) (all_set fits i r (rows st) there f (k.fitting h)) words in
           subst (λ (y : List ℕ). Represents y (with l st)) (ap (set x place) count ∙ set-get_or x place 0) done
 
 -- ---- the two lists

@@ -2,7 +2,7 @@
 -- Assumes nothing.
 use Rattle.std.specs.Prelude.{ℕ, ◌≤◌, ◌≡◌, Bool, true, ◌&&◌}
 use Rattle.std.proofs.Math.Path.{refl, ap}
-use Rattle.std.proofs.Common.{sym, ◌∙◌, arith, length-append, leb-true}
+use Rattle.std.proofs.Common.{sym, ◌∙◌, arith, length-append, leb-true, le-leb}
 use mathlib.Core.List.{List, [], ◌∷◌, ◌++◌, append_assoc, append-nil}
 use Rattle.std.proofs.Math.ListN.{length, get_or}
 use Rattle.lists.specs.Lists.{all, flat, pad, eq_row}
@@ -13,7 +13,7 @@ use Rattle.layout.specs.Route.{fit_route}
 use Rattle.definition.specs.State.{State, sizes}
 use Rattle.definition.specs.Words.{encode, decode, within, well_formed, address_count, route_count, table_count, addresses_size, base_size, routes_at, routes_size, tables_at}
 use Rattle.definition.specs.Preservation.Fit.{fit-state, sized-addresses, sized-routes}
-use Rattle.definition.specs.Preservation.Encode.{Admissible, encode-decode, good-decode}
+use Rattle.definition.specs.Preservation.Encode.{Admissible, Encodable, encode-decode, good-decode}
 
 pub record Represents (w : List ℕ) (st : State) : Type 0 where
   pub words : w ≡ encode st
@@ -22,6 +22,13 @@ pub record Represents (w : List ℕ) (st : State) : Type 0 where
   pub tables_within : length st.tables ≤ 32
   pub addresses_fit : all fit_address st.addresses ≡ true
   pub routes_fit : all fit_route st.routes ≡ true
+
+pub holds-within : {w : List ℕ} {st : State} → Represents w st → within (sizes st) ≡ true
+holds-within {w} {st} h =
+    simp and_iff ((le-leb (length st.addresses) 64 h.addresses_within, le-leb (length st.routes) 256 h.routes_within), le-leb (length st.tables) 32 h.tables_within)
+
+pub holds-encodable : {w : List ℕ} {st : State} → Represents w st → Encodable st
+holds-encodable h = record { limits = holds-within h; addresses_fit = h.addresses_fit; routes_fit = h.routes_fit }
 
 -- they hold some state, that which they encode
 unfoldable pub represents : List ℕ → Bool

@@ -1,15 +1,13 @@
 -- Lent words that hold a state, and what a change leaves in them.
 -- Assumes nothing.
-use Rattle.std.specs.Prelude.{ℕ, ◌≡◌, true, List, ◌++◌, length, drop}
-use Rattle.std.proofs.Common.{ap, ◌∙◌, drop_at, leb-true, le-leb}
-use Rattle.lists.specs.Lists.{flat, pad, chop}
+use Rattle.std.specs.Prelude.{ℕ, ◌≡◌, true, List, length}
+use Rattle.std.proofs.Common.{ap, ◌∙◌, leb-true}
 use Rattle.lists.specs.Bools.{and_iff}
 use Rattle.lists.specs.All.{eq_row-true, eq_eq_row}
-use Rattle.lists.specs.Rows.{chop-pad}
-use Rattle.definition.specs.State.{State, sizes}
-use Rattle.definition.specs.Words.{encode, decode, within, well_formed, base_size, addresses_size, routes_size}
-use Rattle.state.specs.Represents.{Represents, represents, holds-decode, sized_a, sized_r, before_routes, behind_addresses, encode-addresses, encode-routes, at_routes, count-addresses, count-routes}
-use Rattle.state.specs.Change.{tables-at}
+use Rattle.definition.specs.State.{State}
+use Rattle.definition.specs.Words.{encode, decode, well_formed, base_size}
+use Rattle.definition.specs.Preservation.Encode.{decode-encode}
+use Rattle.state.specs.Represents.{Represents, represents, holds-decode, holds-encodable, holds-within}
 use Rattle.state.specs.declared.stored.StoredMut.{StoredMut}
 
 -- b holds what f makes of whatever state a holds, in the same words
@@ -32,36 +30,17 @@ represented {w} h =
     }
 
 module _ {w : List ℕ} {st : State} (h : Represents w st) where
-  same-addresses : (decode w).addresses ≡ st.addresses
-  unfolding decode
-  same-addresses =
-      rw (count-addresses h)
-      (ap (λ (x : List ℕ). chop 20 (length st.addresses) (drop 3 x)) (h.words ∙ encode-addresses st)
-      ∙ chop-pad addresses_size 20 st.addresses (behind_addresses st) (sized_a h))
-
-  same-routes : (decode w).routes ≡ st.routes
-  unfolding decode
-  same-routes =
-      rw (count-routes h)
-      (ap (λ (x : List ℕ). chop 32 (length st.routes) x)
-      (ap (drop 1283) (h.words ∙ encode-routes st) ∙ drop_at (before_routes st) (pad routes_size (flat st.routes) ++ pad 32 st.tables) 1283 (at_routes h))
-      ∙ chop-pad routes_size 32 st.routes (pad 32 st.tables) (sized_r h))
-
-  same_tables : (decode w).tables ≡ st.tables
-  unfolding decode
-  same_tables = tables-at h
-
   pub decode-held : decode w ≡ st
-  decode-held = λ i. record { addresses = same-addresses i; routes = same-routes i; tables = same_tables i }
-
-  within-held : within (sizes st) ≡ true
-  within-held =
-      simp and_iff ((le-leb (length st.addresses) 64 h.addresses_within, le-leb (length st.routes) 256 h.routes_within), le-leb (length st.tables) 32 h.tables_within)
+  decode-held = ap decode h.words ∙ decode-encode st (holds-encodable h)
 
   pub representing : represents w ≡ true
   unfolding represents
   representing =
-      rw decode-held (simp and_iff ((((eq_eq_row w (encode st) h.words, simp and_iff at within-held), h.addresses_fit), h.routes_fit)))
+      rw decode-held (simp and_iff ((((eq_eq_row w (encode st) h.words, simp and_iff at (holds-within h)), h.addresses_fit), h.routes_fit)))
+
+-- what holds the state that was changed does
+pub carried : {w v : List ℕ} (f : State → State) → represents w ≡ true → ((st : State) → Represents w st → Represents v (f st)) → represents v ≡ true
+carried {w} f h k = representing (k (decode w) (represented h))
 
 -- well-formed words do
 pub formed-represents : (w : List ℕ) → length w ≡ base_size → well_formed w ≡ true → represents w ≡ true

@@ -13,8 +13,8 @@ use Rattle.definition.specs.Preservation.Keeps.{Keeps, through_keeps, keeps_fit}
 use Rattle.step_new_address.specs.New.{routes-fit}
 use Rattle.definition.specs.Preservation.Addresses.{install_keeps}
 use Rattle.refusal.specs.declared.Refusal.{Refusal}
-use Rattle.state.specs.Represents.{Represents, count-addresses}
-use Rattle.step_events.specs.Comes.{Answer, Comes, holds-within, comes-ok, adds-also, adds-stop}
+use Rattle.state.specs.Represents.{Represents, count-addresses, holds-within}
+use Rattle.step_events.specs.Comes.{Answer, Comes, comes-ok, adds-also, adds-stop}
 use Rattle.step_events.specs.Through.{Covered, covered-through, adds-start, adds-next, adds-other-end, adds-end}
 use Rattle.step_events.specs.declared.change.Change.{Change}
 use Rattle.step_kernel_add.specs.Add.{kernel_add4-covered}

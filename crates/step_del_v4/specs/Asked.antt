@@ -16,7 +16,8 @@ use Rattle.definition.specs.Preservation.Shrinking.{potential}
 use Rattle.definition.proofs.Preservation.Peaks.{remove_v4-under}
 use Rattle.definition.proofs.Preservation.Step.{covered}
 use Rattle.step_events.specs.EmitsWithin.{RoomFor, EmitsWithin}
-use Rattle.step_events.specs.Comes.{ComesWhole, holds-within, goes-made, refused-made, whole-made}
+use Rattle.state.specs.Represents.{holds-within}
+use Rattle.step_events.specs.Comes.{ComesWhole, goes-made, refused-made, whole-made}
 use Rattle.step_events.specs.declared.change.Change.{Change}
 use Rattle.refusal.specs.declared.Refusal.TheVariants.{Errno}
 

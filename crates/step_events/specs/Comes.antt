@@ -10,7 +10,7 @@ use Rattle.definition.specs.State.{State, Sizes, Out, sizes, most, stays, also}
 use Rattle.definition.specs.Words.{within}
 use Rattle.definition.specs.Reference.Addresses.{Outcome, goes, refused, out_of}
 use Rattle.definition.specs.Step.{roomy}
-use Rattle.state.specs.Represents.{Represents}
+use Rattle.state.specs.Represents.{Represents, holds-within}
 use Rattle.step_events.specs.Emits.{Emits, does-none, does-quiet, does-also}
 use Rattle.step_events.specs.Tells.{Tells}
 use Rattle.step_events.specs.declared.change.Change.{Change}
@@ -37,11 +37,6 @@ pub record ComesWhole (st : State) (u : Outcome) (a b : Change) (r : Answer) : T
   pub kept : roomy u ≡ false → Emits (stays st) a b
 
 -- ---- limits
--- words that hold a state keep it within them
-pub holds-within : {w : List ℕ} {st : State} → Represents w st → within (sizes st) ≡ true
-holds-within {w} {st} h =
-    simp and_iff ((le-leb (length st.addresses) 64 h.addresses_within, le-leb (length st.routes) 256 h.routes_within), le-leb (length st.tables) 32 h.tables_within)
-
 leb-max : (a b n : ℕ) → leb (max a b) n ≡ (leb a n && leb b n)
 leb-max a b n =
     test-case (leb a n)

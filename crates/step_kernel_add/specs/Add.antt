@@ -14,7 +14,7 @@ use Rattle.definition.specs.Reference.Insert.{list_table, create4, insert4, inse
 use Rattle.definition.specs.Reference.Addresses.{goes}
 use Rattle.definition.specs.Preservation.Fit.{fit-state, state-fit}
 use Rattle.definition.specs.Preservation.Addresses.{create4-fit}
-use Rattle.state.specs.Represents.{Represents, count-addresses}
+use Rattle.state.specs.Represents.{Represents, count-addresses, holds-within}
 use Rattle.state.specs.Change.{tables-at}
 use Rattle.state.specs.Stored.{Becomes, represented}
 use Rattle.state.specs.declared.stored.StoredMut.{StoredMut}
@@ -24,7 +24,7 @@ use Rattle.step_insert.specs.Plan.{Inserted, answer_of, rows_after, InsertedInto
 use Rattle.step_events.specs.Row.{new_route-long}
 use Rattle.step_events.specs.Tells.{Tells}
 use Rattle.step_events.specs.Emits.{does-one}
-use Rattle.step_events.specs.Comes.{Comes, holds-within, goes-made, comes-full, adds-quiet}
+use Rattle.step_events.specs.Comes.{Comes, goes-made, comes-full, adds-quiet}
 use Rattle.step_events.specs.Through.{Covered}
 use Rattle.step_events.specs.declared.change.Change.{Change}
 

@@ -21,11 +21,11 @@ use Rattle.definition.specs.Preservation.Shrinking.{kernel_del4_away}
 use Rattle.definition.proofs.Preservation.Peaks.{kernel_del4-under}
 use Rattle.definition.proofs.Preservation.Step.{covered}
 use Rattle.row_candidates.specs.Rows.{subnet_route}
-use Rattle.state.specs.Represents.{Represents, count-addresses}
+use Rattle.state.specs.Represents.{Represents, count-addresses, holds-within}
 use Rattle.state.specs.Stored.{represented}
 use Rattle.step_events.specs.Tells.{Tells}
 use Rattle.step_events.specs.Emits.{Emits, does-one}
-use Rattle.step_events.specs.Comes.{Comes, holds-within, goes-made, adds_none, adds-also, adds-stop, comes-ok}
+use Rattle.step_events.specs.Comes.{Comes, goes-made, adds_none, adds-also, adds-stop, comes-ok}
 use Rattle.step_events.specs.declared.change.Change.{Change}
 use Rattle.step_new_address.specs.Adding.{AddsFrom, also-leaves, kernel_add4-leaves}
 use Rattle.step_new_address.specs.New.{length-emitted}

@@ -10,7 +10,8 @@ use Rattle.definition.specs.Reference.Insert.{kernel_add4}
 use Rattle.definition.specs.Reference.Addresses.{install}
 use Rattle.definition.specs.Preservation.Keeps.{Keeps, through_keeps, keeps_fit}
 use Rattle.definition.specs.Preservation.Addresses.{kernel_add4_keeps}
-use Rattle.step_events.specs.Comes.{Answer, holds-within}
+use Rattle.state.specs.Represents.{holds-within}
+use Rattle.step_events.specs.Comes.{Answer}
 use Rattle.step_events.specs.Through.{adds-start, adds-next, adds-other-end, adds-end}
 use Rattle.step_events.specs.declared.change.Change.{Change}
 use Rattle.step_kernel_add.specs.Add.{kernel_add4-covered}

@@ -18,10 +18,10 @@ use Rattle.definition.specs.Preservation.Keeps.{fit-addresses}
 use Rattle.definition.specs.Preservation.Rows.{candidates-fit}
 use Rattle.definition.specs.Preservation.Addresses.{place4-fit}
 use Rattle.definition.specs.Preservation.Growing.{length-place4}
-use Rattle.state.specs.Represents.{Represents}
+use Rattle.state.specs.Represents.{Represents, holds-within}
 use Rattle.step_events.specs.Tells.{Tells}
 use Rattle.step_events.specs.Emits.{does-one}
-use Rattle.step_events.specs.Comes.{Answer, Comes, holds-within, goes-made, comes-full, adds-also, adds-stop}
+use Rattle.step_events.specs.Comes.{Answer, Comes, goes-made, comes-full, adds-also, adds-stop}
 use Rattle.step_events.specs.declared.change.Change.{Change}
 use Rattle.step_new_address.specs.Adding.{AddsFrom}
 

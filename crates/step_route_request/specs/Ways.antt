@@ -6,10 +6,10 @@ use Rattle.refusal.specs.declared.Refusal.TheVariants.{Errno, Full}
 use Rattle.definition.specs.State.{State, becomes, stays}
 use Rattle.definition.specs.Step.{roomy}
 use Rattle.definition.specs.Reference.Addresses.{Outcome, goes, refused}
-use Rattle.state.specs.Represents.{Represents}
+use Rattle.state.specs.Represents.{Represents, holds-within}
 use Rattle.step_events.specs.Tells.{Tells}
 use Rattle.step_events.specs.Emits.{does-quiet, does-one}
-use Rattle.step_events.specs.Comes.{ComesWhole, holds-within, goes-made, comes-made, comes-full, adds-quiet, whole-made}
+use Rattle.step_events.specs.Comes.{ComesWhole, goes-made, comes-made, comes-full, adds-quiet, whole-made}
 use Rattle.step_events.specs.declared.change.Change.{Change}
 
 module _ (st : State) {a b : Change} (later : State) (h : Represents b.state.words.now later) where

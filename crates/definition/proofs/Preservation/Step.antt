@@ -12,7 +12,7 @@ use Rattle.definition.specs.Call.{Call, written}
 use Rattle.definition.specs.Reference.Addresses.{Outcome, goes, refused}
 use Rattle.definition.specs.Step.{Result, refuses, Checks, Action, changes, replies, lists, alters, Semantics, checks, checked, unfit, result, roomy, outcome, changing, reading, act, perform, semantics, step}
 use Rattle.definition.specs.Preservation.Fit.{state-fit}
-use Rattle.definition.specs.Preservation.Encode.{Admissible, length-encode, well_formed-encode, decode-encode, encode-decode, good-decode, good-empty, encode-empty}
+use Rattle.definition.specs.Preservation.Encode.{Admissible, encodable, length-encode, well_formed-encode, decode-encode, encode-decode, good-decode, good-empty, encode-empty}
 use Rattle.definition.specs.Preservation.Keeps.{Covers, KeptOutcome}
 use Rattle.definition.proofs.Preservation.Change.{Passes, Preserving, Changes, Acts, lawful}
 
@@ -29,13 +29,13 @@ good-held w h = good-decode (base w) (base-long w h.long) h.well
 
 -- the words of the lists, whatever is behind them
 base-encode : (st : State) (l : List ℕ) → Admissible st → base (encode st ++ l) ≡ encode st
-base-encode st l g = take_at (encode st) l base_size (length-encode st g)
+base-encode st l g = take_at (encode st) l base_size (length-encode st (encodable g))
 
 empty-words : zeros state_size ≡ encode empty ++ zeros behind_size
 empty-words = sym (zeros_append base_size behind_size) ∙ ap (λ (l : List ℕ). l ++ zeros behind_size) (sym encode-empty)
 
 pub decode-empty : state_of (zeros state_size) ≡ empty
-decode-empty = ap state_of empty-words ∙ ap decode (base-encode empty (zeros behind_size) good-empty) ∙ decode-encode empty good-empty
+decode-empty = ap state_of empty-words ∙ ap decode (base-encode empty (zeros behind_size) good-empty) ∙ decode-encode empty (encodable good-empty)
 
 pub held-empty : Held (zeros state_size)
 held-empty =
@@ -48,12 +48,12 @@ held-empty =
 pub held-leaves : (w : List ℕ) (st : State) → Held w → Admissible st → Held (leaves w st)
 held-leaves w st h g =
     record {
-      long = simp (length-append, length-drop) (omega (arith, length-encode st g, h.long));
+      long = simp (length-append, length-drop) (omega (arith, length-encode st (encodable g), h.long));
       well = rw (base-encode st (drop base_size w) g) (well_formed-encode st g);
     }
 
 pub decode-leaves : (w : List ℕ) (st : State) → Held w → Admissible st → state_of (leaves w st) ≡ st
-decode-leaves w st h g = rw (base-encode st (drop base_size w) g) (decode-encode st g)
+decode-leaves w st h g = rw (base-encode st (drop base_size w) g) (decode-encode st (encodable g))
 
 pub leaves-decode : (w : List ℕ) → Held w → leaves w (state_of w) ≡ w
 leaves-decode w h = rw (encode-decode (base w) (base-long w h.long) h.well) (take-append-drop base_size w)

@@ -7,17 +7,30 @@ use Rattle.std.proofs.Math.Path.{ap}
 use Rattle.std.proofs.Math.Bool.{true}
 use mathlib.Core.List.{List, [], ◌∷◌, ◌++◌, append_assoc, append-nil}
 use Rattle.std.proofs.Math.ListN.{length, drop, length-append}
-use Rattle.lists.specs.Lists.{all_zero, flat, zeros, pad, span, chop}
+use Rattle.lists.specs.Lists.{all, all_zero, flat, zeros, pad, span, chop}
 use Rattle.lists.specs.Bools.{and_iff}
 use Rattle.lists.specs.Rows.{length-pad, length-flat, chop-pad, all_zero-pad, span-past, pad-chop, pad-take, length-chop, length-span, pad_nil, zeros_append, zeros_cons}
 use Rattle.definition.specs.State.{State, sizes, empty}
-use Rattle.definition.specs.Preservation.Fit.{Invariant, fit-state, sized-addresses, sized-routes}
+use Rattle.layout.specs.Address.{fit_address}
+use Rattle.layout.specs.Route.{fit_route}
+use Rattle.definition.specs.Preservation.Fit.{fit-state, sized-addresses, sized-routes}
 use Rattle.definition.specs.Words.{ordered, distinct, none_twice, within, addresses_size, routes_at, routes_size, tables_at, table_limit, base_size, encode, decode, fit_state, unused_zero, well_formed}
 
 -- the state could be that of well-formed words
 pub record Admissible (st : State) : Type 0 where
   pub fits : fit_state st ≡ true
   pub limits : within (sizes st) ≡ true
+
+-- the state could be that of words, in whatever order its rows are
+pub record Encodable (st : State) : Type 0 where
+  pub limits : within (sizes st) ≡ true
+  pub addresses_fit : all fit_address st.addresses ≡ true
+  pub routes_fit : all fit_route st.routes ≡ true
+
+pub encodable : {st : State} → Admissible st → Encodable st
+encodable {st} g =
+    let f = fit-state st g.fits in
+    record { limits = g.limits; addresses_fit = f.of_addresses; routes_fit = f.of_routes.each }
 
 -- the counts keep to the limits
 counts : (st : State) → within (sizes st) ≡ true → (length st.addresses ≤ 64) × (length st.routes ≤ 256) × (length st.tables ≤ 32)
@@ -29,15 +42,12 @@ counts st h =
 past-counts : (m a b c : ℕ) (x rest : List ℕ) → length x ≡ m → drop (3 + m) (a ∷ b ∷ c ∷ (x ++ rest)) ≡ rest
 past-counts m a b c x rest h = sym (drop-drop m 3 (a ∷ b ∷ c ∷ (x ++ rest))) ∙ drop_at x rest m h
 
-module _ (st : State) (g : Admissible st) where
-  abbrev f : Invariant st
-  f = fit-state st g.fits
-
+module _ (st : State) (g : Encodable st) where
   length-addresses : length (flat st.addresses) ≡ 20 * length st.addresses
-  length-addresses = length-flat 20 st.addresses (sized-addresses st.addresses f.of_addresses)
+  length-addresses = length-flat 20 st.addresses (sized-addresses st.addresses g.addresses_fit)
 
   length-routes : length (flat st.routes) ≡ 32 * length st.routes
-  length-routes = length-flat 32 st.routes (sized-routes st.routes f.of_routes.each)
+  length-routes = length-flat 32 st.routes (sized-routes st.routes g.routes_fit)
 
   wide-addresses : length (pad addresses_size (flat st.addresses)) ≡ addresses_size
   wide-addresses = length-pad addresses_size (flat st.addresses) (omega (arith, length-addresses, counts st g.limits))
@@ -72,13 +82,13 @@ module _ (st : State) (g : Admissible st) where
   same-addresses : (decode (encode st)).addresses ≡ st.addresses
   unfolding encode decode
   same-addresses =
-      chop-pad addresses_size 20 st.addresses (pad routes_size (flat st.routes) ++ pad table_limit st.tables) (sized-addresses st.addresses f.of_addresses)
+      chop-pad addresses_size 20 st.addresses (pad routes_size (flat st.routes) ++ pad table_limit st.tables) (sized-addresses st.addresses g.addresses_fit)
 
   same-routes : (decode (encode st)).routes ≡ st.routes
   unfolding decode encode
   same-routes =
       ap (chop 32 (length st.routes)) routes-behind
-      ∙ chop-pad routes_size 32 st.routes (pad table_limit st.tables) (sized-routes st.routes f.of_routes.each)
+      ∙ chop-pad routes_size 32 st.routes (pad table_limit st.tables) (sized-routes st.routes g.routes_fit)
 
   same_tables : (decode (encode st)).tables ≡ st.tables
   unfolding decode encode span
@@ -108,12 +118,12 @@ module _ (st : State) (g : Admissible st) where
       in
       simp and_iff ((a, b), c)
 
-  pub well_formed-encode : well_formed (encode st) ≡ true
-  unfolding well_formed encode
-  well_formed-encode =
-      let k = simp and_iff at g.limits in
-      let h : fit_state (decode (encode st)) ≡ true = rw decode-encode g.fits in
-      simp and_iff (((k, h)), unused-encode)
+pub well_formed-encode : (st : State) → Admissible st → well_formed (encode st) ≡ true
+unfolding well_formed encode
+well_formed-encode st g =
+    let k = simp and_iff at g.limits in
+    let h : fit_state (decode (encode st)) ≡ true = rw (decode-encode st (encodable g)) g.fits in
+    simp and_iff (((k, h)), unused-encode st (encodable g))
 
 -- ---- from words
 three : (w : List ℕ) → 3 ≤ length w → w ≡ get_or w 0 0 ∷ get_or w 1 0 ∷ get_or w 2 0 ∷ drop 3 w

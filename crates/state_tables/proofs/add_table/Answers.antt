@@ -1,9 +1,8 @@
 use Rattle.std.proofs.Common.{arith, sym, refl, ◌∙◌, length-set}
 use Rattle.definition.specs.State.{with_tables}
-use Rattle.definition.specs.Words.{decode}
 use Rattle.definition.specs.Reference.Insert.{add_table}
 use Rattle.state.specs.Represents.{sizes_of}
-use Rattle.state.specs.Stored.{represented, representing}
+use Rattle.state.specs.Stored.{represented, carried}
 use Rattle.state_tables.specs.Listed.{tables_of, add_there, add_new, length_new, length-listed}
 use Rattle.state_tables.proofs.add_table.Goals as goal
 
@@ -14,8 +13,8 @@ returns-then-listed c =
 pub bounds-words-2 : goal.bounds-words-2
 bounds-words-2 c = omega (arith, sizes_of (represented c.args.s.now.holds))
 
-pub bounds-words-wide : goal.bounds-words-wide
-bounds-words-wide c =
+pub bounds-words-n : goal.bounds-words-n
+bounds-words-n c =
     let h = represented c.args.s.now.holds in
     omega (arith, sizes_of h, length-listed h, length_new c.args.t (tables_of c.args.s.now.words.now) (sym (rw c.stored.ensures at c.listed.ensures) ∙ c.if-listed.false), c.requires)
 
@@ -27,15 +26,14 @@ bounds-words-2-2 c = simp length-set (omega (arith, sizes_of (represented c.args
 
 pub invariant_of-s : goal.invariant_of-s
 invariant_of-s c =
-    let st = decode c.args.s.now.words.now in
     record {
-      holds = representing {st = with_tables (add_table c.args.t st.tables) st}
-          (rw c.wide.ensures (add_new (represented c.args.s.now.holds) c.args.t (sym (rw c.stored.ensures at c.listed.ensures) ∙ c.if-listed.false) c.requires));
+      holds = carried (λ st. with_tables (add_table c.args.t st.tables) st) c.args.s.now.holds
+          (λ st h. add_new h c.args.t (sym (rw c.stored.ensures at c.listed.ensures) ∙ c.if-listed.false) c.requires);
     }
 
 pub returns : goal.returns
 returns c =
     record {
-      holds = λ st h. rw c.wide.ensures (add_new h c.args.t (sym (rw c.stored.ensures at c.listed.ensures) ∙ c.if-listed.false) c.requires);
+      holds = λ st h. add_new h c.args.t (sym (rw c.stored.ensures at c.listed.ensures) ∙ c.if-listed.false) c.requires;
       place = refl;
     }

@@ -16,6 +16,6 @@ returns-clause-result_value c =
     let here = own-run c.args.new.now c.args.routes.rows.now _ _ _ _ _ _ c.find_run-run.ensures.start_value c.alike4-alike.ensures.run o in
     let within : c.alike4-alike.result.start < c.find_run-run.result.end - c.find_run-run.result.start = omega (arith, c.find_run-run.ensures.start_le_end, c.alike4-alike.ensures.start_le_end, c.if-end-start.false) in
     rw c.among.ensures
-    (some-planned _ c.args.flags _ _ _ _ here o c.if-end-start.false c.same_words-first.result
-    (c.same_words-first.ensures
+    (some-planned _ c.args.flags _ _ _ _ here o c.if-end-start.false c.eq-first.result
+    (c.eq-first.ensures
     ∙ ap (eq_row c.args.new.now) (between-at c.find_run-run.result.start c.find_run-run.result.end c.alike4-alike.result.start c.args.routes.rows.now within)))

@@ -1,8 +1,7 @@
 use Rattle.std.proofs.Common.{arith, refl}
 use Rattle.lists.specs.At.{insert_at}
-use Rattle.definition.specs.Words.{decode}
-use Rattle.state.specs.Stored.{represented, representing}
-use Rattle.state.specs.Held.{held-count, held-place, held-room, held-insert}
+use Rattle.state.specs.Stored.{represented, carried}
+use Rattle.state.specs.Held.{held-place, held-room, held-insert}
 use Rattle.state.proofs.held.insert.Goals as goal
 
 pub bounds-words-COUNT : goal.bounds-words-COUNT
@@ -22,21 +21,17 @@ bounds-words-COUNT-2 g c = rw c.COUNT-2.ensures (omega (arith, held-place g.met.
 
 pub invariant_of-s : goal.invariant_of-s
 invariant_of-s g c =
-    let k = g.met.R.Held.held in
-    let st = decode c.args.s.now.words.now in
-    let h = represented c.args.s.now.holds in
     record {
-      holds = representing {st = g.R.Held.with (insert_at c.args.i (g.R.Held.words c.args.row.now) (g.R.Held.rows st)) st}
-          (rw (c.insert.ensures, c.AT.ensures, c.WIDTH.ensures, c.WIDTH-2.ensures, c.words.ensures, c.COUNT.ensures, c.COUNT-2.ensures)
-          (held-insert k h c.args.i _ (omega (arith, held-count k h, c.requires.i_bound)) (omega (arith, held-count k h, c.requires.i_bound)) c.requires.row_value));
+      holds = carried (λ st. g.R.Held.with (insert_at c.args.i (g.R.Held.words c.args.row.now) (g.R.Held.rows st)) st) c.args.s.now.holds
+          (λ st h. rw (c.insert.ensures, c.AT.ensures, c.WIDTH.ensures, c.WIDTH-2.ensures, c.words.ensures, c.COUNT.ensures, c.COUNT-2.ensures)
+          (held-insert g.met.R.Held.held h c.args.i _ c.requires.i_bound.0 c.requires.i_bound.1 c.requires.row_value));
     }
 
 pub returns : goal.returns
 returns g c =
-    let k = g.met.R.Held.held in
     record {
       holds = λ st h.
           rw (c.insert.ensures, c.AT.ensures, c.WIDTH.ensures, c.WIDTH-2.ensures, c.words.ensures, c.COUNT.ensures, c.COUNT-2.ensures)
-          (held-insert k h c.args.i _ (omega (arith, held-count k h, c.requires.i_bound)) (omega (arith, held-count k h, c.requires.i_bound)) c.requires.row_value);
+          (held-insert g.met.R.Held.held h c.args.i _ c.requires.i_bound.0 c.requires.i_bound.1 c.requires.row_value);
       place = refl;
     }

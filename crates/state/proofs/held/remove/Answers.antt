@@ -1,9 +1,8 @@
 use Rattle.std.proofs.Common.{arith, refl}
 use Rattle.state.specs.Represents.{holds-long}
 use Rattle.lists.specs.At.{remove_at}
-use Rattle.definition.specs.Words.{decode}
-use Rattle.state.specs.Stored.{represented, representing}
-use Rattle.state.specs.Held.{held-count, held-end, held-remove}
+use Rattle.state.specs.Stored.{represented, carried}
+use Rattle.state.specs.Held.{held-end, held-remove}
 use Rattle.state.proofs.held.remove.Goals as goal
 
 pub overflow_mul-WIDTH : goal.overflow_mul-WIDTH
@@ -28,21 +27,17 @@ remove-requires g c =
 
 pub invariant_of-s : goal.invariant_of-s
 invariant_of-s g c =
-    let k = g.met.R.Held.held in
-    let st = decode c.args.s.now.words.now in
-    let h = represented c.args.s.now.holds in
     record {
-      holds = representing {st = g.R.Held.with (remove_at c.args.i (g.R.Held.rows st)) st}
-          (rw (c.remove.ensures, c.AT.ensures, c.WIDTH.ensures, c.WIDTH-2.ensures, c.WIDTH-3.ensures, c.COUNT.ensures, c.COUNT-2.ensures)
-          (held-remove k h c.args.i (omega (arith, held-count k h, c.requires.i_bound))));
+      holds = carried (λ st. g.R.Held.with (remove_at c.args.i (g.R.Held.rows st)) st) c.args.s.now.holds
+          (λ st h. rw (c.remove.ensures, c.AT.ensures, c.WIDTH.ensures, c.WIDTH-2.ensures, c.WIDTH-3.ensures, c.COUNT.ensures, c.COUNT-2.ensures)
+          (held-remove g.met.R.Held.held h c.args.i c.requires.i_bound));
     }
 
 pub returns : goal.returns
 returns g c =
-    let k = g.met.R.Held.held in
     record {
       holds = λ st h.
           rw (c.remove.ensures, c.AT.ensures, c.WIDTH.ensures, c.WIDTH-2.ensures, c.WIDTH-3.ensures, c.COUNT.ensures, c.COUNT-2.ensures)
-          (held-remove k h c.args.i (omega (arith, held-count k h, c.requires.i_bound)));
+          (held-remove g.met.R.Held.held h c.args.i c.requires.i_bound);
       place = refl;
     }

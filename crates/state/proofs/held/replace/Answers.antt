@@ -1,8 +1,7 @@
 use Rattle.std.proofs.Common.{arith, refl}
 use Rattle.std.specs.Prelude.{set}
-use Rattle.definition.specs.Words.{decode}
-use Rattle.state.specs.Stored.{represented, representing}
-use Rattle.state.specs.Held.{held-count, held-end, held-replace}
+use Rattle.state.specs.Stored.{represented, carried}
+use Rattle.state.specs.Held.{held-end, held-replace}
 use Rattle.state.specs.Represents.{holds-long}
 use Rattle.state.proofs.held.replace.Goals as goal
 
@@ -22,21 +21,17 @@ store-requires g c =
 
 pub invariant_of-s : goal.invariant_of-s
 invariant_of-s g c =
-    let k = g.met.R.Held.held in
-    let st = decode c.args.s.now.words.now in
-    let h = represented c.args.s.now.holds in
     record {
-      holds = representing {st = g.R.Held.with (set (g.R.Held.rows st) c.args.i (g.R.Held.words c.args.row.now)) st}
-          (rw (c.store.ensures, c.AT.ensures, c.WIDTH.ensures, c.words.ensures)
-          (held-replace k h c.args.i _ (omega (arith, held-count k h, c.requires.i_bound)) c.requires.row_value));
+      holds = carried (λ st. g.R.Held.with (set (g.R.Held.rows st) c.args.i (g.R.Held.words c.args.row.now)) st) c.args.s.now.holds
+          (λ st h. rw (c.store.ensures, c.AT.ensures, c.WIDTH.ensures, c.words.ensures)
+          (held-replace g.met.R.Held.held h c.args.i _ c.requires.i_bound c.requires.row_value));
     }
 
 pub returns : goal.returns
 returns g c =
-    let k = g.met.R.Held.held in
     record {
       holds = λ st h.
           rw (c.store.ensures, c.AT.ensures, c.WIDTH.ensures, c.words.ensures)
-          (held-replace k h c.args.i _ (omega (arith, held-count k h, c.requires.i_bound)) c.requires.row_value);
+          (held-replace g.met.R.Held.held h c.args.i _ c.requires.i_bound c.requires.row_value);
       place = refl;
     }
