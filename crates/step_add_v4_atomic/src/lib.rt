@@ -10,7 +10,7 @@ ghost use Rattle.definition.specs.Reference.Addresses.{goes, add_v4, up};
 ghost use Rattle.state.specs.Represents.{Represents};
 ghost use Rattle.step_events.specs.Comes.{ComesWhole};
 ghost use Rattle.step_events.specs.Tells.{TellsAtMost};
-ghost use Rattle.step_add_v4_atomic.specs.Copy.{CopiedBack};
+ghost use Rattle.step_add_v4_atomic.specs.Copy.{CopiedBack, Takes, Keeps, Tried};
 ghost use Rattle.step_add_v4_atomic.specs.Room.{has_room};
 
 use layout::{
@@ -38,25 +38,12 @@ fn has_room(s: Stored<'_>, rows: usize) -> bool
         && s.words[TABLE_COUNT] as usize <= TABLES_BEFORE
 }
 
-// The words of another state.
+// The words of another state. By itself: in `copy_back` they lie in a struct within a struct, whose words can't be lent on there.
 fn copy_state(to: &mut StoredMut<'_>, from: Stored<'_>)
     ensures words { to.new.words.now ≡ from.entry.words.now }
     ensures place { to.new.words.ghost_name ≡ to.old.words.ghost_name }
 {
     to.words.copy_from_slice(from.words);
-}
-
-// A change to a state, of which nothing is told yet.
-fn begun<'a, 'b>(state: StoredMut<'a>, events: &'b mut [u32]) -> Change<'a, 'b>
-    ensures state { result.state.words.now ≡ state.entry.words.now }
-    ensures events { result.events.now ≡ events.old }
-    ensures told { result.told ≡ 0 }
-{
-    Change {
-        state,
-        events,
-        told: 0,
-    }
 }
 
 // What was tried on a copy: its words are taken over, and what it told is told behind what was told before.
@@ -74,19 +61,26 @@ fn copy_back(change: &mut Change<'_, '_>, tried: &Change<'_, '_>)
     change.told += tried.told;
 }
 
-// It and `try_up` stay two: what differs is the call and its buffer, and a closure over a lent change would say more than both.
-fn try_add_v4(change: &mut Change<'_, '_>, q: &AddV4, clock: Nanoseconds) -> Result<(), Refusal>
-    requires q_fit { fit_add_v4 q.now ≡ true }
-    requires in_bounds { 34 * (change.old.told + 5) ≤ length change.old.events.now }
-    ensures told { TellsAtMost 5 change.old change.new }
-    ensures comes_whole { (st : State) → Represents change.old.state.words.now st → fit_state st ≡ true → ComesWhole st (add_v4 q.now clock.0 st) change.old change.new result }
+// A step on a copy of the state, and on N words of its own for what it tells: unless it is refused, what it leaves is taken over.
+fn tried<const N: usize, F: FnOnce(&mut Change<'_, '_>) -> Result<(), Refusal>>(
+    change: &mut Change<'_, '_>,
+    step: F,
+) -> Result<(), Refusal>
+    requires takes { Takes F.FnOnce step change.old.state.words.now N }
+    requires keeps { Keeps F.FnOnce step change.old.state.words.now N }
+    requires room { 34 * change.old.told + N ≤ length change.old.events.now }
+    ensures { Tried F.FnOnce step N change.old change.new result }
 {
     let mut copy = [0; BASE_WORDS];
     copy.copy_from_slice(change.state.stored().words);
-    let mut rows = [0; ADDED_BUFFER];
-    let mut tried = begun(StoredMut { words: &mut copy }, &mut rows);
-    step_add_v4::add_v4(&mut tried, q, clock)?;
-    copy_back(change, &tried);
+    let mut rows = [0; N];
+    let mut aside = Change {
+        state: StoredMut { words: &mut copy },
+        events: &mut rows,
+        told: 0,
+    };
+    step(&mut aside)?;
+    copy_back(change, &aside);
     Ok(())
 }
 
@@ -100,21 +94,7 @@ pub fn add_v4(change: &mut Change<'_, '_>, q: &AddV4, clock: Nanoseconds) -> Res
     if has_room(change.state.stored(), 4) {
         return step_add_v4::add_v4(change, q, clock);
     }
-    try_add_v4(change, q, clock)
-}
-
-fn try_up(change: &mut Change<'_, '_>, clock: Nanoseconds) -> Result<(), Refusal>
-    requires in_bounds { 34 * (change.old.told + event_limit) ≤ length change.old.events.now }
-    ensures told { OnOk result (TellsAtMost 325 change.old change.new) }
-    ensures comes_whole { (st : State) → Represents change.old.state.words.now st → fit_state st ≡ true → ComesWhole st (goes (up clock.0 st)) change.old change.new result }
-{
-    let mut copy = [0; BASE_WORDS];
-    copy.copy_from_slice(change.state.stored().words);
-    let mut rows = [0; EVENT_BUFFER];
-    let mut tried = begun(StoredMut { words: &mut copy }, &mut rows);
-    step_add_v4::up(&mut tried, clock)?;
-    copy_back(change, &tried);
-    Ok(())
+    tried::<ADDED_BUFFER, _>(change, |change| step_add_v4::add_v4(change, q, clock))
 }
 
 // 127.0.0.1 if it isn't there, with its routes; then the routes that every address has.
@@ -127,5 +107,5 @@ pub fn up(change: &mut Change<'_, '_>, clock: Nanoseconds) -> Result<(), Refusal
     if has_room(change.state.stored(), most) {
         return step_add_v4::up(change, clock);
     }
-    try_up(change, clock)
+    tried::<EVENT_BUFFER, _>(change, |change| step_add_v4::up(change, clock))
 }
