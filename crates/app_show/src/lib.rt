@@ -69,6 +69,7 @@ fn show_bytes(bytes: &[u8], text: &mut Text<'_>)
 }
 
 // What is printed of any bytes, at the start of out; how many bytes it is, is returned.
+// It fills what it is lent, since there is no heap.
 pub fn show(bytes: &[u8], out: &mut [u8; 19220]) -> usize
     ensures upper_bound { (result ≤ length out.new) × (result ≡ length (take result out.new)) }
     ensures value { result ≡ length (shown bytes.now) }

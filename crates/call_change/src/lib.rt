@@ -1,5 +1,6 @@
 // The calls of the host that change a state, on lent words. Each refuses unfit input, and a list that would pass its limit, and then
 // changes nothing.
+// Their arguments are those that C hands over.
 #![tactic(auto)]
 
 ghost use Rattle.std.specs.Prelude.{◌≡◌, ◌≤◌, true, length};
@@ -61,6 +62,7 @@ fn on_change<'a, 'b, F: FnOnce(&mut Change<'_, '_>) -> Result<(), Refusal>>(
 }
 
 // A step on the words that hold the state and the event buffer, and how many rows it told.
+// On words and no `StoredMut`, for the reason that `on_change` gives.
 fn changed<F: FnOnce(&mut Change<'_, '_>) -> Result<(), Refusal>>(
     words: &mut [u32],
     events: &mut [u32],
@@ -127,6 +129,7 @@ pub fn expire(state: &mut [u32], events: &mut [u32], clock: u64) -> Result<usize
 }
 
 // An address is put in, or the one that is there changed where the request says so.
+// The four calls with a request share `sized`, `checked` and `changed`; what is left of each is its own fitness and step.
 pub fn add_v4(
     state: &mut [u32],
     q: &[u32],
@@ -167,6 +170,7 @@ pub fn add_route4(state: &mut [u32], q: &[u32], events: &mut [u32]) -> Result<us
 }
 
 // The same for a caller that was lent room for so many words of events, and lends on that of a row.
+// Both numbers are asked for, here and in `del_route4_lent`: they differ, and interface4 hands both over.
 pub fn add_route4_lent(
     state: &mut [u32],
     q: &[u32],

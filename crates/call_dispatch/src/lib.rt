@@ -1,4 +1,5 @@
 // Every call with its answer as numbers, and every call by the number that the list of answers gives it (host/README.md).
+// One function for each C name, with the arguments that C hands over: what may be absent is a mark and a word.
 #![tactic(auto)]
 
 ghost use Rattle.std.specs.Prelude.{◌≡◌, [], ◌≤◌, length};
@@ -64,6 +65,7 @@ pub fn del_route4(state: &mut [u32], q: &[u32], events: &mut [u32]) -> Reply
 }
 
 // ---- those that write one row at most, for a caller that was lent room for so many words and lends on that of a row
+// (interface4 hands both over)
 pub fn down_lent(state: &mut [u32], room: usize, events: &mut [u32]) -> Reply
     ensures { Did (step (Call.down room) state.old)
         events.old result state.new events.new }

@@ -113,6 +113,7 @@ impl fmt::Display for Call {
 }
 
 // A clock of its low and its high word.
+// A number and no `Nanoseconds`: the calls take it as C hands it over.
 fn clock_of(low: u32, high: u32) -> u64
     ensures { result ≡ clock_of low high }
 {

@@ -1,4 +1,5 @@
 // The requests for an address with a netmask in place of the prefix, on lent words: the calls of call_change, and 207 before 202.
+// Their arguments are those that C hands over.
 #![tactic(auto)]
 
 ghost use Rattle.std.specs.Prelude.{◌≡◌, ◌≢◌, ◌<◌, ℕ, true, false, length, IfOk, IfErr, MatchResult};

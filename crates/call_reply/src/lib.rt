@@ -15,6 +15,7 @@ use life::Left;
 use refusal::Refusal;
 
 // The number is 0, or the refusal's number and then the rest is 0.
+// All are words, the mark of what is present too, since C reads them.
 #[repr(C)]
 #[derive(Clone, Copy, Debug, PartialEq, Eq)]
 pub struct Reply {
@@ -38,6 +39,7 @@ impl From<Refusal> for Reply {
 }
 
 // Whether a call that is refused with this number has left every word, whatever the call.
+// By the number: a reply holds no more of a refusal.
 pub fn unfit(n: u32) -> bool
     ensures { result ≡ unfit n }
 {

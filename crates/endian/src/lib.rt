@@ -6,6 +6,7 @@ ghost use Rattle.lists.specs.Lists.{put};
 ghost use Rattle.endian.specs.Endian.{words_of, bytes_of};
 
 // The words that the bytes are, at the start of out. Fewer than four bytes at the end are no word.
+// Into lent words: a request, a row and what `streams` reads have several lengths, so an array by value would be a second function.
 pub fn words_of(bytes: &[u8], out: &mut [u32])
     requires { length bytes.now ≤ 4 * length out.old }
     ensures { out.new ≡ put 0 (words_of bytes.now) out.old }

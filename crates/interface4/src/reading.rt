@@ -114,6 +114,7 @@ impl Asking for Source {
     ghost described = { λ x. source-asks x.0 };
 }
 
+// As C hands them over: the mark and the address beside it are words.
 #[derive(Clone, Copy)]
 struct Select4 {
     dst_present: u32,

@@ -86,6 +86,7 @@ impl fmt::Display for UnknownKind {
 impl Error for UnknownKind {}
 
 // Whether a code is one of the seven.
+// This and the three below are asked of a code and no `Kind`: rows and requests hold codes, as the C interface has them.
 pub fn is_kind(code: u32) -> bool
     ensures { result ≡ is_kind code }
 {

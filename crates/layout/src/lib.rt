@@ -1,5 +1,6 @@
 // The layout of document 01's words, derived from its limits, and the numbers that rows, requests and answers hold, as Linux's
 // headers have them.
+// Kinds, codes and tables are numbers, and what may be absent has a mark of 0 or 1 beside it: these words are the C interface's.
 #![tactic(auto)]
 
 pub mod add_route4;

@@ -112,6 +112,7 @@ impl Seconds {
         if self.0 == FOREVER { stored } else { self }
     }
 
+    // It stops at 0, so it is no `Sub`.
     fn less(self, age: Seconds) -> Seconds
         ensures { result ≡ seconds (self.0 - age.0) }
     {

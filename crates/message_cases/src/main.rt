@@ -1,5 +1,6 @@
 // What is made of recorded messages (host/README.md): the list is read from standard input, and each message gives a line with the
 // answer and the check of all words of the request's buffer.
+// What prints and what is read are handed on apart: some functions use the one, some the other, some both.
 #![tactic(auto)]
 
 ghost use Rattle.std.specs.Prelude.{◌≤◌, length};

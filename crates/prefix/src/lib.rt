@@ -1,4 +1,5 @@
 // Prefixes of IPv4 addresses, by masks. Addresses and lengths are words of 32 bits.
+// An address and a length are no struct: an address that is asked for is tried by the lengths of rows.
 #![tactic(auto)]
 
 ghost use Rattle.std.specs.Prelude.{◌≡◌, eqb};

@@ -75,6 +75,7 @@ fn set_pairs(s: &mut [u32], pairs: &[u32])
 }
 
 impl<'a> Record<'a> {
+    // The parts, a line each: one method of two places would be asked that they lie in order, which `Bounds` says of each part.
     fn sets(self) -> &'a [u32]
         ensures { result.now ≡ sets_of self.entry.words.now }
     {

@@ -74,6 +74,7 @@ fn primary<const N: usize>(rt: &impl Print, name: &str, rows: &[AddressRow; N], 
 }
 
 // 10.1.0.5/24, 10.2.0.5/24 and 10.2.0.6/24, the last a secondary.
+// This and `other` are data, so they stay two.
 fn three() -> [AddressRow; 3] {
     [
         row(0x0a010005, 0x0a010005, 24, 0, 0),

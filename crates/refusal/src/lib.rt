@@ -30,6 +30,7 @@ pub enum Refusal {
 }
 
 impl Refusal {
+    // Numbers, since a host knows a refusal by its own; 200 to 207 are given here alone.
     pub fn number(self) -> u32
         ensures { result ≡ number_of self }
     {

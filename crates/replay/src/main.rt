@@ -1,5 +1,6 @@
 // Replays lists of answers (host/README.md): each argument names a file, and where there is none, standard input is read. Printed are
 // the records that the calls don't answer as recorded, how many of each call they do, and how many in all.
+// What prints and what is read are handed on apart: some functions use the one, some the other, some both.
 #![tactic(auto)]
 
 ghost use Rattle.std.specs.Prelude.{◌<◌};

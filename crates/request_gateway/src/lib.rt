@@ -1,4 +1,5 @@
 // How a route that a request asks for is reached: its device and its gateway.
+// Which tables are listed goes beside the routes, for the reason that `rows_lookup::lookup4_in` gives.
 #![tactic(auto)]
 
 ghost use Rattle.std.specs.Prelude.{◌≡◌, ◌<◌, max};
@@ -40,6 +41,7 @@ fn onlink_check(routes: Routes<'_>, q: &AddRoute4, local_listed: bool) -> Result
 }
 
 // What the named table's own set answers with; a private table is not read.
+// By the table's number: a request may name any.
 #[tactic(auto, using(crate::specs::Rows::own_upper, crate::specs::Rows::own_lower, crate::specs::Rows::own_none))]
 fn own_route<'a>(routes: Routes<'a>, t: u32, f: Flow) -> Option<&'a RouteRow>
     ensures { lent result ≡ answer (together t) (flow_of f) routes.entry.rows.now }

@@ -32,6 +32,7 @@ fn reaches<A: Address>(a: &A, dst: Option<u32>) -> bool
 }
 
 // The first address that is eligible and in the destination's subnet.
+// Destination and scope are no struct: each is asked by itself, and the second search has the scope alone.
 fn first<A: Address>(addresses: &[A], dst: Option<u32>, scope: u32) -> Option<&A>
     ensures { option_map (λ a. a.now) result ≡ find (λ a. eligible scope (A.words a) && reaches (own dst) (A.words a)) addresses.now }
 {

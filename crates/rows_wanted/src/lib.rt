@@ -1,4 +1,5 @@
 // Whether some address wants a route, without a list of the wanted ones: an address is asked directly.
+// The tests are relations of two rows, so they are methods of neither.
 #![tactic(auto)]
 
 ghost use Rattle.std.specs.Prelude.{◌≡◌};

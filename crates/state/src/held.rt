@@ -13,6 +13,8 @@ use crate::stored::StoredMut;
 use layout::{ADDRESS_COUNT, ADDRESS_WORDS, ADDRESSES_AT, ROUTE_COUNT, ROUTE_WORDS, ROUTES_AT};
 
 // A row of which a state holds a list.
+// `WIDTH` and `words` stand here though an array has both: over `[u32; N]` a clause would write `⟦<[u32; N] as Held>⟧.limit` where it
+// writes `R.limit`.
 pub(crate) trait Held {
     // Where the list begins, where its count stands, and the words of a row.
     const AT: usize;

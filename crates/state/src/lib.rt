@@ -21,6 +21,7 @@ use layout::{
 use rows::{Addresses, Routes};
 pub use stored::{Stored, StoredMut};
 
+// This and `route_count` take words of that length and no array: a public function asks for no narrower type than it did.
 pub fn address_count(s: &[u32]) -> usize
     requires { length s.now ≡ base_size }
     ensures { result ≡ address_count s.now }
@@ -76,6 +77,8 @@ impl StoredMut<'_> {
     }
 
     // A row before row i.
+    // A place and a fit row are clauses, here and below: the list changes under a place, and a struct around a row would be made at each
+    // call for this one.
     pub fn insert_address(&mut self, i: usize, row: &AddressRow)
         requires i_bound { (i ≤ address_count self.old.words.now) × (address_count self.old.words.now < 64) }
         requires row_value { fit_address row.now ≡ true }

@@ -1,4 +1,5 @@
 // What is read of words that hold a state: each function lends the rows in use to the one that works over rows.
+// So each is a line, of another call; `Stored` is another crate's, so they are no methods of it.
 #![tactic(auto)]
 
 ghost use Rattle.std.specs.Prelude.{◌≡◌, ◌≤◌, length, true};

@@ -1,4 +1,5 @@
 // The tables that a state lists.
+// A table is a number, since a row or a request may name any; `Stored` is another crate's, so these are no methods of it.
 #![tactic(auto)]
 
 ghost use Rattle.std.specs.Prelude.{◌≡◌, ◌≤◌, length};

@@ -116,6 +116,7 @@ fn none_twice(l: &[u32]) -> bool
 }
 
 // The words behind those in use are 0.
+// Of words of that length and no array, as `well_formed`: a public function asks for no narrower type than it did.
 fn unused_zero(s: &[u32]) -> bool
     requires { (length s.now ≡ base_size) × (address_count s.now ≤ 64) × (route_count s.now ≤ 256) × (table_count s.now ≤ 32) }
     ensures { result ≡ unused_zero s.now }

@@ -1,4 +1,5 @@
 // add_v4 and up on a change, told. Where a list lacks room the words are left anyhow.
+// A step is no method of `Change`, and asks for its room, for the reasons that step_events gives.
 #![tactic(auto)]
 
 ghost use Rattle.std.specs.Prelude.{◌≡◌, true, ◌+◌, ◌*◌, ◌≤◌, ◌<◌, length, OnOk};
@@ -31,6 +32,7 @@ fn step_of(came: Result<(), Refusal>) -> Result<(), Refusal>
 }
 
 // A requested address put in, or the one that is there changed, where the request says so.
+// That the request is fit is a clause: a struct around it would be made at each call for this one.
 pub fn add_v4(change: &mut Change<'_, '_>, q: &AddV4, clock: Nanoseconds) -> Result<(), Refusal>
     requires q_fit { fit_add_v4 q.now ≡ true }
     requires in_bounds { 34 * (change.old.told + 5) ≤ length change.old.events.now }
@@ -49,6 +51,7 @@ pub fn add_v4(change: &mut Change<'_, '_>, q: &AddV4, clock: Nanoseconds) -> Res
 }
 
 // The routes of address i.
+// The place is one in a list that the step changes, so that it is there is a clause.
 fn install_at(change: &mut Change<'_, '_>, i: usize) -> Result<(), Refusal>
     requires i_bound { i < address_count change.old.state.words.now }
     requires in_bounds { 34 * (change.old.told + 4) ≤ length change.old.events.now }
@@ -74,6 +77,7 @@ fn install_all(change: &mut Change<'_, '_>) -> Result<(), Refusal>
     ensures adds_from { AddsFrom every change.old change.new result }
 {
     let n = change.state.stored().addresses().rows.len();
+    // By place: each turn changes the words that lend the addresses.
     for i in 0..n {
         install_at(change, i)?;
     }

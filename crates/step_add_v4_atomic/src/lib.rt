@@ -1,4 +1,5 @@
 // add_v4 and up whole: where a list lacks room, the state and the event rows are left as they were.
+// A step is no method of `Change`, and asks for its room, for the reasons that step_events gives.
 #![tactic(auto)]
 
 ghost use Rattle.std.specs.Prelude.{◌≡◌, true, ◌+◌, ◌*◌, ◌≤◌, length, OnOk};
@@ -85,6 +86,7 @@ fn tried<const N: usize, F: FnOnce(&mut Change<'_, '_>) -> Result<(), Refusal>>(
 }
 
 // A requested address put in, or the one that is there changed, where the request says so.
+// That the request is fit is a clause, as in step_add_v4.
 pub fn add_v4(change: &mut Change<'_, '_>, q: &AddV4, clock: Nanoseconds) -> Result<(), Refusal>
     requires q_fit { fit_add_v4 q.now ≡ true }
     requires in_bounds { 34 * (change.old.told + 5) ≤ length change.old.events.now }

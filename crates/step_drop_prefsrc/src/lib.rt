@@ -1,4 +1,5 @@
 // Main routes that fall with their preferred source, and are told.
+// A step is no method of `Change`, and asks for its room, for the reasons that step_events gives.
 #![tactic(auto)]
 
 ghost use Rattle.definition.specs.State.{State};
@@ -14,6 +15,7 @@ pub fn drop_dependents(change: &mut Change<'_, '_>, ip: u32)
     ensures { (st : State) → RoomFor potential st change.old → EmitsWithin potential st (dependents_go ip st) change.old change.new }
 {
     let n = change.state.stored().route_count();
+    // By place: telling a row changes what lends the rows.
     for i in 0..n {
         let row = change.state.stored().routes().rows[i];
         if rows_wanted::dependents_from(&row, ip) {

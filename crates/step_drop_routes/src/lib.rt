@@ -1,4 +1,5 @@
 // What goes with an address: those of its routes that none wants, the main rows that fall with it, the device's routes.
+// A step is no method of `Change`, and asks for its room, for the reasons that step_events gives.
 #![tactic(auto)]
 
 ghost use Rattle.std.specs.Prelude.{◌≡◌};

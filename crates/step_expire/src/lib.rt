@@ -1,4 +1,5 @@
 // Addresses at the end of their lives: one that is due goes, and all begins again; one that fades is marked and told.
+// A step is no method of `Change`, and asks for its room, for the reasons that step_events gives.
 #![tactic(auto)]
 
 ghost use Rattle.std.specs.Prelude.{◌≡◌, true, [], ◌∷◌, ◌+◌, ◌*◌, ◌≤◌, ◌<◌, length, set};
@@ -58,6 +59,7 @@ impl Clock {
 }
 
 // The address at i becomes the row a, marked, and is told.
+// The place is one in a list that the step changes, so that it is there is a clause, here and below.
 fn mark(change: &mut Change<'_, '_>, i: usize, a: &AddressRow)
     requires i_bound { (i < address_count change.old.state.words.now) × (34 * (change.old.told + 1) ≤ length change.old.events.now) × (fit_address a.now ≡ true) }
     ensures tells { Tells (new_addr4 (deprecate a.now) ∷ []) change.old change.new }

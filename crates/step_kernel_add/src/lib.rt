@@ -1,4 +1,5 @@
 // The kernel's own routes: added with their table listed, and told.
+// A step is no method of `Change`, and asks for its room, for the reasons that step_events gives.
 #![tactic(auto)]
 
 ghost use Rattle.std.specs.Prelude.{◌≡◌, true, ◌+◌, ◌*◌, ◌≤◌, length};
@@ -18,6 +19,7 @@ use step_events::Change;
 const CREATE_APPEND: u32 = 0xc00;
 
 // Its table is listed, and it is put behind the rows alike it and told, unless it is there.
+// That the row is fit is a clause: a struct around it would be made at each call for this one.
 pub fn kernel_add4(change: &mut Change<'_, '_>, new: &RouteRow) -> Result<(), Refusal>
     requires value { fit_route new.now ≡ true }
     requires in_bounds { 34 * (change.old.told + 1) ≤ length change.old.events.now }

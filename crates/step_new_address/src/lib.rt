@@ -1,4 +1,5 @@
 // Routes and addresses put in and told: a row of routes, a new address with what it brings, an address changed.
+// A step is no method of `Change`, and asks for its room, for the reasons that step_events gives.
 #![tactic(auto)]
 
 ghost use Rattle.std.specs.Prelude.{◌≡◌, true, [], ◌+◌, ◌*◌, ◌≤◌, ◌<◌, length, get_or};
@@ -33,6 +34,7 @@ pub fn install(change: &mut Change<'_, '_>, routes: Routes<'_>) -> Result<(), Re
 }
 
 // An address put in its place and told, then the routes that it brings.
+// That a row is fit is a clause, here and below: a struct around it would be made at each call for this one.
 pub fn new_address(change: &mut Change<'_, '_>, new: &AddressRow, up: bool) -> Result<(), Refusal>
     requires value { fit_address new.now ≡ true }
     requires in_bounds { 34 * (change.old.told + 5) ≤ length change.old.events.now }
@@ -74,6 +76,7 @@ fn moved(change: &mut Change<'_, '_>, q: &AddV4, old: &AddressRow) -> Result<(),
 }
 
 // Address i, which is the requested one, with the request's priority, proto and lifetimes.
+// The place is one in a list that the step changes, so that it is there is a clause.
 pub fn change_v4(
     change: &mut Change<'_, '_>,
     i: usize,

@@ -1,4 +1,5 @@
 // Addresses taken out, with the routes that go with them.
+// A step is no method of `Change`, and asks for its room, for the reasons that step_events gives.
 #![tactic(auto)]
 
 ghost use Rattle.std.specs.Prelude.{◌≡◌, true, ◌<◌, position};
@@ -51,6 +52,7 @@ fn goes_with(a: &AddressRow, b: &AddressRow) -> bool
 }
 
 // The address at i goes if it goes with the primary a.
+// The place is one in a list that the step changes, so that it is there is a clause.
 fn gone_iteration(change: &mut Change<'_, '_>, a: &AddressRow, i: usize)
     requires some_room { SomeRoom potential change.old }
     requires i_bound { i < address_count change.old.state.words.now }
@@ -69,6 +71,7 @@ fn remove_secondaries(change: &mut Change<'_, '_>, a: &AddressRow)
     ensures { (st : State) → RoomFor potential st change.old → EmitsWithin potential st (secondaries a.now st) change.old change.new }
 {
     let n = change.state.stored().address_count();
+    // By place: each turn changes the words that lend the addresses.
     for j in 0..n {
         let i = j + change.state.stored().address_count() - n;
         gone_iteration(change, a, i);

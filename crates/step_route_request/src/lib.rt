@@ -1,4 +1,5 @@
 // Requests to add and to delete a route, made on the lent words.
+// A step is no method of `Change`, and asks for its room, for the reasons that step_events gives.
 #![tactic(auto)]
 
 ghost use Rattle.std.specs.Prelude.{◌≡◌, true, ◌||◌, ◌+◌, ◌*◌, eqb, ◌≤◌, length};
@@ -21,6 +22,7 @@ use state::Stored;
 use step_events::Change;
 
 // The first row that the request names goes. No table is listed.
+// That the request is fit is a clause, here and below: a struct around it would be made at each call for this one.
 pub fn del_route4(change: &mut Change<'_, '_>, q: &DelRoute4) -> Result<(), Refusal>
     requires fit { fit_del_route4 q.now ≡ true }
     requires in_bounds { 34 * (change.old.told + 1) ≤ length change.old.events.now }

@@ -11,6 +11,7 @@ use itoa::{Buffer, Integer};
 use layout::{RouteRow, route};
 
 // Lent bytes, and how many at their front are written.
+// No `Display` and `write!`: as a proof sees it they may fail, where `app_show::show` can't.
 #[derive(Drop)]
 pub struct Text<'a> {
     pub out: &'a mut [u8],

@@ -22,6 +22,7 @@ pub fn clear(s: &mut [u32], at: usize, n: usize)
 }
 
 // The words vs put in at a place behind which n words are in use: those move up.
+// By a place and counts, as in `remove`: the words move where they are lent, since there is no heap.
 pub fn insert(s: &mut [u32], at: usize, n: usize, vs: &[u32])
     requires { at + length vs.now + n ≤ length s.old }
     ensures { s.new ≡ put at (vs.now ++ span at n s.old) s.old }
