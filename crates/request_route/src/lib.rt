@@ -45,12 +45,12 @@ pub fn onlink_flag(q: &AddRoute4) -> bool
 }
 
 // What a kind that isn't one of the seven is refused with.
-fn unknown_kind(code: u32) -> u32
-    ensures { result ≡ cond (unsupported code) 95 22 }
+fn unknown_kind(code: u32) -> Refusal
+    ensures { result ≡ Errno (cond (unsupported code) 95 22) }
 {
     match code {
-        4 | 5 | 10 | 11 => layout::NOT_SUPPORTED,
-        _ => layout::INVALID,
+        4 | 5 | 10 | 11 => Refusal::Errno(layout::NOT_SUPPORTED),
+        _ => Refusal::Errno(layout::INVALID),
     }
 }
 
@@ -65,10 +65,7 @@ pub fn form_check(q: &AddRoute4) -> Result<(), Refusal>
     unless(!bad_prefix(q), invalid)?;
     unless(!(narrow | dead_flags(q)), invalid)?;
     unless(metrics_error == 0, Refusal::Errno(metrics_error))?;
-    unless(
-        kind::is_kind(q[route::KIND]),
-        Refusal::Errno(unknown_kind(q[route::KIND])),
-    )
+    unless(kind::is_kind(q[route::KIND]), unknown_kind(q[route::KIND]))
 }
 
 // The row that a request asks for; the kinds that reject have no device. No `Route4`: that has one of the seven kinds, and this is said
