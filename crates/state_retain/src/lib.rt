@@ -44,20 +44,13 @@ fn settle(s: &mut [u32], i: usize, j: usize) -> usize
     j + 1
 }
 
-fn narrow(n: usize) -> u32
-    requires { n ≤ 256 }
-    ensures { result ≡ n }
-{
-    n as u32
-}
-
 // Of n rows j remain: zeros for the others, and the count.
 fn close(s: &mut [u32], n: usize, j: usize)
     requires { (j ≤ n) × (n ≤ 256) × (routes_at + 32 * n ≤ length s.old) }
     ensures { s.new ≡ set (put (routes_at + 32 * j) (zeros (32 * (n - j))) s.old) 1 j }
 {
     words::clear(s, ROUTES_AT + ROUTE_WORDS * j, ROUTE_WORDS * (n - j));
-    s[ROUTE_COUNT] = narrow(j);
+    s[ROUTE_COUNT] = j as u32;
 }
 
 // The routes that pass stay, in their order; the words behind them become zeros. The rows move under the loop, so it goes by places.
