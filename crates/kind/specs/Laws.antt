@@ -1,7 +1,7 @@
 -- A kind and its code say the same.
 -- Assumes nothing.
 use Rattle.std.specs.Prelude.{◌≡◌, refl, Bool, true, false, cond, ◌||◌, ℕ, eqb, Result, Ok, Err}
-use Rattle.std.specs.Result.{is_ok}
+use Rattle.std.specs.Result.{is_ok, result_unwrap_or}
 use Rattle.std.proofs.Common.{sym, ap, ◌∙◌, eqb-true}
 use Rattle.std.proofs.Math.Bool.{or-false}
 use Rattle.kind.specs.declared.Kind.{Kind}
@@ -48,3 +48,11 @@ first false k rest = refl
 pub is-kind-found : (n : ℕ) → is_ok (kind_of n) ≡ is_kind n
 unfolding kind_of is_kind
 is-kind-found n = rw (first, found, found, found, found, found, found, or-false)
+
+-- a code that is a kind's is had again from the kind that is read
+code-read : (n : ℕ) (d : Kind) (f : Result Kind UnknownKind) → kind_of n ≡ f → is_ok f ≡ true → code_of (result_unwrap_or f d) ≡ n
+code-read n d (Ok k) e h = code-kind n k e
+code-read n d (Err u) e h = cc
+
+pub code-again : (n : ℕ) (d : Kind) → is_kind n ≡ true → code_of (result_unwrap_or (kind_of n) d) ≡ n
+code-again n d h = code-read n d (kind_of n) refl (is-kind-found n ∙ h)

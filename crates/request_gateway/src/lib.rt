@@ -11,6 +11,7 @@ ghost use Rattle.rows_lookup.specs.Flow.{flow_of};
 ghost use Rattle.rows_lookup.specs.Answer.{answered};
 ghost use Rattle.request_gateway.specs.Rows.{reached, onlink_rows, gateway_rows, gateway4_rows, reach_rows};
 
+use kind::Kind;
 use layout::{AddRoute4, RouteRow, add_route4, route};
 use refusal::{Refusal, unless};
 use rows::Routes;
@@ -33,10 +34,7 @@ fn onlink_check(routes: Routes<'_>, q: &AddRoute4, local_listed: bool) -> Result
         layout::TABLE_LOCAL,
         q[route::GATEWAY],
     );
-    unless(
-        kind == layout::KIND_UNICAST,
-        Refusal::Errno(layout::INVALID),
-    )?;
+    unless(kind == Kind::Unicast, Refusal::Errno(layout::INVALID))?;
     Ok(true)
 }
 
@@ -67,10 +65,9 @@ fn gateway_route<'a>(
     ensures { lent_ok result ≡ answered (gateway_rows q.now default_listed routes.entry.rows.now) }
 {
     let f = Flow {
-        ip: q[route::GATEWAY],
-        tos: 0,
         scope: (q[route::SCOPE] + 1).max(layout::SCOPE_LINK),
         oif: q[add_route4::OIF],
+        ..Flow::to(q[route::GATEWAY])
     };
     match own_route(routes, request_route::table_named(q), f) {
         Some(r) if !kind::rejects(r[route::KIND]) => Ok(r),

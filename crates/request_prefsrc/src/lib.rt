@@ -2,11 +2,13 @@
 #![tactic(auto)]
 
 ghost use Rattle.std.specs.Prelude.{◌≡◌, ℕ, ◌≤◌, length};
+ghost use Rattle.kind.specs.Kind.{code_of};
 ghost use Rattle.definition.specs.Reference.Lookup.{type_set};
 ghost use Rattle.rows_lookup.specs.Flow.{set_of};
 ghost use Rattle.rows_lookup.specs.AddrType.{type_rows};
 ghost use Rattle.request_prefsrc.specs.Rows.{prefsrc_table, prefsrc_rows};
 
+use kind::Kind;
 use layout::route;
 use rows::Routes;
 use rows_lookup::Tables;
@@ -23,8 +25,8 @@ pub fn type_set(t: u32) -> Tables
 }
 
 // What an address is to a table.
-pub fn addr_type(routes: Routes<'_>, listed: bool, t: u32, ip: u32) -> u32
-    ensures { result ≡ type_rows listed (type_set t) routes.entry.rows.now ip }
+pub fn addr_type(routes: Routes<'_>, listed: bool, t: u32, ip: u32) -> Kind
+    ensures { code_of result ≡ type_rows listed (type_set t) routes.entry.rows.now ip }
 {
     rows_lookup::addr_type4(routes, listed, type_set(t), ip)
 }
@@ -49,7 +51,6 @@ pub fn valid_prefsrc4(routes: Routes<'_>, q: &[u32], own_listed: bool, local_lis
     ((q[route::KIND] == layout::KIND_LOCAL)
         & (q[route::DST] != 0)
         & (q[route::PREFSRC] == q[route::DST]))
-        || addr_type(routes, own_listed, own, q[route::PREFSRC]) == layout::KIND_LOCAL
-        || addr_type(routes, local_listed, layout::TABLE_LOCAL, q[route::PREFSRC])
-            == layout::KIND_LOCAL
+        || addr_type(routes, own_listed, own, q[route::PREFSRC]) == Kind::Local
+        || addr_type(routes, local_listed, layout::TABLE_LOCAL, q[route::PREFSRC]) == Kind::Local
 }

@@ -1,16 +1,16 @@
 -- A route as a record, read from a row and turned into a row again (document 01, "The state, words of 32 bits").
 -- Assumes nothing.
 use Rattle.std.specs.Prelude.{ℕ, ◌-◌, ◌≡◌, refl, Bool, true, false, cond, List, [], ◌∷◌, ◌++◌, eqb, leb, length, drop, Result, Ok, Err}
-use Rattle.std.specs.Result.{is_ok, result_unwrap_or}
+use Rattle.std.specs.Result.{result_unwrap_or}
 use Rattle.std.proofs.Common.{arith, sym, ap, ◌∙◌, eqb-true, leb-true}
 use Rattle.std.proofs.lemmas.Bool.{eqb-false}
 use Rattle.lists.specs.Lists.{Row}
-use Rattle.lists.specs.Bools.{test-case, and_iff, true-false}
+use Rattle.lists.specs.Bools.{test-case, and_iff}
 use Rattle.kind.specs.declared.Kind.{Kind}
 use Rattle.kind.specs.declared.Kind.TheVariants.{Unicast}
 use Rattle.kind.specs.declared.UnknownKind.{UnknownKind}
-use Rattle.kind.specs.Kind.{code_of, kind_of, is_kind}
-use Rattle.kind.specs.Laws.{kind-code, code-kind, is-kind-found}
+use Rattle.kind.specs.Kind.{code_of, kind_of}
+use Rattle.kind.specs.Laws.{kind-code, code-again}
 use Rattle.layout.specs.Address.{optional}
 use Rattle.layout.specs.Route as Route
 use Rattle.layout.specs.Route.{fit_route}
@@ -73,13 +73,6 @@ row_of r =
     ++ r.metrics
 
 -- ---- a fit row is had again from its record
-found-code : (n : ℕ) (f : Result Kind UnknownKind) → kind_of n ≡ f → is_ok f ≡ true → code_of (kind_in f) ≡ n
-found-code n (Ok k) e h = code-kind n k e
-found-code n (Err u) e h = absurd (true-false false h refl)
-
-kind-again : (n : ℕ) → is_kind n ≡ true → code_of (kind_in (kind_of n)) ≡ n
-kind-again n h = found-code n (kind_of n) refl (is-kind-found n ∙ h)
-
 bit-again : (n : ℕ) → leb n 1 ≡ true → bit_of (eqb n 1) ≡ n
 bit-again n h =
     test-case (eqb n 1)
@@ -93,7 +86,7 @@ row-again r h =
     let source : optional (Route.prefsrc_present r) (Route.prefsrc r) ≡ true = simp and_iff k.0.0.0.0.1 in
     let via : optional (Route.gateway_present r) (Route.gateway r) ≡ true = simp and_iff k.0.0.0.1 in
     rw (
-      kind-again (Route.kind r) k.0.0.0.0.0.0.0.1,
+      code-again (Route.kind r) Unicast k.0.0.0.0.0.0.0.1,
       mark-again (Route.prefsrc_present r) (Route.prefsrc r) source,
       value-again (Route.prefsrc_present r) (Route.prefsrc r) source,
       mark-again (Route.gateway_present r) (Route.gateway r) via,

@@ -3,12 +3,14 @@
 
 ghost use Rattle.std.specs.Prelude.{◌≡◌, ◌&&◌, ◌≤◌, leb, MatchOption};
 ghost use Rattle.lists.specs.Library.{lent, lent_ok};
+ghost use Rattle.kind.specs.Kind.{code_of};
 ghost use Rattle.layout.specs.Route.{table, len};
 ghost use Rattle.definition.specs.Reference.Lookup.{fits, answer, flow_to, settled, ruling};
 ghost use Rattle.rows_lookup.specs.Flow.{flow_of, set_of};
 ghost use Rattle.rows_lookup.specs.Answer.{answered, rules, lookup_rows};
 ghost use Rattle.rows_lookup.specs.AddrType.{type_rows, local_rows};
 
+use kind::Kind;
 use layout::{RouteRow, route};
 use refusal::Refusal;
 use rows::Routes;
@@ -144,16 +146,19 @@ pub fn lookup4_in<'a>(
     Err(Refusal::Errno(layout::NET_UNREACHABLE))
 }
 
-// The kind of the row that the set answers with; unicast where none does or it rejects, broadcast while the table isn't listed.
-pub fn addr_type4(routes: Routes<'_>, listed: bool, set: Tables, ip: u32) -> u32
-    ensures { result ≡ type_rows listed (set_of set) routes.entry.rows.now ip }
+// The kind of the row that the set answers with; unicast where none does or it rejects, broadcast while the table isn't listed. Each
+// row is fit, so its code is a kind's.
+pub fn addr_type4(routes: Routes<'_>, listed: bool, set: Tables, ip: u32) -> Kind
+    ensures { code_of result ≡ type_rows listed (set_of set) routes.entry.rows.now ip }
 {
     if !listed {
-        return layout::KIND_BROADCAST;
+        return Kind::Broadcast;
     }
     match table_lookup4(routes, set, Flow::to(ip)) {
-        Some(r) if !kind::rejects(r[route::KIND]) => r[route::KIND],
-        _ => layout::KIND_UNICAST,
+        Some(r) if !kind::rejects(r[route::KIND]) => {
+            Kind::try_from(r[route::KIND]).unwrap_or(Kind::Unicast)
+        }
+        _ => Kind::Unicast,
     }
 }
 
@@ -161,5 +166,5 @@ pub fn addr_type4(routes: Routes<'_>, listed: bool, set: Tables, ip: u32) -> u32
 pub fn local4(routes: Routes<'_>, local_listed: bool, ip: u32) -> bool
     ensures { result ≡ local_rows local_listed routes.entry.rows.now ip }
 {
-    local_listed && addr_type4(routes, local_listed, UPPER, ip) == layout::KIND_LOCAL
+    local_listed && addr_type4(routes, local_listed, UPPER, ip) == Kind::Local
 }
