@@ -1,16 +1,14 @@
 -- A route deleted: the first that is matches.
 -- Assumes nothing.
-use Rattle.std.specs.Prelude.{ℕ, suc, ◌+◌, ◌*◌, ◌≤◌, ◌<◌, ◌≡◌, false, List, [], ◌∷◌, ◌++◌, length, get_or, take, drop, position, Some, None}
-use Rattle.std.proofs.Common.{arith, sym, ap, ◌∙◌, eqb-true}
+use Rattle.std.specs.Prelude.{ℕ, suc, ◌+◌, ◌*◌, ◌≤◌, ◌<◌, ◌≡◌, List, [], ◌∷◌, ◌++◌, length, get_or, take, drop, position, Some, None}
+use Rattle.std.proofs.Common.{arith, sym, ap, ◌∙◌}
 use Rattle.std.proofs.Math.Option.{none, some}
 use Rattle.std.proofs.Math.ListN.{get_elem?}
 use Rattle.lists.specs.Lists.{Row, first, remove_first}
-use Rattle.lists.specs.Bools.{fails, and_iff}
 use Rattle.lists.specs.Count.{count}
 use Rattle.lists.specs.At.{remove_at, sized-at}
 use Rattle.lists.specs.Place.{first-at, remove_at_lem, nothing-from, something_at}
 use Rattle.lists.specs.Library.{found-place, missing-place}
-use Rattle.layout.specs.Route.{dst}
 use Rattle.layout.specs.Event.{del_route4}
 use Rattle.definition.specs.State.{State, with_routes}
 use Rattle.definition.specs.Words.{route_count}
@@ -22,12 +20,6 @@ use Rattle.step_events.specs.Tells.{Tells}
 use Rattle.step_events.specs.Emits.{Emits, does-none, does-one}
 use Rattle.step_events.specs.EmitsWithin.{RoomFor, SomeRoom, EmitsWithin, does-step}
 use Rattle.step_events.specs.declared.change.Change.{Change}
-
--- ---- the row that a deletion names
-pub matches_far : (p r : Row) → (dst p ≡ dst r → ⊥) → false ≡ matches p r
-unfolding matches
-matches_far p r h =
-    sym (fails (matches p r) (λ k. h (sym (eqb-true (dst r) (dst p) (simp and_iff at k).0.0.0.0.0.0.0.0.0.1))))
 
 -- ---- the deletion
 module _ (p : Row) (st : State) {a : Change} (h : Represents a.state.words.now st) where

@@ -13,14 +13,14 @@ use rows::Routes;
 use step_events::Change;
 
 // Whether the deletion of p names r. Most rows are to other destinations, so that is asked first.
+#[tactic(auto, unfolding(definition::specs::Reference::Insert::matches))]
 fn matches(p: &RouteRow, r: &RouteRow) -> bool
     ensures { result ≡ matches p.now r.now }
 {
-    if p[route::DST] != r[route::DST] {
+    if r[route::DST] != p[route::DST] {
         return false;
     }
     (r[route::TABLE] == p[route::TABLE])
-        & (r[route::DST] == p[route::DST])
         & (r[route::LEN] == p[route::LEN])
         & (r[route::TOS] == p[route::TOS])
         & (r[route::KIND] == p[route::KIND])
