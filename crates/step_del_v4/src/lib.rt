@@ -1,11 +1,11 @@
 // An address deleted by request: the first that meets each condition that is made.
 #![tactic(auto)]
 
-ghost use Rattle.std.specs.Prelude.{◌≡◌, eqb};
+ghost use Rattle.std.specs.Prelude.{◌≡◌, ◌&&◌, eqb};
 ghost use Rattle.std.specs.List.{find};
 ghost use Rattle.std.specs.Option.{option_map};
-ghost use Rattle.layout.specs.Address.{label};
-ghost use Rattle.layout.specs.Request.{label_given};
+ghost use Rattle.layout.specs.Address.{label, label_length};
+ghost use Rattle.layout.specs.Request.{label_given, label_length_given};
 ghost use Rattle.definition.specs.State.{State};
 ghost use Rattle.definition.specs.Reference.Removal.{deletes, del_v4};
 ghost use Rattle.definition.specs.Preservation.Shrinking.{potential};
@@ -14,14 +14,15 @@ ghost use Rattle.step_events.specs.Comes.{ComesWhole};
 
 use layout::{AddressRow, DelV4, address, del_v4};
 use refusal::Refusal;
+use row_address::Label;
 use rows::Addresses;
 use step_events::Change;
 
-// Whether the address has the label of the request.
+// Whether the address has the label of the request. A function of its own: in `deletes` the check doesn't find this.
 fn same_label(q: &DelV4, a: &AddressRow) -> bool
-    ensures { result ≡ eqb (label a.now) (label_given q.now) }
+    ensures { result ≡ (eqb (label_length a.now) (label_length_given q.now) && eqb (label a.now) (label_given q.now)) }
 {
-    a[address::LABEL..=address::LABEL_3] == q[del_v4::LABEL..=del_v4::LABEL_3]
+    Label::from(a) == Label::from(q)
 }
 
 // Whether the address a meets each condition of the request q.
@@ -30,8 +31,7 @@ fn deletes(q: &DelV4, a: &AddressRow) -> bool
     ensures { result ≡ deletes q.now a.now }
 {
     let local = q[del_v4::LOCAL_PRESENT] == 0 || a[address::LOCAL] == q[del_v4::LOCAL];
-    let label = q[del_v4::LABEL_PRESENT] == 0
-        || a[address::LABEL_LENGTH] == q[del_v4::LABEL_LENGTH] && same_label(q, a);
+    let label = q[del_v4::LABEL_PRESENT] == 0 || same_label(q, a);
     let prefix = q[del_v4::ADDRESS_PRESENT] == 0
         || a[address::PREFIX] == q[del_v4::PREFIX] && row_subnet::covers(a, q[del_v4::ADDRESS]);
     local && label && prefix
