@@ -1,5 +1,5 @@
 -- What the code's tests of a flag come to.
-use Rattle.std.specs.Prelude.{ℕ, ◌≡◌, Bool, not, ◌||◌, eqb}
+use Rattle.std.specs.Prelude.{◌≡◌, Bool, not, ◌||◌, eqb}
 use Rattle.std.proofs.Common.{ap₂}
 use Rattle.std.specs.Int.Bits.{bit_and}
 use Rattle.lists.specs.Lists.{Row}

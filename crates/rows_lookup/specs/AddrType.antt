@@ -2,7 +2,7 @@
 use Rattle.std.specs.Prelude.{ℕ, ◌≡◌, refl, Bool, true, cond, ◌&&◌, ◌||◌, List, eqb}
 use Rattle.std.specs.Result.{result_unwrap_or}
 use Rattle.std.proofs.Common.{subst}
-use Rattle.std.proofs.Math.Option.{Option, some}
+use Rattle.std.proofs.Math.Option.{some}
 use Rattle.lists.specs.Lists.{Row, all}
 use Rattle.lists.specs.Bools.{and_iff}
 use Rattle.kind.specs.declared.Kind.{Kind}
