@@ -80,7 +80,7 @@ fn changed<F: FnOnce(&mut Change<'_, '_>) -> Result<(), Refusal>>(
 pub fn up(state: &mut [u32], events: &mut [u32], clock: u64) -> Result<usize, Refusal>
     ensures { Answers (up_call (length events.old) clock state.old) state.new events.old events.new result }
 {
-    call_read::checked(state, EVENT_BUFFER <= events.len(), true, Ok(()))?;
+    call_read::checked(state, EVENT_BUFFER <= events.len(), Ok(()))?;
     changed(
         &mut state[..BASE_WORDS],
         events,
@@ -107,7 +107,7 @@ fn down_held(words: &mut [u32])
 pub fn down_lent(state: &mut [u32], room: usize, events: &mut [u32]) -> Result<usize, Refusal>
     ensures { Answers (down_call room state.old) state.new events.old events.new result }
 {
-    call_read::checked(state, EVENT_BUFFER <= room, true, Ok(()))?;
+    call_read::checked(state, EVENT_BUFFER <= room, Ok(()))?;
     down_held(&mut state[..BASE_WORDS]);
     Ok(0)
 }
@@ -119,7 +119,6 @@ pub fn expire(state: &mut [u32], events: &mut [u32], clock: u64) -> Result<usize
     call_read::checked(
         state,
         EVENT_BUFFER <= events.len(),
-        true,
         request_fit::fit_expire(clock),
     )?;
     changed(&mut state[..BASE_WORDS], events, |change| {
@@ -140,7 +139,7 @@ pub fn add_v4(
 {
     let q: &AddV4 = call_read::sized(q)?;
     let fit = request_fit::fit_add_v4(q);
-    call_read::checked(state, EVENT_BUFFER <= events.len(), true, fit)?;
+    call_read::checked(state, EVENT_BUFFER <= events.len(), fit)?;
     changed(
         &mut state[..BASE_WORDS],
         events,
@@ -154,7 +153,7 @@ pub fn del_v4(state: &mut [u32], q: &[u32], events: &mut [u32]) -> Result<usize,
 {
     let q: &DelV4 = call_read::sized(q)?;
     let fit = request_fit::fit_del_v4(q);
-    call_read::checked(state, EVENT_BUFFER <= events.len(), true, fit)?;
+    call_read::checked(state, EVENT_BUFFER <= events.len(), fit)?;
     changed(
         &mut state[..BASE_WORDS],
         events,
@@ -182,7 +181,7 @@ pub fn add_route4_lent(
 {
     let q: &AddRoute4 = call_read::sized(q)?;
     let fit = request_fit::fit_add_route4(q);
-    call_read::checked(state, EVENT_BUFFER <= room, true, fit)?;
+    call_read::checked(state, EVENT_BUFFER <= room, fit)?;
     changed(
         &mut state[..BASE_WORDS],
         events,
@@ -209,7 +208,7 @@ pub fn del_route4_lent(
 {
     let q: &DelRoute4 = call_read::sized(q)?;
     let fit = request_fit::fit_del_route4(q);
-    call_read::checked(state, EVENT_BUFFER <= room, true, fit)?;
+    call_read::checked(state, EVENT_BUFFER <= room, fit)?;
     changed(
         &mut state[..BASE_WORDS],
         events,

@@ -36,7 +36,7 @@ fn asked<const N: usize>(
     let q = call_read::sized(q)?;
     match prefixed(q, at) {
         Ok(own) => Ok(own),
-        Err(bad) => call_read::checked(state, EVENT_BUFFER <= room, true, Err(bad)),
+        Err(bad) => call_read::checked(state, EVENT_BUFFER <= room, Err(bad)),
     }
 }
 

@@ -4,6 +4,7 @@ use Rattle.std.specs.Prelude.{Ok, Err, ◌≢◌, ℕ, ◌≡◌, refl, Bool, tr
 use Rattle.std.specs.Prelude.{IsErrAnd, IfOk}
 use Rattle.std.specs.Prelude.{Result as Answer}
 use Rattle.std.specs.Prelude.{Some, None, Option as Chosen}
+use Rattle.std.specs.Option.{is_some, ok_or}
 use Rattle.std.proofs.lemmas.Result.{err_from_is_err_and}
 use denote.Ref.{Bor}
 use Rattle.std.proofs.Common.{subst, arith, ◌∙◌, eqb-true}
@@ -11,12 +12,11 @@ use Rattle.std.proofs.Math.Path.{sym, ap}
 use mathlib.Core.List.{List, append-nil}
 use Rattle.std.proofs.Math.Option.{Option}
 use Rattle.std.proofs.lemmas.Bool.{eqb-false}
-use Rattle.std.specs.Bool.{then_some}
 use Rattle.lists.specs.Lists.{Row, flat, put}
 use Rattle.lists.specs.Put.{put-no-rows}
 use Rattle.lists.specs.Bools.{cond-case, and_left}
 use Rattle.refusal.specs.declared.Refusal.{Refusal}
-use Rattle.refusal.specs.declared.Refusal.TheVariants.{Errno}
+use Rattle.refusal.specs.declared.Refusal.TheVariants.{Malformed, Errno}
 use Rattle.refusal.specs.Refusal.{number_of, Refuses, unless}
 use Rattle.definition.specs.State.{State}
 use Rattle.definition.specs.Words.{base_size, state_size, base, state_of, formed}
@@ -30,15 +30,30 @@ use Rattle.definition.specs.Preservation.Encode.{Admissible}
 use Rattle.definition.proofs.Preservation.Step.{base-long, good-held, checked-held, checked-passes, acted, perform-case}
 use Rattle.lists.specs.Library.{own, lent_ok}
 use Rattle.rows_lookup.specs.Answer.{answered}
+use Rattle.row_address.specs.V4.{optional_of}
 use Rattle.state.specs.Represents.{Represents, represents, holds-decode}
 use Rattle.state.specs.Stored.{formed-represents}
 use Rattle.call_read.specs.Answer.{Says, Writes, Numbers, found_number, rows_in, valuing, nothing, flag, optional, refused_by}
 
 -- ---- the answers of checks
--- a row's, as the code found it
-pub row-checked : {A : Type 0} (r : Answer A Refusal) (row : Bool) (w : List ℕ) {b : Bool} → b ≡ row → Refuses r (checked (record { buffers = true; row = b; request = 0 }) w)
+-- a row handed over, as a request: it is refused where it doesn't fit
+pub handed : {A : Type 0} (o : Chosen A) {r : Answer A Refusal} {b : Bool} → r ≡ ok_or o Malformed → is_some o ≡ b → Refuses r (cond b 0 201)
+handed {A} o e f = rw (e, ← f) (go o)
+  where
+    go : (o : Chosen A) → Refuses (ok_or o Malformed) (cond (is_some o) 0 201)
+    go (Some x) = refl
+    go None = (refl, λ z. omega arith)
+
+-- and so is the call, as of a row that was looked at with the state
+pub row-request : {A : Type 0} (r : Answer A Refusal) (row : Bool) (w : List ℕ) → Refuses r (checked (record { buffers = true; row = true; request = cond row 0 201 }) w)
     → Refuses r (checked (record { buffers = true; row = row; request = 0 }) w)
-row-checked r row w e h = subst (λ (b : Bool). Refuses r (checked (record { buffers = true; row = b; request = 0 }) w)) e h
+row-request r row w h = subst (Refuses r) (go (eqb (length w) state_size && true) (formed w) row) h
+  where
+    go : (a b c : Bool) → ◌≡◌ {A = ℕ} (cond a (cond (b && true) (cond c 0 201) 201) 200) (cond a (cond (b && c) 0 201) 200)
+    go true true true = refl
+    go true true false = refl
+    go true false c = refl
+    go false b c = refl
 
 module _ {A : Type 0} {r : Answer A Refusal} {n : ℕ} (h : Refuses r n) where
   -- one that passed has no number, one that refuses has its own
@@ -62,9 +77,8 @@ pub state-long : (n : ℕ) (b : Bool) (e : Refusal) {r : Answer (Unit {0}) Refus
 state-long n b e f g = eqb-true n state_size (and_left (eqb n state_size) b (unless-went (eqb n state_size && b) e f g))
 
 -- the second: the first words hold a state
-pub formed-held : (w : List ℕ) (row : Bool) (e : Refusal) {r : Answer (Unit {0}) Refusal} {a : Unit {0}} → length w ≡ state_size → r ≡ Ok a → r ≡ unless (formed w && row) e
-    → represents (base w) ≡ true
-formed-held w row e l f g = formed-represents (base w) (base-long w l) (and_left (formed w) row (unless-went (formed w && row) e f g))
+pub formed-held : (w : List ℕ) (e : Refusal) {r : Answer (Unit {0}) Refusal} {a : Unit {0}} → length w ≡ state_size → r ≡ Ok a → r ≡ unless (formed w) e → represents (base w) ≡ true
+formed-held w e l f g = formed-represents (base w) (base-long w l) (unless-went (formed w) e f g)
 
 -- a request behind both
 pub passing : {A : Type 0} (r : Answer A Refusal) (w : List ℕ) → length w ≡ state_size → represents (base w) ≡ true
@@ -171,8 +185,8 @@ pub valuing-answer : (a v : ℕ) → a ≡ v → Says valuing (valued v) (Ok a)
 valuing-answer a v e = record { refuses = refl; says = ap valuing e }
 
 -- a value beside its mark
-pub own-present : (mark v : ℕ) {o : Chosen ℕ} → o ≡ then_some (eqb mark 1) v → own o ≡ present mark v
-own-present mark v {o} e = ap own e ∙ cond-case (λ (d : Option ℕ). own (then_some (eqb mark 1) v) ≡ d) (eqb mark 1) (λ t. rw t) (λ t. rw t)
+pub own-present : (mark v : ℕ) {o : Chosen ℕ} → o ≡ optional_of mark v → own o ≡ present mark v
+own-present mark v {o} e = ap own e ∙ cond-case (λ (d : Option ℕ). own (optional_of mark v) ≡ d) (eqb mark 1) (λ t. rw t) (λ t. rw t)
 
 pub optional-answer : (r : Chosen ℕ) {o : Option ℕ} → own r ≡ o → Says optional (optionally o) (Ok r)
 optional-answer None e = rw (← e) (record { refuses = refl; says = refl })

@@ -17,19 +17,15 @@ use refusal::Refusal;
 use rows_lookup::Flow;
 use state::Stored;
 
-// What every call asks, in order: the lengths of what it is lent, the state with a row handed over, the request.
-pub fn checked<T: Drop>(
-    s: &[u32],
-    buffers: bool,
-    handed: bool,
-    request: Result<T, Refusal>,
-) -> Result<T, Refusal>
-    ensures refuses { (n : ℕ) → Refuses request n → Refuses result (checked (record { buffers = buffers; row = handed; request = n }) s.now) }
+// What every call asks, in order: the lengths of what it is lent, the state, the request. A row handed over that could stand in no
+// state is a request refused as the state is.
+pub fn checked<T: Drop>(s: &[u32], buffers: bool, request: Result<T, Refusal>) -> Result<T, Refusal>
+    ensures refuses { (n : ℕ) → Refuses request n → Refuses result (checked (record { buffers = buffers; row = true; request = n }) s.now) }
     ensures passes { IfOk result (λ t. (length s.now ≡ state_size) × (represents (base s.now) ≡ true) × (request ≡ Ok t)) }
 {
     refusal::unless((s.len() == STATE_WORDS) & buffers, Refusal::WrongLength)?;
     let formed = state_well_formed::well_formed(&s[..BASE_WORDS]);
-    refusal::unless(formed & handed, Refusal::Malformed)?;
+    refusal::unless(formed, Refusal::Malformed)?;
     request
 }
 
@@ -37,13 +33,12 @@ pub fn checked<T: Drop>(
 pub fn reading<T: Drop>(
     s: &[u32],
     buffers: bool,
-    handed: bool,
     request: Result<T, Refusal>,
 ) -> Result<(Stored<'_>, T), Refusal>
-    ensures refuses { (n : ℕ) → Refuses request n → Refuses result (checked (record { buffers = buffers; row = handed; request = n }) s.now) }
+    ensures refuses { (n : ℕ) → Refuses request n → Refuses result (checked (record { buffers = buffers; row = true; request = n }) s.now) }
     ensures passes { IfOk result (λ r. (r.0.words.now ≡ base s.now) × (request ≡ Ok r.1)) }
 {
-    let request = checked(s, buffers, handed, request)?;
+    let request = checked(s, buffers, request)?;
     let words = &s[..BASE_WORDS];
     Ok((Stored { words }, request))
 }
@@ -70,17 +65,7 @@ fn look(s: Stored<'_>, row: &mut [u32], f: Flow) -> Result<(), Refusal>
 pub fn lookup4(state: &[u32], row: &mut [u32], ip: u32) -> Result<(), Refusal>
     ensures { Writes nothing (lookup4_call (length row.old) ip state.now).reply row.old row.new result }
 {
-    let (s, ()) = reading(state, ROUTE_WORDS <= row.len(), true, Ok(()))?;
-    look(
-        s,
-        row,
-        Flow {
-            ip,
-            tos: 0,
-            scope: 0,
-            oif: 0,
-        },
-    )
+    lookup4_flow(state, row, ip, 0, 0)
 }
 
 // The same for a type of service and a device, 0 for any.
@@ -93,29 +78,22 @@ pub fn lookup4_flow(
 ) -> Result<(), Refusal>
     ensures { Writes nothing (lookup4_flow_call (length row.old) ip tos oif state.now).reply row.old row.new result }
 {
-    let (s, ()) = reading(
-        state,
-        ROUTE_WORDS <= row.len(),
-        true,
-        request_fit::fit_flow(tos),
-    )?;
-    look(
-        s,
-        row,
-        Flow {
-            ip,
-            tos,
-            scope: 0,
-            oif,
-        },
-    )
+    let fit = request_fit::fit_flow(tos);
+    let (s, ()) = reading(state, ROUTE_WORDS <= row.len(), fit)?;
+    let f = Flow {
+        ip,
+        tos,
+        scope: 0,
+        oif,
+    };
+    look(s, row, f)
 }
 
 // Whether the address is the loopback's.
 pub fn local4(state: &[u32], ip: u32) -> Result<bool, Refusal>
     ensures { Says flag (local4_call ip state.now).reply result }
 {
-    let (s, ()) = reading(state, true, true, Ok(()))?;
+    let (s, ()) = reading(state, true, Ok(()))?;
     Ok(state_read::local4(s, ip))
 }
 
@@ -123,16 +101,16 @@ pub fn local4(state: &[u32], ip: u32) -> Result<bool, Refusal>
 pub fn source(state: &[u32], ip: u32) -> Result<u32, Refusal>
     ensures { Says valuing (source_call ip state.now).reply result }
 {
-    let (s, ()) = reading(state, true, true, Ok(()))?;
+    let (s, ()) = reading(state, true, Ok(()))?;
     Ok(state_read::source(s, ip))
 }
 
-// The source address for a route, handed over as any words: fit ones are as many as a row has.
+// The source address for a route, handed over as any words.
 pub fn source4(state: &[u32], row: &[u32], ip: u32) -> Result<Option<u32>, Refusal>
     ensures { Says optional (source4_call row.now ip state.now).reply result }
 {
-    let (s, ()) = reading(state, true, row_route::fit_route(row), Ok(()))?;
-    let row = sized(row)?;
+    let row = row_route::fit_route(row).ok_or(Refusal::Malformed);
+    let (s, row) = reading(state, true, row)?;
     Ok(state_read::source4(s, row, ip))
 }
 
@@ -145,13 +123,8 @@ pub fn select4(
 ) -> Result<Option<u32>, Refusal>
     ensures { Says optional (select4_call dst_present dst scope state.now).reply result }
 {
-    let (s, ()) = reading(
-        state,
-        true,
-        true,
-        request_fit::fit_select(dst_present, dst, scope),
-    )?;
-    let dst = (dst_present == 1).then_some(dst);
+    let dst = request_fit::fit_select(dst_present, dst, scope);
+    let (s, dst) = reading(state, true, dst)?;
     Ok(state_read::select4(s, dst, scope))
 }
 
@@ -159,6 +132,6 @@ pub fn select4(
 pub fn dump4(state: &[u32], listing: &mut [u32]) -> Result<usize, Refusal>
     ensures { Writes valuing (dump4_call (length listing.old) state.now).reply listing.old listing.new result }
 {
-    let (s, ()) = reading(state, LISTING_BUFFER <= listing.len(), true, Ok(()))?;
+    let (s, ()) = reading(state, LISTING_BUFFER <= listing.len(), Ok(()))?;
     Ok(state_read::list(s, listing))
 }

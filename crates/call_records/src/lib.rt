@@ -65,17 +65,6 @@ fn primary_of_in(s: Stored<'_>, row: &AddressRow) -> u32
     primary_of(records(s.addresses(), &mut room), V4::from(row))
 }
 
-// A row that could stand in a well-formed state, of any words.
-fn handed(row: &[u32]) -> Result<&AddressRow, Refusal>
-    ensures refuses { Refuses result (cond (fit_address row.now) 0 201) }
-    ensures value { IfOk result (λ r. r.now ≡ row.now) }
-{
-    match row.as_array() {
-        Some(r) if row_address::fit_address(r) => Ok(r),
-        _ => Err(Refusal::Malformed),
-    }
-}
-
 // The call on the words of a state.
 pub fn select4_words(
     state: &[u32],
@@ -85,13 +74,8 @@ pub fn select4_words(
 ) -> Result<Option<u32>, Refusal>
     ensures { Says optional (select4_call dst_present dst scope state.now).reply result }
 {
-    let (s, ()) = call_read::reading(
-        state,
-        true,
-        true,
-        request_fit::fit_select(dst_present, dst, scope),
-    )?;
-    let dst = (dst_present == 1).then_some(dst);
+    let dst = request_fit::fit_select(dst_present, dst, scope);
+    let (s, dst) = call_read::reading(state, true, dst)?;
     Ok(select4_in(s, dst, scope))
 }
 
@@ -99,6 +83,7 @@ pub fn select4_words(
 pub fn primary_of_words(state: &[u32], row: &[u32]) -> Result<u32, Refusal>
     ensures { Says valuing (primary_of_call row.now state.now).reply result }
 {
-    let (s, row) = call_read::reading(state, true, true, handed(row))?;
+    let row = row_address::fit_address(row).ok_or(Refusal::Malformed);
+    let (s, row) = call_read::reading(state, true, row)?;
     Ok(primary_of_in(s, row))
 }

@@ -1,10 +1,11 @@
 // Which requests are fit: every field within its width, and what is absent 0. Of other words than its own a request is unfit.
 #![tactic(auto)]
 
-ghost use Rattle.std.specs.Prelude.{◌≡◌, ◌&&◌, leb, ltb, ◌≤◌, length};
+ghost use Rattle.std.specs.Prelude.{◌≡◌, ◌&&◌, leb, ltb, ◌≤◌, length, IfOk};
 ghost use Rattle.refusal.specs.Refusal.{Refuses};
 ghost use Rattle.layout.specs.Request.{add_v4_size, del_v4_size, add_route4_size, del_route4_size, fit_del_v4, fit_route_words, pairs, fit_pairs, pair_count, fit_add_route4, fit_del_route4};
 ghost use Rattle.layout.specs.Address.{optional};
+ghost use Rattle.row_address.specs.V4.{optional_of};
 ghost use Rattle.definition.specs.Step.{unless, add_v4_refusal, clock_limit};
 
 use layout::{
@@ -21,14 +22,16 @@ pub fn fit_flow(tos: u32) -> Result<(), Refusal>
     refusal::unless(tos < 256, Refusal::Unfit)
 }
 
-// The mark and the address beside it are words, as the C interface hands them over: whether they are fit is asked here.
-pub fn fit_select(dst_present: u32, dst: u32, scope: u32) -> Result<(), Refusal>
-    ensures { Refuses result (unless (optional dst_present dst && ltb scope 256) 202) }
+// The mark and the address beside it are words, as the C interface hands them over. Where they are fit, they are handed on as one.
+pub fn fit_select(dst_present: u32, dst: u32, scope: u32) -> Result<Option<u32>, Refusal>
+    ensures refuses { Refuses result (unless (optional dst_present dst && ltb scope 256) 202) }
+    ensures value { IfOk result (λ d. d ≡ optional_of dst_present dst) }
 {
     refusal::unless(
         row_address::fit_optional(dst_present, dst) & (scope < 256),
         Refusal::Unfit,
-    )
+    )?;
+    Ok(row_address::optional_of(dst_present, dst))
 }
 
 // The greatest clock to which the allowance can still be added.

@@ -2,6 +2,7 @@
 #![tactic(auto)]
 
 ghost use Rattle.std.specs.Prelude.{◌≡◌, ℕ, true, ◌+◌, ◌-◌, ◌*◌, ◌^◌, get_or};
+ghost use Rattle.std.specs.Option.{is_some, IfSome};
 ghost use Rattle.prefix.specs.Mask.{mask};
 ghost use Rattle.layout.specs.Flags.{has_bit, set_bit, clear_bit};
 ghost use Rattle.layout.specs.Address.{optional, fit_label, fit_address};
@@ -266,19 +267,19 @@ pub fn fit_optional(present: u32, value: u32) -> bool
     (present == 1) | ((present == 0) & (value == 0))
 }
 
-// Whether a row could stand in a well-formed state. The tests have no branches between them, since rows are asked one after another.
+// The row, if it could stand in a well-formed state. The tests have no branches between them, since rows are asked one after another.
 #[tactic(auto, unfolding(layout::specs::Address::fit_address))]
-pub fn fit_address(row: &[u32]) -> bool
-    ensures { result ≡ fit_address row.now }
+pub fn fit_address(row: &[u32]) -> Option<&AddressRow>
+    ensures fits { is_some result ≡ fit_address row.now }
+    ensures same { IfSome result (λ r. r.now ≡ row.now) }
 {
-    let Some(row) = row.as_array::<ADDRESS_WORDS>() else {
-        return false;
-    };
-    (row[address::PREFIX] <= 32)
+    let row = row.as_array::<ADDRESS_WORDS>()?;
+    let fit = (row[address::PREFIX] <= 32)
         & fit_optional(row[address::BROADCAST_PRESENT], row[address::BROADCAST])
         & (row[address::SCOPE] < 256)
         & (row[address::PROTO] < 256)
-        & Label::from(row).fits()
+        & Label::from(row).fits();
+    fit.then_some(row)
 }
 
 // What is left of the lifetimes of an address, handed over as any row of words.
@@ -286,9 +287,6 @@ pub fn left(row: &[u32], clock: u64) -> Result<Left, Refusal>
     ensures value { result ≡ left_reply row.now clock }
     ensures result_value { reply_of result ≡ left_call row.now clock }
 {
-    if !fit_address(row) {
-        return Err(Refusal::Malformed);
-    }
-    let row = row.as_array::<ADDRESS_WORDS>().unwrap();
+    let row = fit_address(row).ok_or(Refusal::Malformed)?;
     Ok(V4::from(row).left(Nanoseconds(clock)))
 }

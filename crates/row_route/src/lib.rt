@@ -2,6 +2,7 @@
 #![tactic(auto)]
 
 ghost use Rattle.std.specs.Prelude.{◌≡◌, ◌≤◌, eqb, true};
+ghost use Rattle.std.specs.Option.{is_some, IfSome};
 ghost use Rattle.prefix.specs.Mask.{host_bits};
 ghost use Rattle.layout.specs.Route.{fit_route, before};
 ghost use Rattle.row_route.specs.Route4.{route4_of, row_of};
@@ -91,17 +92,16 @@ fn no_host_bits(ip: u32, prefix: u32) -> bool
     ((ip as u64) << prefix) & 0xffff_ffff == 0
 }
 
-// The row could stand in a well-formed state. Tests of one kind are side by side, so that they are done as one.
-pub fn fit_route(r: &[u32]) -> bool
-    ensures { result ≡ fit_route r.now }
+// The row, if it could stand in a well-formed state. Tests of one kind are side by side, so that they are done as one.
+pub fn fit_route(r: &[u32]) -> Option<&RouteRow>
+    ensures fits { is_some result ≡ fit_route r.now }
+    ensures same { IfSome result (λ row. row.now ≡ r.now) }
 {
-    let Some(r) = r.as_array::<ROUTE_WORDS>() else {
-        return false;
-    };
+    let r = r.as_array::<ROUTE_WORDS>()?;
     if 32 < r[route::LEN] {
-        return false;
+        return None;
     }
-    no_host_bits(r[route::DST], r[route::LEN])
+    let fit = no_host_bits(r[route::DST], r[route::LEN])
         & (r[route::TOS] < 256)
         & (r[route::PROTO] < 256)
         & (r[route::SCOPE] < 256)
@@ -110,7 +110,8 @@ pub fn fit_route(r: &[u32]) -> bool
         & row_address::fit_optional(r[route::GATEWAY_PRESENT], r[route::GATEWAY])
         & (r[route::DEVICE] <= 1)
         & (r[route::ONLINK] <= 1)
-        & (r[route::USES_GATEWAY] <= 1)
+        & (r[route::USES_GATEWAY] <= 1);
+    fit.then_some(r)
 }
 
 // The place of a is before that of b. Most rows differ in their destinations, so these are asked first. By hand: a pass over 250 such

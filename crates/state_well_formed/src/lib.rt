@@ -22,7 +22,9 @@ use refusal::Refusal;
 fn addresses_form(addresses: &[AddressRow]) -> bool
     ensures { result ≡ all fit_address addresses.now }
 {
-    addresses.iter().all(|a| row_address::fit_address(a))
+    addresses
+        .iter()
+        .all(|a| row_address::fit_address(a).is_some())
 }
 
 // A row is none of those behind it, where they are in order. Only those of its own place are compared: the others have a later
@@ -87,7 +89,7 @@ fn all_in_place(routes: &[RouteRow]) -> bool
 fn routes_form(routes: &[RouteRow]) -> bool
     ensures { result ≡ all fit_route routes.now && ordered routes.now && distinct routes.now }
 {
-    routes.iter().all(|r| row_route::fit_route(r)) & all_in_place(routes)
+    routes.iter().all(|r| row_route::fit_route(r).is_some()) & all_in_place(routes)
 }
 
 // A number is one of those behind it, each of which has set the bit that its low six bits name: where its own is not set it is

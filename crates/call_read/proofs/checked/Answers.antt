@@ -1,6 +1,5 @@
 -- `call_read::checked` meets its contract: lengths first, then the form of the words and the row, then the request.
 use Rattle.std.proofs.Common.{sym, ap, ◌∙◌, length, Bool}
-use Rattle.std.specs.Prelude.{◌&&◌}
 use Rattle.definition.proofs.Preservation.Step.{base-long}
 use Rattle.refusal.specs.Refusal.{unless}
 use Rattle.refusal.specs.declared.Refusal.TheVariants.{WrongLength, Malformed}
@@ -18,5 +17,4 @@ pub returns-clause-passes : goal.returns-clause-passes
 returns-clause-passes g c =
     let long = state-long (length c.args.s.now) c.args.buffers WrongLength c.in_ok-unless.was c.unless.ensures in
     passing c.args.request c.args.s.now long
-    (formed-held c.args.s.now c.args.handed Malformed long c.in_ok-unless-2.was
-    (c.unless-2.ensures ∙ ap (λ (b : Bool). unless (b && c.args.handed) Malformed) c.well_formed-formed.ensures))
+    (formed-held c.args.s.now Malformed long c.in_ok-unless-2.was (c.unless-2.ensures ∙ ap (λ (b : Bool). unless b Malformed) c.well_formed-formed.ensures))
