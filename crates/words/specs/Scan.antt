@@ -56,4 +56,3 @@ scanned first k n l =
     ∙ rw (or_none, turned (or_all (drop (n * k) l)), or_zero) (and_assoc (eqb first 0) (all_zero (drop (n * k) l)) (all_zero (take (n * k) l)))
     ∙ ap (λ (b : Bool). eqb first 0 && b) (and_comm (all_zero (drop (n * k) l)) (all_zero (take (n * k) l)) ∙ sym (zero_append (take (n * k) l) (drop (n * k) l)) ∙ ap all_zero (take-append-drop (n * k) l))
     ∙ ap (λ (b : Bool). b && all_zero l) (sym (turned first))
-
