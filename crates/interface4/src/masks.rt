@@ -62,7 +62,7 @@ fn refuse(state: &[u8], room: usize, bad: Refusal) -> Reply
     }
     let mut s = [0u32; STATE_WORDS];
     endian::words_of(state, &mut s);
-    Reply::of(call_read::checked::<()>(&s, true, true, Err(bad)))
+    Reply::of(call_read::checked::<()>(&s, true, Err(bad)))
 }
 
 // A request of N words with the prefix in the place of the mask, each word as its bytes, or the reply that refuses it.
