@@ -6,8 +6,7 @@ use Rattle.std.proofs.Math.Option.{Option, none, some}
 use Rattle.std.proofs.Math.Seq.{drop-nil}
 use Rattle.lists.specs.Lists.{each, keep, put, zeros, pad}
 use Rattle.lists.specs.Keep.{each_append}
-use Rattle.lists.specs.Rows.{length-put}
-use Rattle.lists.specs.Put.{put-none, put-behind, put-take, put_whole}
+use Rattle.lists.specs.Put.{put-take, put_whole}
 use Rattle.netlink.specs.Attributes.{Attribute, last}
 use Rattle.netlink.specs.Reader.{given, types, metric, unknown_metric, metrics_asked, pair, pairs_asked}
 
@@ -97,26 +96,6 @@ pairs-more l k g h =
     ∙ ap (λ (t : ℕ). pairs_before l k ++ (f t ++ [])) (type_at k g h)
     ∙ ap (λ (x : List ℕ). pairs_before l k ++ x) (append-nil (f k))
 
-pub pairs-begun : (l : List Attribute) → replicate 36 0 ≡ put 2 (pairs_before l 1) (replicate 36 0)
-unfolding pairs_before
-pairs-begun l = put-none 2 (replicate 36 0)
-
-pub pairs-put : (l : List Attribute) (w₀ w : List ℕ) (at k : ℕ) → length w₀ ≡ 36 → 1 ≤ k → k < 18 → at ≡ 2 + length (pairs_before l k)
-    → w ≡ put 2 (pairs_before l k) w₀ → put at (pair k (last k l)) w ≡ put 2 (pairs_before l (k + 1)) w₀
-pairs-put l w₀ w at k n g h e f =
-    ap (λ (i : ℕ). put i (pair k (last k l)) w) e
-    ∙ ap (put (2 + length (pairs_before l k)) (pair k (last k l))) f
-    ∙ put-behind 2 (pairs_before l k) w₀ (omega (arith, pairs-room l k g)) (pair k (last k l)) (omega (arith, pairs-room l k g, pair-short k (last k l)))
-    ∙ ap (λ (x : List ℕ). put 2 x w₀) (sym (pairs-more l k g h))
-
-pub pairs-long : (l : List Attribute) (w₀ : List ℕ) (k : ℕ) → length w₀ ≡ 36 → 1 ≤ k → k ≤ 18 → length (put 2 (pairs_before l k) w₀) ≡ 36
-pairs-long l w₀ k n g h = length-put 2 (pairs_before l k) w₀ (omega (arith, pairs-room l k g)) ∙ n
-
-pub pairs_next : (l : List Attribute) (at k : ℕ) → 1 ≤ k → k < 18 → at ≡ 2 + length (pairs_before l k)
-    → at + length (pair k (last k l)) ≡ 2 + length (pairs_before l (k + 1))
-pairs_next l at k g h e =
-    omega (arith, ap length (pairs-more l k g h), length-append (pairs_before l k) (pair k (last k l)))
-
 -- all of them
 abbrev is_given : List Attribute → ℕ → Bool
 is_given l t = given (last t l)
@@ -142,18 +121,19 @@ drop-replicate (suc n) (suc m) =
     let one : suc m - suc n ≡ m - n = omega arith in
     rw one (drop-replicate n m)
 
-pub pairs-ended : (l : List Attribute) (w : List ℕ) (at k : ℕ) → 18 ≤ k → at ≡ 2 + length (pairs_before l k) → w ≡ put 2 (pairs_before l k) (replicate 36 0)
-    → unknown_metric l ≡ false → set (set w 0 1) 1 (at / 2 - 1) ≡ pairs_asked l
+pub pairs-ended : (l : List Attribute) (w : List ℕ) (k : ℕ) → 18 ≤ k → w ≡ put 2 (pairs_before l k) (replicate 36 0)
+    → unknown_metric l ≡ false → set (set w 0 1) 1 (length (pairs_before l k) / 2) ≡ pairs_asked l
 unfolding pairs_asked pairs_before put pad
-pairs-ended l w at k h e f u =
+pairs-ended l w k h f u =
     let all : take (k - 1) types ≡ types = take_all (k - 1) types (omega arith) in
     let v : List ℕ = pairs_of l types in
     let long : length (pairs_of l (take (k - 1) types)) ≡ length v = ap (λ (ts : List ℕ). length (pairs_of l ts)) all in
-    let count : at / 2 - 1 ≡ length (keep (is_given l) types) = omega (arith, counted l types) in
+    let count : length (pairs_of l (take (k - 1) types)) / 2 ≡ length (keep (is_given l) types) = omega (arith, long, counted l types) in
+    let n : ℕ = length (pairs_of l (take (k - 1) types)) / 2 in
     let behind : drop (2 + length v) (replicate 36 0) ≡ zeros (34 - length v) = drop-replicate (2 + length v) 36 ∙ ap zeros (omega arith) in
-    ap (λ (x : List ℕ). set (set x 0 1) 1 (at / 2 - 1)) (f ∙ ap (λ (ts : List ℕ). put 2 (pairs_of l ts) (replicate 36 0)) all)
-    ∙ ap (λ (d : List ℕ). 1 ∷ (at / 2 - 1) ∷ (v ++ d)) behind
-    ∙ ap (λ (n : ℕ). 1 ∷ n ∷ (v ++ zeros (34 - length v))) count
+    ap (λ (x : List ℕ). set (set x 0 1) 1 n) (f ∙ ap (λ (ts : List ℕ). put 2 (pairs_of l ts) (replicate 36 0)) all)
+    ∙ ap (λ (d : List ℕ). 1 ∷ n ∷ (v ++ d)) behind
+    ∙ ap (λ (m : ℕ). 1 ∷ m ∷ (v ++ zeros (34 - length v))) count
     ∙ sym (ap (λ (b : Bool). cond b (zeros 36) (1 ∷ length (keep (is_given l) types) ∷ pad 34 v)) u)
 
 pub pairs-refused : (l : List Attribute) → unknown_metric l ≡ true → replicate 36 0 ≡ pairs_asked l

@@ -3,12 +3,14 @@
 #![tactic(auto)]
 
 ghost use Rattle.std.specs.Prelude.{◌≡◌, ◌&&◌, not, ◌++◌, ◌+◌, ◌≤◌, ◌<◌, length};
+ghost use Rattle.arrayvec.specs.ArrayVec.{array_vec_len};
 ghost use Rattle.lists.specs.Lists.{put};
 ghost use Rattle.layout.specs.Flags.{has_bit};
 ghost use Rattle.netlink.specs.Attributes.{attributes, last};
 ghost use Rattle.netlink.specs.Codes.{replace_bit, excl_bit};
 ghost use Rattle.netlink.specs.Reader.{label_words, new_addr, del_addr, route_words, unknown_metric, metrics_asked, pair, pairs_asked, new_route, del_route};
 
+use arrayvec::ArrayVec;
 use layout::{AddRoute4, AddV4, DelRoute4, DelV4, INVALID, add_route4};
 use netlink::codes;
 use netlink_attributes::fields::Table;
@@ -167,17 +169,15 @@ pub fn new_route(message: Message, up: u32) -> AddRoute4
     row
 }
 
-// A metric that is there, as a pair of its index and its value at a place; the place behind it.
-fn append(metrics: &Table, k: usize, words: &mut [u32], at: usize) -> usize
-    requires { (1 ≤ k) × (k < 18) × (at + 2 ≤ length words.old) }
-    ensures value { result ≡ at + length (pair k (last k (attributes metrics.now.bytes.now))) }
-    ensures words_after { words.new ≡ put at (pair k (last k (attributes metrics.now.bytes.now))) words.old }
+// A metric that is there, as a pair of its index and its value behind the others.
+fn append(metrics: &Table, k: usize, pairs: &mut ArrayVec<u32, 34>)
+    requires { (1 ≤ k) × (k < 18) × (array_vec_len pairs.old + 2 ≤ 34) }
+    ensures { pairs.new.items ≡ pairs.old.items ++ pair k (last k (attributes metrics.now.bytes.now)) }
 {
-    let Some(metric) = metrics.last(k) else {
-        return at;
-    };
-    words::store(words, at, &[(k - 1) as u32, bytes::word(metric, 0)]);
-    at + 2
+    if let Some(metric) = metrics.last(k) {
+        pairs.push((k - 1) as u32);
+        pairs.push(bytes::word(metric, 0));
+    }
 }
 
 // Whether there is a list, the number of its pairs and the pairs.
@@ -189,13 +189,13 @@ fn pairs_asked(metrics: &Table) -> [u32; 36]
     if has_unknown(metrics) {
         return words;
     }
-    // Counted by hand, since only the metrics that are there take a place; a `fold` would have the words in its closure.
-    let mut at = 2;
+    let mut pairs = ArrayVec::new();
     for k in 1..=codes::RTAX_MAX {
-        at = append(metrics, k, &mut words, at);
+        append(metrics, k, &mut pairs);
     }
+    words::store(&mut words, 2, pairs.as_slice());
     words[0] = 1;
-    words[1] = (at / 2 - 1) as u32;
+    words[1] = (pairs.len() / 2) as u32;
     words
 }
 

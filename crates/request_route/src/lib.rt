@@ -8,6 +8,7 @@ ghost use Rattle.refusal.specs.declared.Refusal.TheVariants.{Errno};
 
 use layout::{AddRoute4, ROUTE_WORDS, RouteRow, add_route4, route};
 use refusal::{Refusal, unless};
+use row_address::has;
 
 // Table 0 is 254. A slice of at least the words that both requests begin with, since one to add and one to delete differ in length.
 pub fn table_named(q: &[u32]) -> u32
@@ -29,19 +30,17 @@ pub fn bad_prefix(q: &[u32]) -> bool
 }
 
 // No request may set RTNH_F_DEAD or RTNH_F_LINKDOWN.
-#[tactic(auto, using(crate::specs::Laws::dead_says))]
 fn dead_flags(q: &AddRoute4) -> bool
     ensures { result ≡ dead_flags q.now }
 {
-    (q[add_route4::FLAGS] & 0x01 != 0) | (q[add_route4::FLAGS] & 0x10 != 0)
+    has(q[add_route4::FLAGS], 0x01) | has(q[add_route4::FLAGS], 0x10)
 }
 
 // RTNH_F_ONLINK.
-#[tactic(auto, using(crate::specs::Laws::onlink_says))]
 pub fn onlink_flag(q: &AddRoute4) -> bool
     ensures { result ≡ onlink_flag q.now }
 {
-    q[add_route4::FLAGS] & 0x04 != 0
+    has(q[add_route4::FLAGS], 0x04)
 }
 
 // What a kind that isn't one of the seven is refused with.

@@ -18,6 +18,9 @@ use Rattle.row_address.specs.declared.V4.{V4}
 abbrev pub optional_of : ℕ → ℕ → Option ℕ
 optional_of present value = cond (eqb present 1) (Some value) None
 
+abbrev pub label_from : Row → Label
+label_from w = record { len = get_or w 0 0; words = get_or w 1 0 ∷ get_or w 2 0 ∷ get_or w 3 0 ∷ get_or w 4 0 ∷ [] }
+
 abbrev pub label_of : Row → Label
 label_of a = record { len = Address.label_length a; words = get_or a 9 0 ∷ get_or a 10 0 ∷ get_or a 11 0 ∷ get_or a 12 0 ∷ [] }
 

@@ -8,7 +8,7 @@ ghost use Rattle.layout.specs.Flags.{has_bit, set_bit, clear_bit};
 ghost use Rattle.layout.specs.Address.{optional, fit_label, fit_address};
 ghost use Rattle.definition.specs.Reference.Addresses.{life_flags};
 ghost use Rattle.definition.specs.Step.{left_call};
-ghost use Rattle.row_address.specs.V4.{v4_of, optional_of, label_of, label_asked, life_of, secondary_v4, covers_v4, set_life_v4, left_v4};
+ghost use Rattle.row_address.specs.V4.{v4_of, optional_of, label_from, label_of, label_asked, life_of, secondary_v4, covers_v4, set_life_v4, left_v4};
 ghost use Rattle.row_address.specs.Words.{row_of};
 ghost use Rattle.row_address.specs.Row.{word_ends, left_reply, reply_of};
 
@@ -163,19 +163,23 @@ pub fn optional_of(present: u32, value: u32) -> Option<u32>
     (present == 1).then_some(value)
 }
 
+// A label's length and its four words, as rows and requests have them side by side.
+impl From<[u32; 5]> for Label {
+    ghost from_gives = { λ w l. l ≡ label_from w };
+
+    fn from([len, first, second, third, fourth]: [u32; 5]) -> Label {
+        Label {
+            len,
+            words: [first, second, third, fourth],
+        }
+    }
+}
+
 impl From<&AddressRow> for Label {
     ghost from_gives = { λ row l. l ≡ label_of row.now };
 
     fn from(row: &AddressRow) -> Label {
-        Label {
-            len: row[address::LABEL_LENGTH],
-            words: [
-                row[address::LABEL],
-                row[address::LABEL_1],
-                row[address::LABEL_2],
-                row[address::LABEL_3],
-            ],
-        }
+        Label::from(*row[address::LABEL_LENGTH..].first_chunk::<5>().unwrap())
     }
 }
 
@@ -184,15 +188,7 @@ impl From<&AddV4> for Label {
     ghost from_gives = { λ q l. l ≡ label_of q.now };
 
     fn from(q: &AddV4) -> Label {
-        Label {
-            len: q[address::LABEL_LENGTH],
-            words: [
-                q[address::LABEL],
-                q[address::LABEL_1],
-                q[address::LABEL_2],
-                q[address::LABEL_3],
-            ],
-        }
+        Label::from(*q[address::LABEL_LENGTH..].first_chunk::<5>().unwrap())
     }
 }
 
@@ -200,15 +196,7 @@ impl From<&DelV4> for Label {
     ghost from_gives = { λ q l. l ≡ label_asked q.now };
 
     fn from(q: &DelV4) -> Label {
-        Label {
-            len: q[del_v4::LABEL_LENGTH],
-            words: [
-                q[del_v4::LABEL],
-                q[del_v4::LABEL_1],
-                q[del_v4::LABEL_2],
-                q[del_v4::LABEL_3],
-            ],
-        }
+        Label::from(*q[del_v4::LABEL_LENGTH..].first_chunk::<5>().unwrap())
     }
 }
 

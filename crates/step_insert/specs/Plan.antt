@@ -13,7 +13,6 @@ use Rattle.lists.specs.Lists.{Row, any, first, replace_first, eq_row}
 use Rattle.lists.specs.At.{insert_at, length-insert_at}
 use Rattle.lists.specs.Place.{place_of, replace_at, first-at, something_at}
 use Rattle.layout.specs.Flags.{has_bit}
-use Rattle.layout.specs.Bits.{has_and}
 use Rattle.layout.specs.Route.{alike}
 use Rattle.definition.specs.State.{State, with_routes}
 use Rattle.definition.specs.Words.{decode, ordered, fit_state, address_count}
@@ -130,9 +129,6 @@ rows_after Insert.nothing old = old
 rows_after (Insert.unplaced n) old = old
 
 -- a flag as the code tests it
-pub flag_is : (k f : ℕ) (b t : Bool) → b ≡ not (eqb (bit_and f (2 ^ k)) 0) → b ≡ t → has_bit k f ≡ t
-flag_is k f b t e g = sym (has_and k f) ∙ sym e ∙ g
-
 -- ---- places
 pub placed-created : (n flags place emitted : ℕ) → place ≤ n → placed n (created flags place emitted)
 placed-created n flags place emitted h = cond-case (placed n) (create_flag flags) (λ e. h) (λ e. refl)

@@ -1,8 +1,7 @@
 // A route put into its place among the rows.
 #![tactic(auto)]
 
-ghost use Rattle.std.specs.Prelude.{◌≡◌, true, [], not, ◌+◌, ◌≤◌, eqb, length};
-ghost use Rattle.std.specs.Int.Bits.{bit_and};
+ghost use Rattle.std.specs.Prelude.{◌≡◌, true, [], ◌+◌, ◌≤◌, length};
 ghost use Rattle.std.specs.Ordering.{is_lt, is_eq};
 ghost use Rattle.layout.specs.Route.{fit_route};
 ghost use Rattle.definition.specs.State.{State, with_routes};
@@ -15,6 +14,7 @@ ghost use Rattle.step_insert.specs.Plan.{planned, placed, created, replacing, am
 
 use layout::{ROUTE_LIMIT, RouteRow, route};
 use refusal::Refusal;
+use row_address::has;
 use rows::Routes;
 use state::StoredMut;
 use std::cmp::Ordering;
@@ -105,12 +105,6 @@ const EXCL: u32 = 0x200;
 const CREATE: u32 = 0x400;
 
 const APPEND: u32 = 0x800;
-
-fn has(flags: u32, bit: u32) -> bool
-    ensures { result ≡ not (eqb (bit_and flags bit) 0) }
-{
-    flags & bit != 0
-}
 
 fn created(flags: u32, place: usize, emitted: u32) -> Result<Option<Placement>, Refusal>
     ensures { result ≡ created flags place emitted }
