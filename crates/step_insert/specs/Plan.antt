@@ -1,18 +1,16 @@
 -- What an insertion is to do, as a place among the rows.
 -- Assumes nothing.
-use Rattle.std.specs.Prelude.{ℕ, ◌^◌, ◌≤◌, ◌<◌, ◌≡◌, refl, Bool, cond, not, eqb, leb, get_or}
+use Rattle.std.specs.Prelude.{ℕ, ◌≤◌, ◌<◌, ◌≡◌, refl, Bool, cond, not, leb, get_or}
 use Rattle.std.proofs.Common.{sym, ◌∙◌, arith, length-set}
 use Rattle.std.proofs.Math.Path.{ap}
 use Rattle.std.proofs.Math.Bool.{true, false, not-not}
 use mathlib.Core.List.{List, []}
 use Rattle.std.proofs.Math.Option.{some}
-use Rattle.std.specs.Int.Bits.{bit_and}
 use Rattle.std.proofs.Math.ListN.{length, set, get_elem?}
 use borrow.Author.Tests.{lt-ltb, le-ltb, le-leb, lt-leb}
 use Rattle.lists.specs.Lists.{Row, any, first, replace_first, eq_row}
 use Rattle.lists.specs.At.{insert_at, length-insert_at}
 use Rattle.lists.specs.Place.{place_of, replace_at, first-at, something_at}
-use Rattle.layout.specs.Flags.{has_bit}
 use Rattle.layout.specs.Route.{alike}
 use Rattle.definition.specs.State.{State, with_routes}
 use Rattle.definition.specs.Words.{decode, ordered, fit_state, address_count}
