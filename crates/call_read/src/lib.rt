@@ -1,4 +1,5 @@
-// The calls of the host that read a state, on lent words. Each refuses unfit input and then writes nothing.
+// The calls of the host that read a state, on lent words. Each refuses unfit input and then writes nothing. Their arguments are those
+// that C hands over: what may be absent is a mark and a word.
 #![tactic(auto)]
 
 ghost use Rattle.std.specs.Prelude.{◌≡◌, ◌≢◌, MatchResult, IfOk, ℕ, Ok, true, [], ◌≤◌, ◌<◌, length, get_or};
@@ -89,7 +90,7 @@ pub fn lookup4_flow(
     look(s, row, f)
 }
 
-// Whether the address is the loopback's.
+// Whether the address is the loopback's. A line of `reading` and one of its own call, here and in `source`.
 pub fn local4(state: &[u32], ip: u32) -> Result<bool, Refusal>
     ensures { Says flag (local4_call ip state.now).reply result }
 {

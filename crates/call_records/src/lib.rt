@@ -57,6 +57,7 @@ fn select4_in(s: Stored<'_>, dst: Option<u32>, scope: u32) -> Option<u32>
     select4(records(s.addresses(), &mut room), dst, scope)
 }
 
+// That the row is fit is a clause: a struct around it would be made for this one call.
 fn primary_of_in(s: Stored<'_>, row: &AddressRow) -> u32
     requires { fit_address row.now ≡ true }
     ensures { (st : State) → Represents s.entry.words.now st → result ≡ primary_of st.addresses row.now }
@@ -65,7 +66,8 @@ fn primary_of_in(s: Stored<'_>, row: &AddressRow) -> u32
     primary_of(records(s.addresses(), &mut room), V4::from(row))
 }
 
-// The call on the words of a state.
+// The call on the words of a state, with a mark and a word for what may be absent: a public function asks for no narrower type than it
+// did.
 pub fn select4_words(
     state: &[u32],
     dst_present: u32,

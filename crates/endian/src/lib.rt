@@ -18,13 +18,13 @@ pub fn words_of(bytes: &[u8], out: &mut [u32])
     }
 }
 
-// The bytes that the words are, at the start of out.
+// The bytes that the words are, at the start of out: into lent bytes, as `words_of`.
 pub fn bytes_of(words: &[u32], out: &mut [u8])
     requires { 4 * length words.now ≤ length out.old }
     ensures { out.new ≡ put 0 (bytes_of words.now) out.old }
 {
     // By index: tried with `first_chunk_mut` and `unwrap`, and with `if let`, which take as long, but it didn't prove that out holds the
-    // word then; of `as_chunks_mut` a proof knows nothing afterwards.
+    // word then; behind `as_chunks_mut` a proof knows only how long it is.
     for (i, word) in words.iter().enumerate() {
         let [a, b, c, d] = word.to_le_bytes();
         out[4 * i] = a;

@@ -31,7 +31,7 @@ pub fn addr_type(routes: Routes<'_>, listed: bool, t: u32, ip: u32) -> Kind
     rows_lookup::addr_type4(routes, listed, type_set(t), ip)
 }
 
-// The table that a preferred source may be local in, besides 255.
+// The table that a preferred source may be local in, besides 255. By its number: a request may name any.
 pub fn prefsrc_table(t: u32) -> u32
     ensures { result ≡ prefsrc_table t }
 {
@@ -41,7 +41,7 @@ pub fn prefsrc_table(t: u32) -> u32
     t
 }
 
-// A local route's own destination, or an address that is local in the route's table or in 255.
+// A local route's own destination, or an address that is local in the route's table or in 255. A slice, as `table_named` takes it.
 #[tactic(auto, unfolding(crate::specs::Rows::prefsrc_rows))]
 pub fn valid_prefsrc4(routes: Routes<'_>, q: &[u32], own_listed: bool, local_listed: bool) -> bool
     requires { 12 ≤ length q.now }

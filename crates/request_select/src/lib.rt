@@ -36,7 +36,7 @@ fn same_fields(q: &DelRoute4, r: &RouteRow) -> bool
 }
 
 // A row has every metric that the request names.
-// That the request is fit is a clause, here and below: a struct around it would be made at each call for this one.
+// That the request is fit is a clause, here and below: it is read by place and handed on as its array, so a struct would be taken apart in each.
 #[tactic(auto, using(crate::specs::Laws::count_fits))]
 fn has_metrics(q: &DelRoute4, r: &RouteRow) -> bool
     requires { fit_del_route4 q.now ≡ true }

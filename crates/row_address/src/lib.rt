@@ -98,7 +98,7 @@ impl V4 {
         prefix::mask4(self.prefix)
     }
 
-    // Whether `ip` is in its subnet.
+    // Whether `ip` is in its subnet. By value, as document 01 asks; rows and records alike are asked by row_subnet.
     pub fn covers(self, ip: u32) -> bool
         ensures { result ≡ covers_v4 self ip }
     {

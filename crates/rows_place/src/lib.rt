@@ -58,7 +58,7 @@ fn in_subnet(addresses: Addresses<'_>, q: &AddV4) -> bool
 }
 
 // The row that a request becomes: a secondary where an address of its subnet is there.
-// That the request is fit is a clause: a struct around it would be made at each call for this one.
+// That the request is fit is a clause: it is read by place and handed on as its array, so a struct would be taken apart in each.
 pub fn fresh(addresses: Addresses<'_>, q: &AddV4, clock: Nanoseconds) -> AddressRow
     requires { fit_add_v4 q.now ≡ true }
     ensures fits { fit_address result ≡ true }

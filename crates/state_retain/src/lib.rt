@@ -44,7 +44,7 @@ fn settle(s: &mut [u32], i: usize, j: usize) -> usize
     j + 1
 }
 
-// Of n rows j remain: zeros for the others, and the count.
+// Of n rows j remain: zeros for the others, and the count. By counts, since the words lie where they are lent.
 fn close(s: &mut [u32], n: usize, j: usize)
     requires { (j ≤ n) × (n ≤ 256) × (routes_at + 32 * n ≤ length s.old) }
     ensures { s.new ≡ set (put (routes_at + 32 * j) (zeros (32 * (n - j))) s.old) 1 j }

@@ -20,7 +20,7 @@ pub fn tables<'a>(s: Stored<'a>) -> &'a [u32]
     &s.words[TABLES_AT..end]
 }
 
-// By `any`: `contains` compares by groups, and a state has few tables, of which every route put in asks four times.
+// By `any`: `contains` compares by groups, and a state has few tables, which each route that is put in asks for two to four times.
 pub fn listed(s: Stored<'_>, t: u32) -> bool
     ensures { result ≡ among t (tables_of s.entry.words.now) }
 {

@@ -32,7 +32,7 @@ fn step_of(came: Result<(), Refusal>) -> Result<(), Refusal>
 }
 
 // A requested address put in, or the one that is there changed, where the request says so.
-// That the request is fit is a clause: a struct around it would be made at each call for this one.
+// That the request is fit is a clause: it is read by place and handed on as its array, so a struct would be taken apart in each.
 pub fn add_v4(change: &mut Change<'_, '_>, q: &AddV4, clock: Nanoseconds) -> Result<(), Refusal>
     requires q_fit { fit_add_v4 q.now ≡ true }
     requires in_bounds { 34 * (change.old.told + 5) ≤ length change.old.events.now }

@@ -1,4 +1,5 @@
 // An address deleted by request: the first that meets each condition that is made.
+// A step is no method of `Change`, and asks for its room, for the reasons that step_events gives.
 #![tactic(auto)]
 
 ghost use Rattle.std.specs.Prelude.{◌≡◌, ◌&&◌, eqb};

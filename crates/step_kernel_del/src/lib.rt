@@ -1,4 +1,5 @@
 // The route that a deletion names, taken out and told.
+// A step is no method of `Change`, and asks for its room, for the reasons that step_events gives.
 #![tactic(auto)]
 
 ghost use Rattle.std.specs.Prelude.{◌≡◌, ◌+◌, ◌*◌, ◌≤◌, ◌<◌, length, position};
@@ -12,7 +13,8 @@ use layout::{RouteRow, route};
 use rows::Routes;
 use step_events::Change;
 
-// Whether the deletion of p names r. Most rows are to other destinations, so that is asked first.
+// Whether the deletion of p names r. Most rows are to other destinations, so that is asked first. No equality: a priority of 0 names
+// any, and gateway and metrics aren't asked.
 #[tactic(auto, unfolding(definition::specs::Reference::Insert::matches))]
 fn matches(p: &RouteRow, r: &RouteRow) -> bool
     ensures { result ≡ matches p.now r.now }

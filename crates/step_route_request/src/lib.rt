@@ -22,7 +22,7 @@ use state::Stored;
 use step_events::Change;
 
 // The first row that the request names goes. No table is listed.
-// That the request is fit is a clause, here and below: a struct around it would be made at each call for this one.
+// That the request is fit is a clause, here and below: it is read by place and handed on as its array, so a struct would be taken apart in each.
 pub fn del_route4(change: &mut Change<'_, '_>, q: &DelRoute4) -> Result<(), Refusal>
     requires fit { fit_del_route4 q.now ≡ true }
     requires in_bounds { 34 * (change.old.told + 1) ≤ length change.old.events.now }

@@ -66,7 +66,7 @@ impl<'a> Text<'a> {
         self.number(d);
     }
 
-    // A route's line: 75 bytes at most.
+    // A route's line: 75 bytes at most. A slice: a public function asks for no narrower type than it did.
     pub fn line(&mut self, r: &[u32])
         requires words { 6 ≤ length r.now }
         requires room { self.old.len + 75 ≤ length self.old.out.now }

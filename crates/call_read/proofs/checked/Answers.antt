@@ -1,4 +1,4 @@
--- `call_read::checked` meets its contract: lengths first, then the form of the words and the row, then the request.
+-- `call_read::checked` meets its contract: lengths first, then the form of the words, then the request.
 use Rattle.std.proofs.Common.{sym, ap, ◌∙◌, length, Bool}
 use Rattle.definition.proofs.Preservation.Step.{base-long}
 use Rattle.refusal.specs.Refusal.{unless}
