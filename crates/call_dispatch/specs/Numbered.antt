@@ -1,5 +1,5 @@
 -- Every call by the number that the list of answers gives it (host/README.md, "The list of answers"), and what making it does.
-use Rattle.std.specs.Prelude.{ℕ, ◌+◌, ◌*◌, ◌≡◌, Bool, cond, List, eqb, leb, Ok, Err}
+use Rattle.std.specs.Prelude.{ℕ, ◌+◌, ◌*◌, ◌≡◌, Bool, cond, List, eqb, leb, Ok, Err, is_ok}
 use Rattle.std.specs.Prelude.{Result as Answer}
 use Rattle.lists.specs.Lists.{Row, flat, put}
 use Rattle.layout.specs.Request.{add_v4_size, del_v4_size, add_route4_size, del_route4_size}
@@ -112,6 +112,9 @@ call_of c =
     (cond (eqb c 14) (Ok Select4)
     (cond (eqb c 15) (Ok Left)
     (Err (record { 0 = c }))))))))))))))))
+
+abbrev pub is_call : ℕ → Bool
+is_call c = is_ok (call_of c)
 
 -- a call with this result was made on the buffer b: its reply, the state's words and the buffer afterwards
 pub record Did (x : Result) (b : List ℕ) (r : Reply) (w' b' : List ℕ) : Type 0 where

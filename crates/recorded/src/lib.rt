@@ -5,8 +5,11 @@
 pub mod record;
 
 ghost use Rattle.std.specs.Prelude.{◌≡◌, get_or};
+ghost use Rattle.std.specs.Result.{result_ok};
+ghost use Rattle.call_dispatch.specs.Numbered.{call_of};
 ghost use Rattle.recorded.specs.Record.{check_of, fit, verdict_of, held_after, buffer_after};
 
+use call_dispatch::numbered::Call;
 use layout::{EVENT_BUFFER, STATE_WORDS};
 use record::Record;
 
@@ -34,8 +37,7 @@ pub fn whole(r: &[u32]) -> bool
     }
     (r[record::CHECK] == check(&r[1..]))
         & (r[record::LENGTH] as usize == r.len())
-        & (1 <= r[record::CALL])
-        & (r[record::CALL] <= 15)
+        & Call::try_from(r[record::CALL]).is_ok()
         & (r[record::RESTARTS] <= 1)
         & (r[record::STATE] as usize <= HELD_WORDS)
         & (r[record::BUFFER] as usize <= EVENT_BUFFER)
@@ -45,11 +47,11 @@ pub fn whole(r: &[u32]) -> bool
         & (r[record::CHANGES_END] as usize <= r.len())
 }
 
-// The number of the record's call, 0 where there is none.
-pub fn code(r: &[u32]) -> u32
-    ensures { result ≡ get_or r.now 2 0 }
+// The record's call, where its number is one's.
+pub fn call(r: &[u32]) -> Option<Call>
+    ensures { result ≡ result_ok (call_of (get_or r.now 2 0)) }
 {
-    r.get(record::CALL).copied().unwrap_or(0)
+    Call::try_from(*r.get(record::CALL)?).ok()
 }
 
 #[derive(Clone, Copy, Debug, PartialEq, Eq)]

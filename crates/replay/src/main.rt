@@ -75,7 +75,7 @@ struct Replay {
 impl Replay {
     // A record of some words.
     fn judge(&mut self, rt: &impl Print, i: u32, record: &[u32]) -> Result<(), Unread> {
-        let call = Call::try_from(recorded::code(record)).map_err(|_| Unread::Damaged)?;
+        let call = recorded::call(record).ok_or(Unread::Damaged)?;
         let mut buffer = filled();
         let verdict = recorded::judge(record, &mut self.held, &mut buffer);
         let tally = &mut self.tallies[u32::from(call) as usize];
@@ -141,11 +141,8 @@ fn replay_records(rt: &impl Print, input: &mut impl Read, records: u32) {
 fn head(input: &mut impl Read) -> Option<u32> {
     let mut head = [0u32; 5];
     streams::read_words(input, &mut head).ok()?;
-    if head[0].to_le_bytes() == *b"NKV2" && head[4] == recorded::check(&head[..4]) {
-        Some(head[3])
-    } else {
-        None
-    }
+    let whole = head[0].to_le_bytes() == *b"NKV2" && head[4] == recorded::check(&head[..4]);
+    whole.then_some(head[3])
 }
 
 fn replay_list(rt: &impl Print, input: &mut impl Read) {
