@@ -81,11 +81,7 @@ fn replay_list(rt: &impl Print, input: &mut impl Read, records: u32) {
 // How many records the list has, whose first word is "NKM1" in its bytes.
 fn records(input: &mut impl Read) -> Option<u32> {
     let [magic, _, records] = read_head(input)?;
-    if magic.to_le_bytes() == *b"NKM1" {
-        Some(records)
-    } else {
-        None
-    }
+    (magic.to_le_bytes() == *b"NKM1").then_some(records)
 }
 
 fn main(rt: HostRuntime) {
