@@ -1,8 +1,7 @@
 // select4 and primary_of over addresses as records: a lent slice of `V4`, and above it the words of a state.
 #![tactic(auto)]
 
-ghost use Rattle.std.specs.Prelude.{◌≡◌, ◌≤◌, true, cond, map, length, IfOk};
-ghost use Rattle.refusal.specs.Refusal.{Refuses};
+ghost use Rattle.std.specs.Prelude.{◌≡◌, ◌≤◌, true, map, length};
 ghost use Rattle.lists.specs.Library.{own};
 ghost use Rattle.layout.specs.Address.{fit_address};
 ghost use Rattle.row_address.specs.Words.{row_of};
@@ -35,6 +34,7 @@ pub fn primary_of(addresses: &[V4], a: V4) -> u32
 }
 
 // The records of rows, in lent room.
+// An array and no `ArrayVec`, which fills its room with `V4::default()`: there is no address by default.
 fn records<'a>(addresses: Addresses<'_>, room: &'a mut [V4; ADDRESS_LIMIT]) -> &'a [V4]
     requires { length addresses.rows.now ≤ 64 }
     ensures { map row_of result.now ≡ addresses.entry.rows.now }
