@@ -67,9 +67,7 @@ pub fn fit_add_v4(q: &[u32]) -> Result<(), Refusal>
 pub fn fit_del_v4(q: &[u32]) -> Result<(), Refusal>
     ensures { length q.now ≡ del_v4_size → Refuses result (unless (fit_del_v4 q.now) 202) }
 {
-    let Some(q) = q.as_array::<DEL_V4_WORDS>() else {
-        return Err(Refusal::Unfit);
-    };
+    let q = q.as_array::<DEL_V4_WORDS>().ok_or(Refusal::Unfit)?;
     let fit = (q[del_v4::PREFIX] <= 32)
         & row_address::fit_optional(q[del_v4::LOCAL_PRESENT], q[del_v4::LOCAL])
         & row_address::fit_optional(q[del_v4::ADDRESS_PRESENT], q[del_v4::ADDRESS])
@@ -100,9 +98,7 @@ const GREATEST_ERRNO: u32 = 133;
 pub fn fit_add_route4(q: &[u32]) -> Result<(), Refusal>
     ensures { length q.now ≡ add_route4_size → Refuses result (unless (fit_add_route4 q.now) 202) }
 {
-    let Some(q) = q.as_array::<ADD_ROUTE4_WORDS>() else {
-        return Err(Refusal::Unfit);
-    };
+    let q = q.as_array::<ADD_ROUTE4_WORDS>().ok_or(Refusal::Unfit)?;
     let fit = fit_route_words(q)
         & (q[add_route4::REQUEST] < 65536)
         & (q[add_route4::METRICS_ERROR] <= GREATEST_ERRNO)
@@ -132,9 +128,7 @@ fn fit_pairs(q: &DelRoute4) -> bool
 pub fn fit_del_route4(q: &[u32]) -> Result<(), Refusal>
     ensures { length q.now ≡ del_route4_size → Refuses result (unless (fit_del_route4 q.now) 202) }
 {
-    let Some(q) = q.as_array::<DEL_ROUTE4_WORDS>() else {
-        return Err(Refusal::Unfit);
-    };
+    let q = q.as_array::<DEL_ROUTE4_WORDS>().ok_or(Refusal::Unfit)?;
     let fields = fit_route_words(q)
         & row_address::fit_optional(q[del_route4::LIST_PRESENT], q[del_route4::PAIR_COUNT]);
     let counted = q[del_route4::PAIR_COUNT] <= 17 && fit_pairs(q);
