@@ -50,10 +50,7 @@ fn on_change<'a, 'b, F: FnOnce(&mut Change<'_, '_>) -> Result<(), Refusal>>(
         told,
     } = change;
     let StoredMut { words } = state;
-    let told = match came {
-        Ok(()) => Ok(told),
-        Err(refusal) => Err(refusal),
-    };
+    let told = came.map(|()| told);
     Ended {
         words,
         events,

@@ -1,7 +1,6 @@
 -- `call_change::on_change` meets its contract.
-use Rattle.std.proofs.Common.{refl, sym, ◌∙◌}
+use Rattle.std.proofs.Common.{refl, rules}
 use Rattle.call_change.proofs.on_change.Goals as goal
-use Rattle.call_change.proofs.on_change.Goals.{in-Ok, in-Err}
 
 pub returns : goal.returns
 returns g c =
@@ -17,8 +16,5 @@ returns g c =
       events_from = refl;
       events_to = refl;
       rows = refl;
-      answer = elim c.match-came.branch [
-        | in-Ok w ↦ w.told-is ∙ sym (rw w.in-Ok.is)
-        | in-Err w ↦ w.told-is ∙ sym (rw w.in-Err.is)
-      ];
+      answer = search rules;
     }
