@@ -4,7 +4,7 @@ use Rattle.std.specs.Prelude.{ℕ, ◌≡◌, refl, Bool, true, false, cond, ◌
 use Rattle.std.specs.List.{fold}
 use Rattle.std.proofs.Common.{sym, ap, ◌∙◌}
 use Rattle.std.proofs.Math.Option.{Option, none, some}
-use Rattle.lists.specs.Lists.{all}
+use Rattle.lists.specs.Lists.{all, any}
 use Rattle.lists.specs.Bools.{and_left, and_right, test-case}
 use Rattle.netlink.specs.Attributes.{Attribute, last_after, last}
 
@@ -45,6 +45,19 @@ module _ {B : Type 0} (k : ℕ) (g : List ℕ → B) where
       rw (w, good) (kept f (g a.payload) l rest ∙ sym (later b (some a.payload) l)))
       (λ w. rw w (kept f b l rest))
 
+-- the last of a code fits, where all of them do
+pub last-fits : (k : ℕ) (f : List ℕ → Bool) (o : Option (List ℕ)) (l : List Attribute) → chosen f true o ≡ true → all (fits k f) l ≡ true
+    → chosen f true (last_after k o l) ≡ true
+unfolding last_after
+last-fits k f o [] g h = g
+last-fits k f o (a ∷ l) g h =
+    let here = and_left (fits k f a) (all (fits k f) l) h in
+    let rest = and_right (fits k f a) (all (fits k f) l) h in
+    test-case (eqb a.code k)
+    (λ w. let good : f a.payload ≡ true = rw w at here in
+    rw w (last-fits k f (some a.payload) l good rest))
+    (λ w. rw w (last-fits k f o l g rest))
+
 module _ {A S B : Type 0} (step : S → A → S) (p : S → B) (g : B → A → B) (e : (s : S) (a : A) → p (step s a) ≡ g (p s) a) where
   -- a part of what is kept goes by itself
   pub part : (s : S) (l : List A) → p (fold step s l) ≡ fold g (p s) l
@@ -57,3 +70,9 @@ module _ {A : Type 0} (q : A → Bool) where
   flagged false [] = refl
   flagged true (a ∷ l) = flagged (q a) l
   flagged false (a ∷ l) = flagged false l
+
+  pub raised : (b : Bool) (l : List A) → fold (λ b a. b || q a) b l ≡ b || any q l
+  raised true [] = refl
+  raised false [] = refl
+  raised true (a ∷ l) = raised true l
+  raised false (a ∷ l) = raised (q a) l
