@@ -28,7 +28,7 @@ pub struct Asked {
 }
 
 // ---- each request at the front of the lent words; how many words it has
-#[inline]
+#[inline(always)]
 fn new_addr(message: Message, up: u32, words: &mut [u32]) -> Result<u32, Refusal>
     requires { (24 ≤ length message.bytes.now) × (18 ≤ length words.old) }
     ensures {
@@ -41,7 +41,7 @@ fn new_addr(message: Message, up: u32, words: &mut [u32]) -> Result<u32, Refusal
     Ok(ADD_V4_WORDS as u32)
 }
 
-#[inline]
+#[inline(always)]
 fn del_addr(message: Message, words: &mut [u32]) -> Result<u32, Refusal>
     requires { (24 ≤ length message.bytes.now) × (11 ≤ length words.old) }
     ensures {
@@ -54,7 +54,7 @@ fn del_addr(message: Message, words: &mut [u32]) -> Result<u32, Refusal>
     Ok(DEL_V4_WORDS as u32)
 }
 
-#[inline]
+#[inline(always)]
 fn new_route(message: Message, up: u32, words: &mut [u32]) -> Result<u32, Refusal>
     requires { (28 ≤ length message.bytes.now) × (34 ≤ length words.old) }
     ensures {
@@ -68,7 +68,7 @@ fn new_route(message: Message, up: u32, words: &mut [u32]) -> Result<u32, Refusa
     Ok(ADD_ROUTE4_WORDS as u32)
 }
 
-#[inline]
+#[inline(always)]
 fn del_route(message: Message, words: &mut [u32]) -> Result<u32, Refusal>
     requires { (28 ≤ length message.bytes.now) × (49 ≤ length words.old) }
     ensures {
@@ -84,7 +84,7 @@ fn del_route(message: Message, words: &mut [u32]) -> Result<u32, Refusal>
 
 // That of a message.
 #[tactic(auto, unfolding(netlink::specs::Reader::request))]
-#[inline]
+#[inline(always)]
 fn request(message: Message, up: u32, words: &mut [u32]) -> Result<u32, Refusal>
     requires { 49 ≤ length words.old }
     ensures {
@@ -100,7 +100,7 @@ fn request(message: Message, up: u32, words: &mut [u32]) -> Result<u32, Refusal>
 }
 
 // A message into the request that the base judges; `up` goes into the requests that have it.
-#[inline]
+#[inline(always)]
 pub fn read(message: &[u8], words: &mut [u32], up: u32) -> Result<Asked, Refusal>
     ensures refuses { Refuses result (read_call (length words.old) up message.now).number }
     ensures says { answer_by asked_by result ≡ numbers (read_call (length words.old) up message.now) }

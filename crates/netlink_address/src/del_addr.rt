@@ -30,7 +30,7 @@ impl Fields for DelAddr {
 
     ghost step = { del_addr_step };
 
-    #[inline]
+    #[inline(always)]
     fn take(&mut self, a: Attribute) {
         match a.code {
             codes::IFA_ADDRESS => match bytes::address(a.payload) {
@@ -70,7 +70,7 @@ impl DelAddr {
         }
     }
 
-    #[inline]
+    #[inline(always)]
     pub fn read(message: Message) -> Result<Self, Refusal>
         ensures refuses {
             Refuses result (judged (family message.entry.bytes.now) (right message.entry.body.now) (sizes rtm_del_addr (attributes message.entry.body.now)))
@@ -84,7 +84,7 @@ impl DelAddr {
     }
 
     // The words of the request.
-    #[inline]
+    #[inline(always)]
     pub fn words(self, m: &[u8]) -> DelV4
         requires { 24 ≤ length m.now }
         ensures { result ≡ del_addr_words m.now self }

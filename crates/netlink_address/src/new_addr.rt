@@ -46,7 +46,7 @@ impl Fields for NewAddr {
 
     ghost step = { new_addr_step };
 
-    #[inline]
+    #[inline(always)]
     fn take(&mut self, a: Attribute) {
         match a.code {
             codes::IFA_ADDRESS => match bytes::address(a.payload) {
@@ -120,7 +120,7 @@ impl NewAddr {
         self.is_sized && self.local.is_some()
     }
 
-    #[inline]
+    #[inline(always)]
     pub fn read(message: Message) -> Result<Self, Refusal>
         requires { 24 ≤ length message.bytes.now }
         ensures refuses {
@@ -137,7 +137,7 @@ impl NewAddr {
     }
 
     // The words of the request.
-    #[inline]
+    #[inline(always)]
     pub fn words(self, m: &[u8], up: u32) -> AddV4
         requires { 24 ≤ length m.now }
         ensures { result ≡ new_addr_words up m.now self }

@@ -1,6 +1,6 @@
 // Numbers in lent bytes: those of a header, where what is read past an end is 0, as in the definitions, and those of a payload, which has
 // just their bytes.
-ghost use Rattle.std.specs.Prelude.{◌≡◌, ◌≢◌, ◌<◌, ◌≤◌, get_or, length, MatchOption};
+ghost use Rattle.std.specs.Prelude.{ℕ, ◌≡◌, ◌≢◌, ◌<◌, ◌≤◌, get_or, length, MatchOption};
 ghost use Rattle.netlink.specs.Attributes.{u16};
 ghost use Rattle.netlink.specs.Reader.{u32, byte, number, address, preferred_in, valid_in, label, label_words};
 
@@ -68,6 +68,17 @@ fn label(p: &[u8]) -> &[u8]
     &p[..end]
 }
 
+// A label's bytes, and zeros behind them.
+#[inline]
+fn zero_padded(label: &[u8]) -> [u8; 16]
+    requires { length label.now ≤ 15 }
+    ensures { (i : ℕ) → get_or result i 0 ≡ get_or label.now i 0 }
+{
+    let mut bytes = [0; 16];
+    bytes[..label.len()].copy_from_slice(label);
+    bytes
+}
+
 // A label's length and its words; none of more than fifteen bytes.
 #[inline]
 pub fn label_words(p: &[u8]) -> Option<[u32; 5]>
@@ -77,11 +88,12 @@ pub fn label_words(p: &[u8]) -> Option<[u32; 5]>
     if codes::LABEL_MAX < label.len() {
         return None;
     }
+    let bytes = zero_padded(label);
     Some([
         label.len() as u32,
-        word(label, 0),
-        word(label, 4),
-        word(label, 8),
-        word(label, 12),
+        word(&bytes, 0),
+        word(&bytes, 4),
+        word(&bytes, 8),
+        word(&bytes, 12),
     ])
 }

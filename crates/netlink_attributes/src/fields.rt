@@ -14,7 +14,7 @@ pub trait Fields {
 }
 
 // Takes all attributes; whether every length is right.
-#[inline]
+#[inline(always)]
 pub fn walk<F: Fields>(bytes: &[u8], fields: &mut F) -> bool
     ensures lengths { result ≡ right bytes.now }
     ensures taken { fields.new ≡ fold F.step fields.old (attributes bytes.now) }

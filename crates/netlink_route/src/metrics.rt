@@ -22,7 +22,7 @@ impl Fields for Metrics {
 
     ghost step = { metrics_step };
 
-    #[inline]
+    #[inline(always)]
     fn take(&mut self, a: Attribute) {
         if codes::RTAX_MAX < a.code {
             self.has_unknown = true;
@@ -50,7 +50,7 @@ impl Metrics {
     }
 
     // The metric of a type, 0 where it is not there.
-    #[inline]
+    #[inline(always)]
     fn number(&self, k: usize) -> u32
         requires { (1 ≤ k) × (k < 18) }
         ensures { result ≡ unwrap_or (slot self.now.values k) 0 }
@@ -59,7 +59,7 @@ impl Metrics {
     }
 
     // The metrics' error, and the 17 metrics.
-    #[inline]
+    #[inline(always)]
     pub fn words(&self) -> [u32; 18]
         ensures { result ≡ metric_row self.now }
     {

@@ -67,7 +67,7 @@ impl Route {
         }
     }
 
-    #[inline]
+    #[inline(always)]
     fn take(&mut self, a: Attribute)
         requires { a.code ≢ rta_metrics }
         ensures { self.new ≡ route_step self.old (shown a.entry) }
@@ -102,7 +102,7 @@ impl Route {
     }
 
     // What a list of metrics says of itself: of several, the last has the values, but every one is looked at.
-    #[inline]
+    #[inline(always)]
     fn take_metrics(&mut self, payload: &[u8], metrics: &mut Metrics)
         ensures route { self.new ≡ route_step self.old (record { code = rta_metrics; payload = payload.now }) }
         ensures metrics { metrics.new ≡ list_step metrics.old (record { code = rta_metrics; payload = payload.now }) }
@@ -115,7 +115,7 @@ impl Route {
     }
 
     // All attributes in one pass.
-    #[inline]
+    #[inline(always)]
     pub fn read(message: Message, metrics: &mut Metrics) -> Result<Self, Refusal>
         requires { 28 ≤ length message.bytes.now }
         ensures refuses {
@@ -140,7 +140,7 @@ impl Route {
     }
 
     // The words that both requests begin with.
-    #[inline]
+    #[inline(always)]
     fn words(&self, m: &[u8]) -> [u32; 13]
         requires { 28 ≤ length m.now }
         ensures { result ≡ route_row m.now self.now }
@@ -163,7 +163,7 @@ impl Route {
     }
 
     // The metrics of a new route: no list is an empty one.
-    #[inline]
+    #[inline(always)]
     fn metric_words(&self, metrics: &Metrics) -> [u32; 18]
         ensures { result ≡ cond self.now.has_metrics (metric_row metrics.now) (zeros 18) }
     {
@@ -175,7 +175,7 @@ impl Route {
     }
 
     // Those of a route to delete.
-    #[inline]
+    #[inline(always)]
     fn pairs(&self, metrics: &Metrics, words: &mut [u32])
         requires { length words.old ≡ 36 }
         ensures { words.new ≡ cond self.now.has_metrics (pair_row metrics.now) (1 ∷ zeros 35) }
@@ -189,7 +189,7 @@ impl Route {
     }
 
     // The request of a new route, at the front of the lent words.
-    #[inline]
+    #[inline(always)]
     pub fn write_new(&self, metrics: &Metrics, m: &[u8], up: u32, words: &mut [u32])
         requires { (28 ≤ length m.now) × (34 ≤ length words.old) }
         ensures { words.new ≡ put 0 (new_route_row up m.now self.now metrics.now) words.old }
@@ -201,7 +201,7 @@ impl Route {
     }
 
     // The request of a route to delete.
-    #[inline]
+    #[inline(always)]
     pub fn write_deleted(&self, metrics: &Metrics, m: &[u8], words: &mut [u32])
         requires { (28 ≤ length m.now) × (49 ≤ length words.old) }
         ensures { words.new ≡ put 0 (del_route_row m.now self.now metrics.now) words.old }
