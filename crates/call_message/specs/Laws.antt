@@ -1,6 +1,6 @@
 -- What a message comes to as an answer.
 -- Assumes nothing.
-use Rattle.std.specs.Prelude.{ℕ, suc, ◌*◌, ◌≤◌, ◌≡◌, ◌≢◌, refl, Bool, true, false, ◌&&◌, Result, Ok, Err, List, [], ◌∷◌, eqb, leb, length}
+use Rattle.std.specs.Prelude.{ℕ, suc, ◌*◌, ◌≤◌, ◌≡◌, ◌≢◌, refl, Bool, true, false, cond, ◌&&◌, Result, Ok, Err, List, [], ◌∷◌, eqb, leb, length}
 use Rattle.std.specs.Result.{IsErr, IsErrAnd}
 use Rattle.std.proofs.Common.{sym, ap, ◌∙◌, arith, length-append, eq-eqb, ne_eqb}
 use Rattle.std.proofs.Math.Option.{Option, none, some}
@@ -8,25 +8,25 @@ use Rattle.lists.specs.Lists.{Row, all, each, flat, put, zeros}
 use Rattle.lists.specs.Put.{put-no-rows}
 use Rattle.lists.specs.At.{flat-one}
 use Rattle.lists.specs.Rows.{length-pad}
-use Rattle.lists.specs.Bools.{cond-case}
+use Rattle.lists.specs.Bools.{cond-case, cond-true}
 use Rattle.layout.specs.Request.{del_route4_size}
 use Rattle.netlink.specs.Codes.{rtm_new_addr, rtm_del_addr, rtm_new_route, rtm_del_route, inet}
 use Rattle.netlink.specs.Attributes.{Attribute, attributes, right, last}
-use Rattle.netlink.specs.Reader.{Answer, message_type, family, body, sized_in, sizes, types, unknown_metric, metrics_in, metrics_asked, pair, pairs_asked, new_addr, del_addr, new_route, del_route, request, refusal, read}
+use Rattle.netlink.specs.Exactly.{known}
 use Rattle.netlink.specs.Types.{number_of}
+use Rattle.netlink.specs.declared.MessageType.{MessageType}
+use Rattle.netlink.specs.declared.MessageType.TheVariants.{NewAddr, DelAddr, NewRoute, DelRoute}
+use Rattle.netlink.specs.Reader.{Answer, message_length, message_type, family, attributes_at, body, sized_in, sizes, types, unknown_metric, metrics_in, metrics_asked, pair, pairs_asked, new_addr, del_addr, new_route, del_route, request, refusal, read}
 use Rattle.definition.specs.Call.{Reply, numbers}
 use Rattle.definition.specs.Call.{refusal as refusing}
 use Rattle.refusal.specs.declared.Refusal.{Refusal}
 use Rattle.refusal.specs.Refusal.{Refuses}
 use Rattle.refusal.specs.Refusal as Refusals
-use Rattle.netlink_refusal.specs.declared.Message.{Message}
-use Rattle.netlink_refusal.specs.Order.{head_refusal, judged}
-use Rattle.netlink_refusal.specs.Parts.{Parts}
-use Rattle.netlink_refusal.specs.ShapeLaws.{lengths_of, judged-off}
+use Rattle.netlink_refusal.specs.Order.{judged, lengths_of, body_of, number_for}
 use Rattle.call_read.specs.Answer.{answer_by}
 use Rattle.call_message.specs.declared.Asked.{Asked}
 use Rattle.call_message.specs.Message.{requested, replied, read_call}
-use Rattle.call_message.specs.Answer.{asked_by, request_of, number_for, Wrote}
+use Rattle.call_message.specs.Answer.{asked_by, Wrote}
 
 -- ---- the words of each request
 module _ (up : ℕ) (m : List ℕ) (l : List Attribute) where
@@ -70,8 +70,12 @@ module _ (up : ℕ) (m : List ℕ) (l : List Attribute) where
 abbrev pub request_in : ℕ → List ℕ → Row
 request_in up m = request up m (message_type m) (attributes (body m))
 
-pub parts-are : (up : ℕ) (m : List ℕ) (p : Message) → Parts m p → request_of up p ≡ request_in up m
-parts-are up m p h = λ i. request up (h.bytes_are i) (h.kind_is i) (attributes (h.body_is i))
+-- of a message's type and end
+pub request_is : (up : ℕ) (m : List ℕ) (t end : ℕ) → t ≡ message_type m → end ≡ message_length m → request up m t (attributes (body_of t m end)) ≡ request_in up m
+request_is up m t end e f = λ i. request up m (e i) (attributes (body_of (e i) m (f i)))
+
+pub same_rows : (f : List ℕ → List Attribute → Row) {m m' b b' : List ℕ} → m ≡ m' → b ≡ b' → f m (attributes b) ≡ f m' (attributes b')
+same_rows f e g = λ i. f (e i) (attributes (g i))
 
 -- ---- the number that refuses it
 and_true : (b : Bool) → b && true ≡ b
@@ -94,16 +98,37 @@ pub of-deleted : (f : ℕ) (a : Bool) (l : List Attribute) → judged f a (sizes
 unfolding sizes
 of-deleted f a l = ap (judged f a) (and_true (all (sized_in rtm_new_route) l))
 
-pub number-is : (m : List ℕ) (p : Message) → Parts m p → head_refusal m ≡ 0 → number_for (number_of p.kind) p ≡ refusal m
-number-is m p h z =
-    ap (λ (l : List ℕ). judged (family l) (lengths_of (number_of p.kind) p.body.now) (sizes (number_of p.kind) (attributes p.body.now))) h.bytes_are
-    ∙ sym (judged-off m (number_of p.kind) p.body.now h.kind_is h.body_is z)
+head-is : (b : Bool) → ◌≡◌ {A = ℕ} (cond b 0 204) 0 → b ≡ true
+head-is true h = refl
+head-is false h = absurd (omega arith)
+
+-- of a message whose ifaddrmsg or rtmsg is there
+pub number-of : (t : ℕ) (m m' b : List ℕ) (end n : ℕ) → m' ≡ m → b ≡ body_of t m end → ◌≡◌ {A = ℕ} (cond (leb (attributes_at t) end) 0 204) 0
+    → judged (family m') (lengths_of t b) (sizes t (attributes b)) ≡ n → number_for t m end ≡ n
+number-of t m m' b end n e f h g =
+    cond-true (leb (attributes_at t) end) (judged (family m) (lengths_of t (body_of t m end)) (sizes t (attributes (body_of t m end)))) 204
+    (head-is (leb (attributes_at t) end) h)
+    ∙ (λ i. judged (family (sym e i)) (lengths_of t (sym f i)) (sizes t (attributes (sym f i))))
+    ∙ g
+
+pub no_head : (b : Bool) (n : ℕ) → n ≡ cond b 0 204 → ◌≢◌ {A = ℕ} (cond b 0 204) 0 → (b ≡ false) × (n ≡ 204)
+no_head true n e h = absurd (h refl)
+no_head false n e h = (refl, e)
+
+pub is_head : (b : Bool) → ◌≡◌ {A = ℕ} (cond b 0 204) 0 → b ≡ true
+is_head b h = head-is b h
+
+pub known-type : (t : MessageType) → known (number_of t) ≡ true
+known-type NewAddr = refl
+known-type DelAddr = refl
+known-type NewRoute = refl
+known-type DelRoute = refl
 
 -- a refusal that is handed on has written nothing
-pub wrote-refused : (r : Result ℕ Refusal) (e : Refusal) (n : ℕ) (row w : List ℕ) → IsErr r × IsErrAnd r (λ x. x ≡ e) → Refusals.number_of e ≡ n → n ≢ 0
-    → Wrote n row w r w
-wrote-refused (Ok k) e n row w h f z = absurd h.1
-wrote-refused (Err x) e n row w h f z = (ap Refusals.number_of h.1 ∙ f, (z, refl))
+pub wrote-refused : (t : ℕ) (r : Result Asked Refusal) (e : Refusal) (n : ℕ) (row w : List ℕ) → IsErr r × IsErrAnd r (λ x. x ≡ e) → Refusals.number_of e ≡ n → n ≢ 0
+    → Wrote t n row w r w
+wrote-refused t (Ok k) e n row w h f z = absurd h.1
+wrote-refused t (Err x) e n row w h f z = (ap Refusals.number_of h.1 ∙ f, (z, refl))
 
 -- ---- the answers
 module _ (room up : ℕ) (m w : List ℕ) where
@@ -127,6 +152,21 @@ module _ (room up : ℕ) (m w : List ℕ) where
     pub is_read : refusal m ≡ 0 → read_call room up m ≡ requested (message_type m) (request_in up m)
     unfolding read_call read
     is_read z = rw (h, eq-eqb (refusal m) 0 z)
+
+-- what was written is what the call says
+pub written : (room up : ℕ) (m w w' : List ℕ) (t n : ℕ) (row : Row) (r : Result Asked Refusal) → leb 49 room ≡ true → refusal m ≡ n → t ≡ message_type m
+    → row ≡ request_in up m → Wrote t n row w r w'
+    → Refuses r (read_call room up m).number × ((answer_by asked_by r ≡ numbers (read_call room up m)) × (w' ≡ put 0 (flat (read_call room up m).rows) w))
+written room up m w w' t n row (Ok a) enough e f g h =
+    rw (is_read room up m w enough (e ∙ h.0))
+    (refl,
+    ((λ i. record { number = 0; present = 0; value = (h.1.0 ∙ f) i; second = (h.1.1.0 ∙ ap length g) i }),
+    h.1.1.1 ∙ ap (λ (q : List ℕ). put 0 q w) (g ∙ sym (flat-one (request_in up m)))))
+written room up m w w' t n row (Err x) enough e f g h =
+    let is : Refusals.number_of x ≡ refusal m = h.0 ∙ sym e in
+    let z : refusal m ≢ 0 = (λ y. h.1.0 (sym e ∙ y)) in
+    rw (not-read room up m w enough z)
+    ((is, z), ((λ i. record { number = is i; present = 0; value = 0; second = 0 }), h.1.1 ∙ put-no-rows w))
 
 -- ---- the words written are as many as the reply says, and at most 49
 request-short : (up : ℕ) (m : List ℕ) (t : ℕ) (l : List Attribute) → length (request up m t l) ≤ 49

@@ -1,11 +1,11 @@
 // What refuses a message, in its order: its header, its lengths, its family, the sizes of its attributes.
 #![tactic(auto)]
 
-ghost use Rattle.std.specs.Prelude.{◌≡◌, ◌≤◌, cond, length, IfOk};
+ghost use Rattle.std.specs.Prelude.{◌≡◌, ◌≤◌, cond, leb, length, IfOk};
 ghost use Rattle.refusal.specs.Refusal.{Refuses};
 ghost use Rattle.netlink.specs.Reader.{message_length, attributes_at, family, headed};
 ghost use Rattle.netlink.specs.Types.{number_of};
-ghost use Rattle.netlink_refusal.specs.Order.{head_refusal, judged};
+ghost use Rattle.netlink_refusal.specs.Order.{judged};
 
 use netlink::{MessageType, codes};
 use netlink_attributes::bytes;
@@ -24,13 +24,13 @@ pub struct Message<'a> {
 impl<'a> Message<'a> {
     ghost use Rattle.netlink_refusal.specs.Parts.{Parts};
 
-    #[inline]
-    pub fn of(m: &'a [u8]) -> Result<Self, Refusal>
-        ensures refuses { Refuses result (head_refusal m.now) }
-        ensures parts { IfOk result (Parts m.now) }
+    // A message of a type, whose header says where it ends.
+    #[inline(always)]
+    pub fn of(kind: MessageType, m: &'a [u8], end: usize) -> Result<Self, Refusal>
+        requires { end ≤ length m.now }
+        ensures refuses { Refuses result (cond (leb (attributes_at (number_of kind)) end) 0 204) }
+        ensures parts { IfOk result (Parts kind m.now end) }
     {
-        let end = headed(m)?;
-        let kind = MessageType::try_from(bytes::half(m, 4))?;
         let body = m.get(kind.attributes_at()..end).ok_or(Refusal::BadLength)?;
         Ok(Message {
             kind,
@@ -40,7 +40,7 @@ impl<'a> Message<'a> {
     }
 
     // Whether the lengths of its attributes are right, then its family, then whether their sizes are.
-    #[inline]
+    #[inline(always)]
     pub fn judge(self, lengths: bool, sizes: bool) -> Result<(), Refusal>
         ensures { Refuses result (judged (family self.entry.bytes.now) lengths sizes) }
     {
@@ -59,8 +59,8 @@ pub fn message_length(m: &[u8]) -> usize
 
 // netlink's header is there, and its length covers it and doesn't pass the end.
 #[tactic(auto, unfolding(netlink::specs::Reader::headed))]
-#[inline]
-fn headed(m: &[u8]) -> Result<usize, Refusal>
+#[inline(always)]
+pub fn headed(m: &[u8]) -> Result<usize, Refusal>
     ensures refuses { Refuses result (cond (headed m.now) 0 204) }
     ensures ends { IfOk result (λ n. (n ≡ message_length m.now) × (n ≤ length m.now)) }
 {
