@@ -158,10 +158,13 @@ pub written : (room up : ℕ) (m w w' : List ℕ) (t n : ℕ) (row : Row) (r : R
     → row ≡ request_in up m → Wrote t n row w r w'
     → Refuses r (read_call room up m).number × ((answer_by asked_by r ≡ numbers (read_call room up m)) × (w' ≡ put 0 (flat (read_call room up m).rows) w))
 written room up m w w' t n row (Ok a) enough e f g h =
-    rw (is_read room up m w enough (e ∙ h.0))
-    (refl,
-    ((λ i. record { number = 0; present = 0; value = (h.1.0 ∙ f) i; second = (h.1.1.0 ∙ ap length g) i }),
-    h.1.1.1 ∙ ap (λ (q : List ℕ). put 0 q w) (g ∙ sym (flat-one (request_in up m)))))
+    rw (is_read room up m w enough (e ∙ h.0)) (
+      refl,
+      (
+        (λ i. record { number = 0; present = 0; value = (h.1.0 ∙ f) i; second = (h.1.1.0 ∙ ap length g) i }),
+        h.1.1.1 ∙ ap (λ (q : List ℕ). put 0 q w) (g ∙ sym (flat-one (request_in up m))),
+      ),
+    )
 written room up m w w' t n row (Err x) enough e f g h =
     let is : Refusals.number_of x ≡ refusal m = h.0 ∙ sym e in
     let z : refusal m ≢ 0 = (λ y. h.1.0 (sym e ∙ y)) in

@@ -33,9 +33,7 @@ pub struct Asked {
 #[inline(always)]
 fn new_addr(m: &[u8], end: usize, up: u32, words: &mut [u32]) -> Result<Asked, Refusal>
     requires { (end ≤ length m.now) × (18 ≤ length words.old) }
-    ensures {
-        Wrote rtm_new_addr (number_for rtm_new_addr m.now end) (new_addr up m.now (attributes (body_of rtm_new_addr m.now end))) words.old result words.new
-    }
+    ensures { Wrote rtm_new_addr (number_for rtm_new_addr m.now end) (new_addr up m.now (attributes (body_of rtm_new_addr m.now end))) words.old result words.new }
 {
     let message = Message::of(MessageType::NewAddr, m, end)?;
     let fields = NewAddr::read(message)?;
@@ -49,9 +47,7 @@ fn new_addr(m: &[u8], end: usize, up: u32, words: &mut [u32]) -> Result<Asked, R
 #[inline(always)]
 fn del_addr(m: &[u8], end: usize, words: &mut [u32]) -> Result<Asked, Refusal>
     requires { (end ≤ length m.now) × (11 ≤ length words.old) }
-    ensures {
-        Wrote rtm_del_addr (number_for rtm_del_addr m.now end) (del_addr m.now (attributes (body_of rtm_del_addr m.now end))) words.old result words.new
-    }
+    ensures { Wrote rtm_del_addr (number_for rtm_del_addr m.now end) (del_addr m.now (attributes (body_of rtm_del_addr m.now end))) words.old result words.new }
 {
     let message = Message::of(MessageType::DelAddr, m, end)?;
     let fields = DelAddr::read(message)?;
@@ -65,9 +61,7 @@ fn del_addr(m: &[u8], end: usize, words: &mut [u32]) -> Result<Asked, Refusal>
 #[inline(always)]
 fn new_route(m: &[u8], end: usize, up: u32, words: &mut [u32]) -> Result<Asked, Refusal>
     requires { (end ≤ length m.now) × (34 ≤ length words.old) }
-    ensures {
-        Wrote rtm_new_route (number_for rtm_new_route m.now end) (new_route up m.now (attributes (body_of rtm_new_route m.now end))) words.old result words.new
-    }
+    ensures { Wrote rtm_new_route (number_for rtm_new_route m.now end) (new_route up m.now (attributes (body_of rtm_new_route m.now end))) words.old result words.new }
 {
     let message = Message::of(MessageType::NewRoute, m, end)?;
     let mut metrics = Metrics::new();
@@ -82,9 +76,7 @@ fn new_route(m: &[u8], end: usize, up: u32, words: &mut [u32]) -> Result<Asked, 
 #[inline(always)]
 fn del_route(m: &[u8], end: usize, words: &mut [u32]) -> Result<Asked, Refusal>
     requires { (end ≤ length m.now) × (49 ≤ length words.old) }
-    ensures {
-        Wrote rtm_del_route (number_for rtm_del_route m.now end) (del_route m.now (attributes (body_of rtm_del_route m.now end))) words.old result words.new
-    }
+    ensures { Wrote rtm_del_route (number_for rtm_del_route m.now end) (del_route m.now (attributes (body_of rtm_del_route m.now end))) words.old result words.new }
 {
     let message = Message::of(MessageType::DelRoute, m, end)?;
     let mut metrics = Metrics::new();
@@ -99,11 +91,15 @@ fn del_route(m: &[u8], end: usize, words: &mut [u32]) -> Result<Asked, Refusal>
 // That of a message of a type.
 #[tactic(auto, unfolding(netlink::specs::Reader::request))]
 #[inline(always)]
-fn request(kind: MessageType, m: &[u8], end: usize, up: u32, words: &mut [u32]) -> Result<Asked, Refusal>
+fn request(
+    kind: MessageType,
+    m: &[u8],
+    end: usize,
+    up: u32,
+    words: &mut [u32],
+) -> Result<Asked, Refusal>
     requires { (end ≤ length m.now) × (49 ≤ length words.old) }
-    ensures {
-        Wrote (number_of kind) (number_for (number_of kind) m.now end) (request_of up kind m.now end) words.old result words.new
-    }
+    ensures { Wrote (number_of kind) (number_for (number_of kind) m.now end) (request_of up kind m.now end) words.old result words.new }
 {
     match kind {
         MessageType::NewAddr => new_addr(m, end, up, words),

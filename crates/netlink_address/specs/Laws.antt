@@ -130,25 +130,25 @@ module _ (m : List ℕ) (l : List Attribute) where
       let valid-word = valid-is w ∙ number-or (last ifa_cacheinfo l) valid_in forever in
       let preferred-word = preferred-is w ∙ number-or (last ifa_cacheinfo l) preferred_in forever in
       λ i.
-          local-word i
-          ∷ address-word i
-          ∷ get_or m 17 0
-          ∷ has-broadcast i
-          ∷ broadcast-word i
-          ∷ get_or m 19 0
-          ∷ flags-word i
-          ∷ proto-word i
-          ∷ get_or (label-row i) 0 0
-          ∷ get_or (label-row i) 1 0
-          ∷ get_or (label-row i) 2 0
-          ∷ get_or (label-row i) 3 0
-          ∷ get_or (label-row i) 4 0
-          ∷ priority-word i
-          ∷ valid-word i
-          ∷ preferred-word i
-          ∷ flag (has_bit replace_bit (message_flags m) && not (has_bit excl_bit (message_flags m)))
-          ∷ up
-          ∷ []
+      local-word i
+      ∷ address-word i
+      ∷ get_or m 17 0
+      ∷ has-broadcast i
+      ∷ broadcast-word i
+      ∷ get_or m 19 0
+      ∷ flags-word i
+      ∷ proto-word i
+      ∷ get_or (label-row i) 0 0
+      ∷ get_or (label-row i) 1 0
+      ∷ get_or (label-row i) 2 0
+      ∷ get_or (label-row i) 3 0
+      ∷ get_or (label-row i) 4 0
+      ∷ priority-word i
+      ∷ valid-word i
+      ∷ preferred-word i
+      ∷ flag (has_bit replace_bit (message_flags m) && not (has_bit excl_bit (message_flags m)))
+      ∷ up
+      ∷ []
 
 -- ---- an address to delete
 record FitDeleted (a : Attribute) : Type 0 where
@@ -198,15 +198,15 @@ module _ (l : List Attribute) where
       let has-label = ap flag (deleted-has_label w ∙ label-given (last ifa_label l)) in
       let label-row = deleted-label w ∙ label-or (last ifa_label l) [] in
       λ i.
-          has-local i
-          ∷ local-word i
-          ∷ has-address i
-          ∷ address-word i
-          ∷ get_or m 17 0
-          ∷ has-label i
-          ∷ get_or (label-row i) 0 0
-          ∷ get_or (label-row i) 1 0
-          ∷ get_or (label-row i) 2 0
-          ∷ get_or (label-row i) 3 0
-          ∷ get_or (label-row i) 4 0
-          ∷ []
+      has-local i
+      ∷ local-word i
+      ∷ has-address i
+      ∷ address-word i
+      ∷ get_or m 17 0
+      ∷ has-label i
+      ∷ get_or (label-row i) 0 0
+      ∷ get_or (label-row i) 1 0
+      ∷ get_or (label-row i) 2 0
+      ∷ get_or (label-row i) 3 0
+      ∷ get_or (label-row i) 4 0
+      ∷ []

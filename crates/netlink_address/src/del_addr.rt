@@ -72,9 +72,7 @@ impl DelAddr {
 
     #[inline(always)]
     pub fn read(message: Message) -> Result<Self, Refusal>
-        ensures refuses {
-            Refuses result (judged (family message.entry.bytes.now) (right message.entry.body.now) (sizes rtm_del_addr (attributes message.entry.body.now)))
-        }
+        ensures refuses { Refuses result (judged (family message.entry.bytes.now) (right message.entry.body.now) (sizes rtm_del_addr (attributes message.entry.body.now))) }
         ensures fields { IfOk result (λ s. s ≡ fold del_addr_step del_addr_begun (attributes message.entry.body.now)) }
     {
         let mut fields = DelAddr::begun();

@@ -123,12 +123,8 @@ impl NewAddr {
     #[inline(always)]
     pub fn read(message: Message) -> Result<Self, Refusal>
         requires { 24 ≤ length message.bytes.now }
-        ensures refuses {
-            Refuses result (judged (family message.entry.bytes.now) (right message.entry.body.now) (sizes rtm_new_addr (attributes message.entry.body.now)))
-        }
-        ensures fields {
-            IfOk result (λ s. s ≡ fold new_addr_step (new_addr_begun message.entry.bytes.now) (attributes message.entry.body.now))
-        }
+        ensures refuses { Refuses result (judged (family message.entry.bytes.now) (right message.entry.body.now) (sizes rtm_new_addr (attributes message.entry.body.now))) }
+        ensures fields { IfOk result (λ s. s ≡ fold new_addr_step (new_addr_begun message.entry.bytes.now) (attributes message.entry.body.now)) }
     {
         let mut fields = NewAddr::begun(message.bytes);
         let lengths = walk(message.body, &mut fields);

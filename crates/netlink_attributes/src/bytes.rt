@@ -69,7 +69,7 @@ fn label(p: &[u8]) -> &[u8]
 }
 
 // A label's bytes, and zeros behind them.
-#[inline]
+#[inline(always)]
 fn zero_padded(label: &[u8]) -> [u8; 16]
     requires { length label.now ≤ 15 }
     ensures { (i : ℕ) → get_or result i 0 ≡ get_or label.now i 0 }
@@ -80,7 +80,7 @@ fn zero_padded(label: &[u8]) -> [u8; 16]
 }
 
 // A label's length and its words; none of more than fifteen bytes.
-#[inline]
+#[inline(always)]
 pub fn label_words(p: &[u8]) -> Option<[u32; 5]>
     ensures { MatchOption result (15 < length (label p.now)) (λ w. (length (label p.now) ≤ 15) × (w ≡ label_words (label p.now))) }
 {

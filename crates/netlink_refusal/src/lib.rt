@@ -45,7 +45,10 @@ impl<'a> Message<'a> {
         ensures { Refuses result (judged (family self.entry.bytes.now) lengths sizes) }
     {
         unless(lengths, Refusal::BadLength)?;
-        unless(self.bytes[codes::HEADER] == codes::AF_INET, Refusal::OtherType)?;
+        unless(
+            self.bytes[codes::HEADER] == codes::AF_INET,
+            Refusal::OtherType,
+        )?;
         unless(sizes, Refusal::WrongSize)
     }
 }

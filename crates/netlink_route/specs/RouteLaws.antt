@@ -129,20 +129,20 @@ module _ (m : List ℕ) (l : List Attribute) where
         let has-gateway = ap (λ (o : Option ℕ). flag (is_some o)) gateway-is ∙ ap flag (address-given (last rta_gateway l)) in
         let gateway-word = ap (λ (o : Option ℕ). unwrap_or o 0) gateway-is ∙ address-or (last rta_gateway l) in
         λ i.
-            table-is i
-            ∷ dst-is i
-            ∷ get_or m 17 0
-            ∷ get_or m 19 0
-            ∷ priority-is i
-            ∷ get_or m 23 0
-            ∷ get_or m 21 0
-            ∷ get_or m 22 0
-            ∷ has-prefsrc i
-            ∷ prefsrc-word i
-            ∷ has-gateway i
-            ∷ gateway-word i
-            ∷ oif-is i
-            ∷ []
+        table-is i
+        ∷ dst-is i
+        ∷ get_or m 17 0
+        ∷ get_or m 19 0
+        ∷ priority-is i
+        ∷ get_or m 23 0
+        ∷ get_or m 21 0
+        ∷ get_or m 22 0
+        ∷ has-prefsrc i
+        ∷ prefsrc-word i
+        ∷ has-gateway i
+        ∷ gateway-word i
+        ∷ oif-is i
+        ∷ []
 
     list-fits : chosen sized_list true (last rta_metrics l) ≡ true
     list-fits = last-fits rta_metrics sized_list Math.none l refl (fit-all rta_metrics sized_list (λ a e. e.list))

@@ -118,11 +118,9 @@ impl Route {
     #[inline(always)]
     pub fn read(message: Message, metrics: &mut Metrics) -> Result<Self, Refusal>
         requires { 28 ≤ length message.bytes.now }
-        ensures refuses {
-            Refuses result (judged (family message.entry.bytes.now)
-                (right message.entry.body.now && all nested_right (attributes message.entry.body.now))
-                (all (sized_in rtm_new_route) (attributes message.entry.body.now)))
-        }
+        ensures refuses { Refuses result (judged (family message.entry.bytes.now)
+            (right message.entry.body.now && all nested_right (attributes message.entry.body.now))
+            (all (sized_in rtm_new_route) (attributes message.entry.body.now))) }
         ensures route { IfOk result (λ s. s ≡ fold route_step (route_begun message.entry.bytes.now) (attributes message.entry.body.now)) }
         ensures metrics { metrics.new ≡ fold list_step metrics.old (attributes message.entry.body.now) }
     {

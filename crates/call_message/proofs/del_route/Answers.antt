@@ -41,8 +41,13 @@ returns c =
     let metrics = c.read.ensures.metrics ∙ ap (λ (s : Metrics). fold list_step s l) c.new-metrics.ensures in
     let row = ap (λ (s : Route). del_route_row q.bytes.now s c.read.new.metrics) read.route ∙ ap (λ (x : Metrics). del_route_row q.bytes.now (taken q.bytes.now l) x) metrics ∙ del_route-words q.bytes.now l sized
     ∙ same_rows (del_route) parts.bytes_are parts.body_is
-    in
-    (is ∙ read.refuses,
-    (ap number_of parts.kind_is,
-    (sym (length_del_route 0 m k),
-    c.write_deleted.ensures ∙ ap (λ (x : List ℕ). put 0 x c.args.words.now) row)))
+    in (
+      is ∙ read.refuses,
+      (
+        ap number_of parts.kind_is,
+        (
+          sym (length_del_route 0 m k),
+          c.write_deleted.ensures ∙ ap (λ (x : List ℕ). put 0 x c.args.words.now) row,
+        ),
+      ),
+    )

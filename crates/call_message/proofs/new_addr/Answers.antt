@@ -21,9 +21,14 @@ returns c =
     let sized = (both-pass (family q.bytes.now) (right q.body.now) (sizes rtm_new_addr l) fields.refuses).1 in
     let row = c.words.ensures ∙ ap (new_addr_words c.args.up q.bytes.now) fields.fields ∙ new_addr-words q.bytes.now l c.args.up sized
     ∙ same_rows (new_addr c.args.up) parts.bytes_are parts.body_is
-    in
-    (number-of rtm_new_addr m q.bytes.now q.body.now c.args.end 0 parts.bytes_are parts.body_is c.in_ok-message.ensures.refuses
-    (of-address (family q.bytes.now) q.body.now (sizes rtm_new_addr l) ∙ fields.refuses),
-    (ap number_of parts.kind_is,
-    (sym (length_new_addr c.args.up m k),
-    c.store.ensures ∙ ap (λ (x : List ℕ). put 0 x c.args.words.now) row)))
+    in (
+      number-of rtm_new_addr m q.bytes.now q.body.now c.args.end 0 parts.bytes_are parts.body_is c.in_ok-message.ensures.refuses
+          (of-address (family q.bytes.now) q.body.now (sizes rtm_new_addr l) ∙ fields.refuses),
+      (
+        ap number_of parts.kind_is,
+        (
+          sym (length_new_addr c.args.up m k),
+          c.store.ensures ∙ ap (λ (x : List ℕ). put 0 x c.args.words.now) row,
+        ),
+      ),
+    )

@@ -41,8 +41,13 @@ returns c =
     let metrics = c.read.ensures.metrics ∙ ap (λ (s : Metrics). fold list_step s l) c.new-metrics.ensures in
     let row = ap (λ (s : Route). new_route_row c.args.up q.bytes.now s c.read.new.metrics) read.route ∙ ap (λ (x : Metrics). new_route_row c.args.up q.bytes.now (taken q.bytes.now l) x) metrics ∙ new_route-words q.bytes.now l sized c.args.up
     ∙ same_rows (new_route c.args.up) parts.bytes_are parts.body_is
-    in
-    (is ∙ read.refuses,
-    (ap number_of parts.kind_is,
-    (sym (length_new_route c.args.up m k),
-    c.write_new.ensures ∙ ap (λ (x : List ℕ). put 0 x c.args.words.now) row)))
+    in (
+      is ∙ read.refuses,
+      (
+        ap number_of parts.kind_is,
+        (
+          sym (length_new_route c.args.up m k),
+          c.write_new.ensures ∙ ap (λ (x : List ℕ). put 0 x c.args.words.now) row,
+        ),
+      ),
+    )
