@@ -1,15 +1,15 @@
 -- What the fields are once all attributes are taken, and the words that they give.
 -- Assumes nothing.
-use Rattle.std.specs.Prelude.{ℕ, ◌≡◌, refl, Bool, true, false, ◌&&◌, ◌||◌, not, List, [], ◌∷◌, ◌++◌, Option, None, Some, is_some, unwrap_or, get_or, leb, length}
+use Rattle.std.specs.Prelude.{ℕ, ◌≡◌, refl, Bool, true, false, ◌&&◌, not, List, [], ◌∷◌, Option, None, is_some, unwrap_or, get_or}
 use Rattle.std.specs.List.{fold}
 use Rattle.std.proofs.Common.{sym, ap, ◌∙◌}
 use Rattle.std.proofs.Math.Option as Math
-use Rattle.lists.specs.Lists.{Row, all}
+use Rattle.lists.specs.Lists.{all}
 use Rattle.lists.specs.All.{all_mono}
-use Rattle.lists.specs.Bools.{and_iff, and_left, and_right, test-case}
+use Rattle.lists.specs.Bools.{and_iff, and_left, test-case}
 use Rattle.netlink.specs.Codes.{rtm_new_addr, rtm_del_addr, ifa_address, ifa_local, ifa_label, ifa_broadcast, ifa_cacheinfo, ifa_flags, ifa_rt_priority, ifa_proto}
 use Rattle.netlink.specs.Attributes.{Attribute, last}
-use Rattle.netlink.specs.Reader.{address, number, byte, preferred_in, valid_in, label, label_words, label_or, lo, sized_in, sizes, given, or_else, flag, forever, message_flags, new_addr, del_addr}
+use Rattle.netlink.specs.Reader.{address, number, byte, preferred_in, valid_in, label_words, label_or, lo, sized_in, sizes, given, or_else, flag, forever, message_flags, new_addr, del_addr}
 use Rattle.layout.specs.Flags.{has_bit}
 use Rattle.netlink.specs.Codes.{replace_bit, excl_bit}
 use Rattle.netlink_attributes.specs.Kept.{fits, long, placed, chosen, kept, part, flagged}

@@ -1,5 +1,5 @@
 -- What an attribute makes of the fields.
-use Rattle.std.specs.Prelude.{ℕ, Bool, true, ◌&&◌, List, Option, None, Some, leb, length}
+use Rattle.std.specs.Prelude.{ℕ, Bool, true, ◌&&◌, List, Option, Some, leb, length}
 use Rattle.netlink.specs.Codes.{rtm_new_addr, rtm_del_addr, ifa_address, ifa_local, ifa_label, ifa_broadcast, ifa_cacheinfo, ifa_flags, ifa_rt_priority, ifa_proto}
 use Rattle.netlink.specs.Attributes.{Attribute}
 use Rattle.netlink.specs.Reader.{address, number, byte, preferred_in, valid_in, label, label_words, sized_in}

@@ -1,7 +1,7 @@
 -- Laws of what the iterator of attributes gives at one step: the bytes that are left are those from a place on.
 -- Assumes nothing.
-use Rattle.std.specs.Prelude.{ℕ, ◌+◌, ◌-◌, ◌*◌, ◌%◌, ◌≤◌, ◌<◌, ◌≡◌, true, false, List, length, get_or, take, drop, ltb}
-use Rattle.std.proofs.Common.{sym, ap, ◌∙◌, arith, length-drop, drop-drop, take_all, ltb-true, ltb-false}
+use Rattle.std.specs.Prelude.{ℕ, ◌+◌, ◌-◌, ◌*◌, ◌%◌, ◌≤◌, ◌<◌, ◌≡◌, true, List, length, get_or, take, drop}
+use Rattle.std.proofs.Common.{sym, ap, ◌∙◌, arith, length-drop, drop-drop, take_all, ltb-true}
 use Rattle.lists.specs.Bools.{fails}
 use Rattle.netlink.specs.Attributes.{Attribute, Parsed, u16, padded, whole, first, more, parsed, attributes}
 use Rattle.netlink.specs.Laws.{end, four, within, is_whole, parsed-more, parsed-end}

@@ -1,13 +1,13 @@
 -- What refuses a message, test by test.
 -- Assumes nothing.
-use Rattle.std.specs.Prelude.{ℕ, ◌≡◌, ◌≢◌, refl, Bool, true, false, cond, ◌&&◌, ◌||◌, not, List, eqb, leb}
-use Rattle.std.proofs.Common.{sym, ap, ◌∙◌, arith}
+use Rattle.std.specs.Prelude.{ℕ, ◌≡◌, refl, Bool, true, false, cond, ◌&&◌, ◌||◌, not, List, eqb, leb}
+use Rattle.std.proofs.Common.{sym, ap, ◌∙◌}
 use Rattle.lists.specs.Lists.{all}
 use Rattle.netlink.specs.Attributes.{attributes, right}
 use Rattle.netlink.specs.Codes.{inet}
 use Rattle.netlink.specs.Exactly.{known}
 use Rattle.netlink.specs.Reader.{message_length, message_type, family, is_address, attributes_at, headed, body, nested_right, lengths, sizes, shape_refusal, refusal}
-use Rattle.netlink_refusal.specs.Order.{judged, number_for}
+use Rattle.netlink_refusal.specs.Order.{number_for}
 
 abbrev shapes : Bool → Bool → Bool → Bool → ℕ
 shapes h k l y = cond (not h) 204 (cond (not k) 205 (cond (not l) 204 (cond y 0 205)))

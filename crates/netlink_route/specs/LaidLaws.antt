@@ -1,7 +1,7 @@
 -- Runs of words one behind the other, and a part that was lent.
 -- Assumes nothing.
 use Rattle.std.specs.Prelude.{ℕ, ◌+◌, ◌≤◌, ◌≡◌, List, [], ◌∷◌, ◌++◌, length, take, drop}
-use Rattle.std.proofs.Common.{sym, ap, ◌∙◌, append_assoc, arith, length-append, drop-drop}
+use Rattle.std.proofs.Common.{ap, ◌∙◌, append_assoc, arith, length-append, drop-drop}
 use Rattle.lists.specs.Lists.{put}
 use Rattle.lists.specs.Put.{put-behind}
 

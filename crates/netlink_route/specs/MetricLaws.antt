@@ -1,11 +1,11 @@
 -- A list of metrics once all its attributes are taken, and the words that it gives.
 -- Assumes nothing.
-use Rattle.std.specs.Prelude.{ℕ, zero, suc, ◌+◌, ◌-◌, ◌≤◌, ◌<◌, ◌≡◌, refl, Bool, true, false, cond, ◌&&◌, ◌||◌, not, List, [], ◌∷◌, ◌++◌, Option, None, Some, is_some, unwrap_or, map, eqb, leb, ltb, length, slice_index_or, slice_set, replicate}
+use Rattle.std.specs.Prelude.{ℕ, zero, suc, ◌-◌, ◌≤◌, ◌<◌, ◌≡◌, refl, Bool, true, false, cond, ◌&&◌, ◌||◌, List, [], ◌∷◌, Option, None, Some, is_some, unwrap_or, map, eqb, leb, ltb, length, slice_index_or, replicate}
 use Rattle.std.specs.List.{fold}
-use Rattle.std.proofs.Common.{sym, ap, ◌∙◌, arith, length-set, get_or-set_same, get_or-set_other, eqb-true, leb-true, le-leb}
+use Rattle.std.proofs.Common.{ap, ◌∙◌, arith, length-set, get_or-set_same, get_or-set_other, eqb-true, leb-true, le-leb}
 use Rattle.std.proofs.Math.Option as Math
 use Rattle.std.proofs.lemmas.Bool.{eqb-false}
-use Rattle.lists.specs.Lists.{all, any, each, keep, zeros, pad}
+use Rattle.lists.specs.Lists.{all, each, keep, zeros, pad}
 use Rattle.lists.specs.All.{all_mono}
 use Rattle.lists.specs.Bools.{and_left, and_right, and_both, test-case}
 use Rattle.netlink.specs.Codes.{rtax_max}

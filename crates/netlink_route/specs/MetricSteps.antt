@@ -1,5 +1,5 @@
 -- What an attribute makes of a list of metrics.
-use Rattle.std.specs.Prelude.{ℕ, ◌-◌, Bool, true, false, cond, ◌&&◌, ◌||◌, List, Option, None, Some, ltb, length, slice_index_or, slice_set, replicate}
+use Rattle.std.specs.Prelude.{ℕ, ◌-◌, true, false, cond, ◌&&◌, ◌||◌, List, Option, None, Some, ltb, slice_index_or, slice_set, replicate}
 use Rattle.netlink.specs.Codes.{rtax_max}
 use Rattle.netlink.specs.Attributes.{Attribute}
 use Rattle.netlink.specs.Reader.{number, is_metric, metric_sized}

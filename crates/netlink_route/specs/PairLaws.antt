@@ -3,7 +3,7 @@
 use Rattle.std.specs.Prelude.{ℕ, zero, suc, ◌+◌, ◌-◌, ◌*◌, ◌/◌, ◌≤◌, ◌<◌, ◌≡◌, refl, Bool, true, false, cond, List, [], ◌∷◌, ◌++◌, Option, None, Some, is_some, map, length, get_or, set, take, drop, replicate}
 use Rattle.std.proofs.Common.{sym, ap, ◌∙◌, append-nil, arith, length-append, length-take, take_all, take-suc}
 use Rattle.std.proofs.Math.Seq.{drop-nil}
-use Rattle.lists.specs.Lists.{each, keep, put, zeros, pad}
+use Rattle.lists.specs.Lists.{keep, put, zeros, pad}
 use Rattle.lists.specs.Keep.{each_append}
 use Rattle.lists.specs.Rows.{length-put}
 use Rattle.lists.specs.Put.{put-none, put-behind, put_whole}

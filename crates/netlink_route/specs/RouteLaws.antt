@@ -1,22 +1,22 @@
 -- What a route's fields are once all attributes are taken, and the words that they give.
 -- Assumes nothing.
-use Rattle.std.specs.Prelude.{ℕ, suc, ◌≡◌, refl, Bool, true, false, cond, ◌&&◌, ◌||◌, not, List, [], ◌∷◌, ◌++◌, Option, None, Some, is_some, unwrap_or, get_or, eqb, ltb, length}
+use Rattle.std.specs.Prelude.{ℕ, suc, ◌≡◌, refl, Bool, true, false, cond, ◌&&◌, ◌||◌, not, List, [], ◌∷◌, ◌++◌, Option, None, is_some, unwrap_or, get_or, eqb, ltb, length}
 use Rattle.std.specs.List.{fold}
 use Rattle.std.proofs.Common.{sym, ap, ◌∙◌}
 use Rattle.std.proofs.Math.Option as Math
 use Rattle.lists.specs.Lists.{Row, all, zeros}
 use Rattle.lists.specs.All.{all_mono, all_always}
 use Rattle.lists.specs.Rows.{length-pad}
-use Rattle.lists.specs.Bools.{and_iff, and_left, cond-case}
-use Rattle.netlink.specs.Codes.{rtm_new_route, rtm_del_route, rta_dst, rta_oif, rta_gateway, rta_priority, rta_prefsrc, rta_metrics, rta_table}
+use Rattle.lists.specs.Bools.{and_iff, cond-case}
+use Rattle.netlink.specs.Codes.{rtm_new_route, rta_dst, rta_oif, rta_gateway, rta_priority, rta_prefsrc, rta_metrics, rta_table}
 use Rattle.netlink.specs.Attributes.{Attribute, Parsed, parsed, attributes, right, last}
 use Rattle.netlink.specs.Laws.{end}
-use Rattle.netlink.specs.Reader.{address, number, u32, message_flags, sized_in, nested_right, metric_sized, sizes, given, or_else, flag, nested, types, metrics_in, metrics_asked, pairs_asked, route_words, new_route, del_route}
+use Rattle.netlink.specs.Reader.{address, number, u32, message_flags, sized_in, nested_right, metric_sized, given, or_else, flag, nested, types, metrics_in, metrics_asked, pairs_asked, route_words, new_route, del_route}
 use Rattle.netlink_attributes.specs.Steps.{short}
 use Rattle.netlink_attributes.specs.Kept.{fits, long, placed, chosen, kept, part, flagged, last-fits}
 use Rattle.netlink_route.specs.declared.metrics.Metrics.{Metrics}
 use Rattle.netlink_route.specs.declared.route.Route.{Route}
-use Rattle.netlink_route.specs.MetricSteps.{metrics_step, fresh}
+use Rattle.netlink_route.specs.MetricSteps.{fresh}
 use Rattle.netlink_route.specs.MetricWords.{pairs_of, metric_row, pair_row}
 use Rattle.netlink_route.specs.PairLaws.{pairs-short}
 use Rattle.netlink_route.specs.MetricLaws.{row-is, pair_row-is, no_metrics, no_pairs}

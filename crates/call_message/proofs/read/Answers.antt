@@ -1,11 +1,10 @@
 use Rattle.std.proofs.Common.{◌≢◌, arith, sym, ap, ◌∙◌, length, leb}
 use Rattle.refusal.specs.Refusal.{number_of}
 use Rattle.refusal.specs.Laws.{failed, passed}
-use Rattle.netlink.specs.Attributes.{attributes}
 use Rattle.netlink.specs.Exactly.{known}
-use Rattle.netlink.specs.Reader.{headed, refusal, request}
+use Rattle.netlink.specs.Reader.{headed, refusal}
 use Rattle.netlink.specs.Types.{number_of as type_of}
-use Rattle.netlink_refusal.specs.Order.{body_of, number_for}
+use Rattle.netlink_refusal.specs.Order.{number_for}
 use Rattle.netlink_refusal.specs.ShapeLaws.{headless, unknown, number-is}
 use Rattle.call_message.specs.Answer.{request_of}
 use Rattle.call_message.specs.Laws.{refused-by, no_room, not-read, no_head, is_head, known-type, request_is, written}

@@ -1,4 +1,4 @@
-use Rattle.std.proofs.Common.{arith, sym, ap, ◌∙◌, ◌≡◌, ◌%◌, ◌≤◌, length, length-drop, refl, ltb-true, ltb-false}
+use Rattle.std.proofs.Common.{arith, sym, ap, ◌∙◌, ◌≡◌, ◌%◌, length-drop, refl}
 use Rattle.netlink.specs.Attributes.{padded}
 use Rattle.netlink_attributes.specs.Steps.{rest}
 use Rattle.netlink_attributes.specs.StepLaws.{nothing, is-short, begins, fewer, length-is, code-is}

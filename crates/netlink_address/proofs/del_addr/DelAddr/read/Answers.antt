@@ -1,4 +1,4 @@
-use Rattle.std.proofs.Common.{sym, ap, ◌∙◌, ◌&&◌, Bool, is_some}
+use Rattle.std.proofs.Common.{sym, ap, ◌∙◌, Bool}
 use Rattle.std.specs.List.{fold}
 use Rattle.refusal.specs.Laws.{handed-on}
 use Rattle.netlink.specs.Attributes.{attributes, right}

@@ -1,4 +1,4 @@
-use Rattle.std.proofs.Common.{ap, ◌∙◌, sym, Option, ℕ, List}
+use Rattle.std.proofs.Common.{ap, ◌∙◌, sym, Option, ℕ}
 use Rattle.lists.specs.Lists.{put}
 use Rattle.lists.specs.Put.{put-none}
 use Rattle.netlink_route.specs.MetricWords.{number_pair}

@@ -1,4 +1,4 @@
-use Rattle.std.proofs.Common.{arith, refl, sym, ap, ◌∙◌, ◌+◌, ◌<◌, ◌≤◌, length}
+use Rattle.std.proofs.Common.{arith, refl, ap, ◌∙◌, ◌+◌, ◌<◌, ◌≤◌, length}
 use Rattle.netlink_route.specs.PairLaws.{pairs_before, pairs-room, pairs-begun, pairs-put, pairs-long, pairs_next, pairs-ended, pairs-refused, cleared}
 use Rattle.netlink_route.proofs.metrics.Metrics.pairs.Goals as goal
 

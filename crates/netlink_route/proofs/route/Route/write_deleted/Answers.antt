@@ -1,4 +1,4 @@
-use Rattle.std.proofs.Common.{refl, ap, ◌∙◌, sym, length, List, ℕ, cond, ◌∷◌}
+use Rattle.std.proofs.Common.{refl, ap, ◌∙◌, List, ℕ, cond, ◌∷◌}
 use Rattle.lists.specs.Lists.{zeros, put}
 use Rattle.netlink_route.specs.MetricWords.{pair_row}
 use Rattle.netlink_route.specs.Words.{route_row}

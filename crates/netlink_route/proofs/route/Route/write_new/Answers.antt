@@ -1,4 +1,4 @@
-use Rattle.std.proofs.Common.{refl, ap, ◌∙◌, cond, length, List, ℕ, ◌∷◌, []}
+use Rattle.std.proofs.Common.{refl, ap, ◌∙◌, cond, List, ℕ, ◌∷◌, []}
 use Rattle.lists.specs.Lists.{zeros, put}
 use Rattle.netlink.specs.Reader.{u32, message_flags}
 use Rattle.netlink_route.specs.MetricWords.{metric_row}
