@@ -14,7 +14,9 @@ use refusal::Refusal;
 // The bytes of the longest request.
 const REQUEST_BYTES: usize = 4 * DEL_ROUTE4_WORDS;
 
+// Inlined, also into what is exported under its name: a reply handed over in memory would be waited for.
 #[unsafe(no_mangle)]
+#[inline(always)]
 pub extern "C" fn interface4w_read(message: &[u8], request: &mut [u32], up: u32) -> Reply
     ensures value { result ≡ reply_of (read_call (length request.old) up message.now) }
     ensures request_after { request.new ≡ put 0 (flat (read_call (length request.old) up message.now).rows) request.old }

@@ -18,7 +18,7 @@ pub const ADDRESS_ATTRIBUTES_AT: usize = 24;
 
 pub const ROUTE_ATTRIBUTES_AT: usize = 28;
 
-// The codes of attributes are numbers and no enum: they index a table's places, and a socket may send any.
+// The codes of attributes are numbers and no enum: a socket may send any.
 // Attributes of an address.
 pub const IFA_ADDRESS: usize = 1;
 

@@ -1,15 +1,10 @@
-// Attributes of a netlink message in lent bytes.
+// Attributes of a netlink message in lent bytes, taken one after the other in one pass.
 #![tactic(auto)]
 
-ghost use Rattle.std.specs.Prelude.{◌≡◌};
-ghost use Rattle.netlink.specs.Attributes.{parsed, attributes};
-ghost use Rattle.netlink.specs.Attributes.{right as Attributes·right};
-ghost use Rattle.netlink_attributes.specs.Steps.{right_nested};
+ghost use Rattle.std.specs.Prelude.{◌≡◌, ◌+◌, ◌<◌, length};
 
 pub mod bytes;
 pub mod fields;
-
-use netlink::codes;
 
 // The bytes of an attribute's header.
 const HEADER: usize = 4;
@@ -20,28 +15,29 @@ pub struct Attribute<'a> {
     pub payload: &'a [u8],
 }
 
-// The attributes at the start of some bytes, one after the other.
+// The attributes at the start of some bytes, one after the other: the place at which the next one begins. Padding that is left out at
+// the end puts it past the end, by up to three bytes.
 #[derive(Clone, Copy)]
 pub struct Attributes<'a> {
-    pub left: &'a [u8],
+    pub bytes: &'a [u8],
+    pub at: usize,
+    ghost within: { at < length bytes.now + 4 },
 }
 
 impl<'a> Attributes<'a> {
+    ghost use Rattle.netlink_attributes.specs.Steps.{rest, short};
+
     pub fn of(bytes: &'a [u8]) -> Self
-        ensures { result.left.now ≡ bytes.now }
+        ensures { rest result ≡ bytes.now }
     {
-        Attributes { left: bytes }
+        Attributes { bytes, at: 0 }
     }
 
-    // The bytes behind the last attribute.
-    pub fn spare(self) -> &'a [u8]
-        ensures { result.now ≡ (parsed self.entry.left.now).spare }
+    // What is left is no attribute's header.
+    pub fn is_short(&self) -> bool
+        ensures { result ≡ short (rest self.now) }
     {
-        let mut attributes = self;
-        // No `for` over `by_ref`: tried, but the library doesn't say of a `&mut` iterator that it stays the same reference, so nothing is
-        // known of `attributes` behind the loop.
-        while attributes.next().is_some() {}
-        attributes.left
+        self.bytes.len() < self.at + HEADER
     }
 }
 
@@ -55,30 +51,24 @@ impl<'a> Iterator for Attributes<'a> {
 
     ghost remaining = { item_count ahead };
 
+    // The tests stand in front of the slices, not in a `get`, so that what is built steps from header to header by an addition alone.
+    #[inline]
     fn next(&mut self) -> Option<Attribute<'a>> {
-        let left = self.left;
-        let [n, high_n, code, high_code] = *left.first_chunk::<HEADER>()?;
-        let length = usize::from(u16::from_le_bytes([n, high_n]));
-        let payload = left.get(HEADER..length)?;
-        let next = length.next_multiple_of(HEADER).min(left.len());
-        self.left = &left[next..];
+        if self.is_short() {
+            return None;
+        }
+        let left = &self.bytes[self.at..];
+        let length = usize::from(u16::from_le_bytes([left[0], left[1]]));
+        if length < HEADER {
+            return None;
+        }
+        if left.len() < length {
+            return None;
+        }
+        self.at += length.next_multiple_of(HEADER);
         Some(Attribute {
-            code: usize::from(u16::from_le_bytes([code, high_code])) % 16384,
-            payload,
+            code: usize::from(u16::from_le_bytes([left[2], left[3]]) % 16384),
+            payload: &left[HEADER..length],
         })
     }
-}
-
-// Every length is right.
-pub fn right(bytes: &[u8]) -> bool
-    ensures { result ≡ Attributes·right bytes.now }
-{
-    Attributes::of(bytes).spare().len() < HEADER
-}
-
-// Every length is right, in the metrics too.
-pub fn right_nested(bytes: &[u8]) -> bool
-    ensures { result ≡ right_nested bytes.now }
-{
-    right(bytes) && Attributes::of(bytes).all(|a| a.code != codes::RTA_METRICS || right(a.payload))
 }

@@ -1,3 +1,3 @@
-pub mod Laws
+pub mod Order
 pub mod Parts
 pub mod ShapeLaws
