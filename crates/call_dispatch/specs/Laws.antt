@@ -1,11 +1,10 @@
 -- Every call under its number: of what kind it is, what it emits, and what making it does.
 -- Assumes nothing.
-use Rattle.std.specs.Prelude.{ℕ, ◌≤◌, ◌<◌, ◌≡◌, refl, true, false, eqb, List, [], ◌∷◌, length, Ok, Err, IfOk}
+use Rattle.std.specs.Prelude.{ℕ, ◌<◌, ◌≡◌, refl, true, false, eqb, List, [], ◌∷◌, length, Ok, Err, IfOk}
 use Rattle.std.specs.Prelude.{Result as Answer}
 use Rattle.std.proofs.Common.{arith, sym, ap, subst, ◌∙◌, eqb-true}
-use Rattle.std.proofs.lemmas.Bool.{eqb-false}
 use Rattle.lists.specs.Lists.{Row, flat, put}
-use Rattle.lists.specs.Bools.{cond-case, test-case}
+use Rattle.lists.specs.Bools.{cond-case}
 use Rattle.lists.specs.Put.{put-no-rows}
 use Rattle.refusal.specs.declared.Refusal.{Refusal}
 use Rattle.layout.specs.Address.{fit_address}
@@ -21,7 +20,7 @@ use Rattle.call_change.specs.Emitted.{emitted, count-fits}
 use Rattle.call_reply.specs.declared.Reply as Rep
 use Rattle.call_reply.specs.Answer.{reply_from, reply_of, numbers_in}
 use Rattle.call_dispatch.specs.declared.numbered.Call.{Call as Named}
-use Rattle.call_dispatch.specs.declared.numbered.Call.TheVariants.{Up, Down, AddV4, DelV4, Expire, AddRoute4, DelRoute4, Dump4, Lookup4, Lookup4Flow, Local4, Source4, Source, Select4, Left}
+use Rattle.call_dispatch.specs.declared.numbered.UnknownCall.{UnknownCall}
 use Rattle.call_dispatch.specs.Numbered.{code_of, call_of, Change, up_at, down_at, add_v4_at, del_v4_at, expire_at, add_route4_at, del_route4_at, change_at, find_at, ask_at, Did}
 
 -- ---- the calls that change
@@ -140,27 +139,28 @@ left-did row clock w b e f s =
       buffer = put-no-rows b ∙ ap (λ (z : List Row). put 0 (flat z) b) (sym (left-quiet row clock));
     }
 
--- ---- the numbers from 1 to 15 are a call's
-pub record Names (code : ℕ) (x : Named) : Type 0 where
-  pub named : call_of code ≡ Ok x
-  pub number : code_of x ≡ code
-
-pub named : (c : ℕ) → 1 ≤ c → c ≤ 15 → (x : Named) × Names c x
+-- ---- the call of a number has that number
+own_code : (c : ℕ) → IfOk (call_of c) (λ x. code_of x ≡ c)
 unfolding call_of
-named c low high =
-    test-case (eqb c 1) (λ e. (Up, record { named = rw (e) refl; number = sym (eqb-true c 1 e) })) (λ e1.
-    test-case (eqb c 2) (λ e. (Down, record { named = rw (e1, e) refl; number = sym (eqb-true c 2 e) })) (λ e2.
-    test-case (eqb c 3) (λ e. (AddV4, record { named = rw (e1, e2, e) refl; number = sym (eqb-true c 3 e) })) (λ e3.
-    test-case (eqb c 4) (λ e. (DelV4, record { named = rw (e1, e2, e3, e) refl; number = sym (eqb-true c 4 e) })) (λ e4.
-    test-case (eqb c 5) (λ e. (Expire, record { named = rw (e1, e2, e3, e4, e) refl; number = sym (eqb-true c 5 e) })) (λ e5.
-    test-case (eqb c 6) (λ e. (AddRoute4, record { named = rw (e1, e2, e3, e4, e5, e) refl; number = sym (eqb-true c 6 e) })) (λ e6.
-    test-case (eqb c 7) (λ e. (DelRoute4, record { named = rw (e1, e2, e3, e4, e5, e6, e) refl; number = sym (eqb-true c 7 e) })) (λ e7.
-    test-case (eqb c 8) (λ e. (Dump4, record { named = rw (e1, e2, e3, e4, e5, e6, e7, e) refl; number = sym (eqb-true c 8 e) })) (λ e8.
-    test-case (eqb c 9) (λ e. (Lookup4, record { named = rw (e1, e2, e3, e4, e5, e6, e7, e8, e) refl; number = sym (eqb-true c 9 e) })) (λ e9.
-    test-case (eqb c 10) (λ e. (Lookup4Flow, record { named = rw (e1, e2, e3, e4, e5, e6, e7, e8, e9, e) refl; number = sym (eqb-true c 10 e) })) (λ e10.
-    test-case (eqb c 11) (λ e. (Local4, record { named = rw (e1, e2, e3, e4, e5, e6, e7, e8, e9, e10, e) refl; number = sym (eqb-true c 11 e) })) (λ e11.
-    test-case (eqb c 12) (λ e. (Source4, record { named = rw (e1, e2, e3, e4, e5, e6, e7, e8, e9, e10, e11, e) refl; number = sym (eqb-true c 12 e) })) (λ e12.
-    test-case (eqb c 13) (λ e. (Source, record { named = rw (e1, e2, e3, e4, e5, e6, e7, e8, e9, e10, e11, e12, e) refl; number = sym (eqb-true c 13 e) })) (λ e13.
-    test-case (eqb c 14) (λ e. (Select4, record { named = rw (e1, e2, e3, e4, e5, e6, e7, e8, e9, e10, e11, e12, e13, e) refl; number = sym (eqb-true c 14 e) })) (λ e14.
-    test-case (eqb c 15) (λ e. (Left, record { named = rw (e1, e2, e3, e4, e5, e6, e7, e8, e9, e10, e11, e12, e13, e14, e) refl; number = sym (eqb-true c 15 e) })) (λ e15.
-    absurd (omega (arith, low, high, eqb-false c 1 e1, eqb-false c 2 e2, eqb-false c 3 e3, eqb-false c 4 e4, eqb-false c 5 e5, eqb-false c 6 e6, eqb-false c 7 e7, eqb-false c 8 e8, eqb-false c 9 e9, eqb-false c 10 e10, eqb-false c 11 e11, eqb-false c 12 e12, eqb-false c 13 e13, eqb-false c 14 e14, eqb-false c 15 e15)))))))))))))))))
+own_code c =
+    let P : Answer Named UnknownCall → Type 0 = λ r. IfOk r (λ x. code_of x ≡ c) in
+    cond-case P (eqb c 1) (λ e. sym (eqb-true c 1 e)) (λ e.
+    cond-case P (eqb c 2) (λ e. sym (eqb-true c 2 e)) (λ e.
+    cond-case P (eqb c 3) (λ e. sym (eqb-true c 3 e)) (λ e.
+    cond-case P (eqb c 4) (λ e. sym (eqb-true c 4 e)) (λ e.
+    cond-case P (eqb c 5) (λ e. sym (eqb-true c 5 e)) (λ e.
+    cond-case P (eqb c 6) (λ e. sym (eqb-true c 6 e)) (λ e.
+    cond-case P (eqb c 7) (λ e. sym (eqb-true c 7 e)) (λ e.
+    cond-case P (eqb c 8) (λ e. sym (eqb-true c 8 e)) (λ e.
+    cond-case P (eqb c 9) (λ e. sym (eqb-true c 9 e)) (λ e.
+    cond-case P (eqb c 10) (λ e. sym (eqb-true c 10 e)) (λ e.
+    cond-case P (eqb c 11) (λ e. sym (eqb-true c 11 e)) (λ e.
+    cond-case P (eqb c 12) (λ e. sym (eqb-true c 12 e)) (λ e.
+    cond-case P (eqb c 13) (λ e. sym (eqb-true c 13 e)) (λ e.
+    cond-case P (eqb c 14) (λ e. sym (eqb-true c 14 e)) (λ e.
+    cond-case P (eqb c 15) (λ e. sym (eqb-true c 15 e)) (λ e.
+    cond-case P (eqb c 19) (λ e. sym (eqb-true c 19 e)) (λ e.
+    cond-case P (eqb c 20) (λ e. sym (eqb-true c 20 e)) (λ e. tt)))))))))))))))))
+
+pub coded : (c : ℕ) {x : Named} → call_of c ≡ Ok x → code_of x ≡ c
+coded c h = subst (λ (r : Answer Named UnknownCall). IfOk r (λ y. code_of y ≡ c)) h (own_code c)

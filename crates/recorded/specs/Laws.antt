@@ -1,7 +1,7 @@
 -- Laws of a record's parts.
 -- Assumes nothing.
 use Rattle.std.specs.Prelude.{ℕ, zero, suc, ◌+◌, ◌*◌, ◌/◌, ◌%◌, ◌≤◌, ◌<◌, ◌≡◌, refl, Bool, true, ◌&&◌, List, [], ◌∷◌, ◌++◌, eqb, leb, length, get_or, set, take, drop}
-use Rattle.std.proofs.Common.{sym, ap, ◌∙◌, arith, add-one, drop_of_length-le, drop-cons, length-take-le, leb-true, le-leb}
+use Rattle.std.proofs.Common.{ap, ◌∙◌, arith, add-one, drop_of_length-le, drop-cons, length-take-le, leb-true, le-leb}
 use Rattle.std.specs.List.{fold}
 use Rattle.std.specs.Simd.{first_chunks}
 use Rattle.lists.specs.Lists.{Row, flat, put, eq_row}
@@ -9,12 +9,7 @@ use Rattle.lists.specs.Bools.{and_left, and_right}
 use Rattle.definition.specs.Step.{Result, event_room}
 use Rattle.call_reply.specs.declared.Reply.{Reply}
 use Rattle.call_reply.specs.Answer.{reply_of}
-use Rattle.std.specs.Prelude.{Ok}
-use Rattle.std.specs.Prelude.{Result as Answer}
-use Rattle.call_dispatch.specs.declared.numbered.Call.{Call as Named}
-use Rattle.call_dispatch.specs.declared.numbered.UnknownCall.{UnknownCall}
-use Rattle.call_dispatch.specs.Numbered.{call_by, code_of, call_of, Did}
-use Rattle.call_dispatch.specs.Laws.{named}
+use Rattle.call_dispatch.specs.Numbered.{is_call, call_by, Did}
 use Rattle.recorded.specs.Record.{held_size, check_from, fit, Bounds, set_all, before_of, lent_of, changes_of, rows_of, result_of, held_by, buffer_by, part, check_of, same_reply, agrees}
 
 -- one word more, as the code reckons it
@@ -68,30 +63,21 @@ unfolding fit
 fits r h =
     let first = leb 16 (length r) in
     let l =
-    leb (length r) 4096 ∷ eqb (get_or r 0 0) (check_of (part 1 (length r) r)) ∷ eqb (get_or r 1 0) (length r) ∷ leb 1 (get_or r 2 0) ∷ leb (get_or r 2 0) 15 ∷ leb (get_or r 3 0) 1 ∷ leb (get_or r 4 0) held_size
+    leb (length r) 4096 ∷ eqb (get_or r 0 0) (check_of (part 1 (length r) r)) ∷ eqb (get_or r 1 0) (length r) ∷ is_call (get_or r 2 0) ∷ leb (get_or r 3 0) 1 ∷ leb (get_or r 4 0) held_size
     ∷ leb (get_or r 5 0) event_room ∷ leb 16 (get_or r 10 0) ∷ leb (get_or r 10 0) (get_or r 11 0) ∷ leb (get_or r 11 0) (get_or r 12 0) ∷ leb (get_or r 12 0) (length r) ∷ []
     in
     let at = ands-at first l h in
     record {
       long = leb-true 16 (length r) (ands-first first l h);
       few = leb-true (length r) 4096 (at 0);
-      call_from = leb-true 1 (get_or r 2 0) (at 3);
-      call_to = leb-true (get_or r 2 0) 15 (at 4);
-      state = leb-true (get_or r 4 0) held_size (at 6);
-      buffer = leb-true (get_or r 5 0) event_room (at 7);
-      sets = leb-true 16 (get_or r 10 0) (at 8);
-      lent = leb-true (get_or r 10 0) (get_or r 11 0) (at 9);
-      changes = leb-true (get_or r 11 0) (get_or r 12 0) (at 10);
-      rows = leb-true (get_or r 12 0) (length r) (at 11);
+      call = at 3;
+      state = leb-true (get_or r 4 0) held_size (at 5);
+      buffer = leb-true (get_or r 5 0) event_room (at 6);
+      sets = leb-true 16 (get_or r 10 0) (at 7);
+      lent = leb-true (get_or r 10 0) (get_or r 11 0) (at 8);
+      changes = leb-true (get_or r 11 0) (get_or r 12 0) (at 9);
+      rows = leb-true (get_or r 12 0) (length r) (at 10);
     }
-
--- a number of a record is its call's
-pub coded : (c : ℕ) {x : Named} → 1 ≤ c → c ≤ 15 → call_of c ≡ Ok x → code_of x ≡ c
-coded c {x} low high h =
-    let k = named c low high in
-    let both : ◌≡◌ {A = Answer Named UnknownCall} (Ok x) (Ok k.0) = sym h ∙ k.1.named in
-    let same : x ≡ k.0 = cc in
-    ap code_of same ∙ k.1.number
 
 -- the call on the first of the held words and the first of the buffer
 pub answered : (r : Row) (h b : List ℕ) (q : Row) {x : Reply} {h' b' : List ℕ} → get_or r 5 0 ≤ length b → q ≡ lent_of r
@@ -117,8 +103,8 @@ agreed r h b h₁ rows wanted left b' changes h₂ reply x y z begins says store
     rw (ex, ey, ez, answers, leaves, sets, changed, writes, stores, says, begins)
 
 -- the tests behind those of the length
-pub tests : (r : Row) (k : ℕ) → 16 ≤ length r → length r ≤ 4096 → k ≡ check_of (part 1 (length r) r)
-    → eqb (get_or r 0 0) k && eqb (get_or r 1 0) (length r) && leb 1 (get_or r 2 0) && leb (get_or r 2 0) 15 && leb (get_or r 3 0) 1 && leb (get_or r 4 0) held_size && leb (get_or r 5 0) event_room
+pub tests : (r : Row) (k : ℕ) (known : Bool) → 16 ≤ length r → length r ≤ 4096 → k ≡ check_of (part 1 (length r) r) → known ≡ is_call (get_or r 2 0)
+    → eqb (get_or r 0 0) k && eqb (get_or r 1 0) (length r) && known && leb (get_or r 3 0) 1 && leb (get_or r 4 0) held_size && leb (get_or r 5 0) event_room
     && leb 16 (get_or r 10 0) && leb (get_or r 10 0) (get_or r 11 0) && leb (get_or r 11 0) (get_or r 12 0) && leb (get_or r 12 0) (length r) ≡ fit r
 unfolding fit
-tests r k h i e = rw (e, le-leb 16 (length r) h, le-leb (length r) 4096 i)
+tests r k known h i e f = rw (e, f, le-leb 16 (length r) h, le-leb (length r) 4096 i)

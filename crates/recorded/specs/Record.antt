@@ -1,11 +1,11 @@
 -- A record of the list of answers (host/README.md, "The list of answers"): its parts, when it is whole, and when a call agrees with it.
-use Rattle.std.specs.Prelude.{ℕ, ◌+◌, ◌-◌, ◌*◌, ◌%◌, ◌≤◌, Bool, cond, ◌&&◌, List, [], ◌∷◌, ◌++◌, eqb, leb, length, get_or, set, take, drop}
+use Rattle.std.specs.Prelude.{ℕ, ◌+◌, ◌-◌, ◌*◌, ◌%◌, ◌≤◌, ◌≡◌, Bool, true, cond, ◌&&◌, List, [], ◌∷◌, ◌++◌, eqb, leb, length, get_or, set, take, drop}
 use Rattle.lists.specs.Lists.{Row, flat, put, zeros, eq_row}
 use Rattle.definition.specs.Words.{state_size}
 use Rattle.definition.specs.Step.{Result, event_room}
 use Rattle.call_reply.specs.declared.Reply.{Reply}
 use Rattle.call_reply.specs.Answer.{reply_of}
-use Rattle.call_dispatch.specs.Numbered.{call_by}
+use Rattle.call_dispatch.specs.Numbered.{is_call, call_by}
 use Rattle.recorded.specs.declared.Verdict.{Verdict}
 use Rattle.recorded.specs.declared.Verdict.TheVariants.{Damaged, Other, Same}
 
@@ -49,8 +49,7 @@ fit r =
     && leb (length r) 4096
     && eqb (get_or r 0 0) (check_of (part 1 (length r) r))
     && eqb (get_or r 1 0) (length r)
-    && leb 1 (get_or r 2 0)
-    && leb (get_or r 2 0) 15
+    && is_call (get_or r 2 0)
     && leb (get_or r 3 0) 1
     && leb (get_or r 4 0) held_size
     && leb (get_or r 5 0) event_room
@@ -63,8 +62,7 @@ fit r =
 pub record Bounds (r : Row) : Type 0 where
   pub long : 16 ≤ length r
   pub few : length r ≤ 4096
-  pub call_from : 1 ≤ get_or r 2 0
-  pub call_to : get_or r 2 0 ≤ 15
+  pub call : is_call (get_or r 2 0) ≡ true
   pub state : get_or r 4 0 ≤ held_size
   pub buffer : get_or r 5 0 ≤ event_room
   pub sets : 16 ≤ get_or r 10 0

@@ -7,6 +7,7 @@ pub mod record;
 ghost use Rattle.std.specs.Prelude.{◌≡◌, get_or};
 ghost use Rattle.recorded.specs.Record.{check_of, fit, verdict_of, held_after, buffer_after};
 
+use call_dispatch::numbered::Call;
 use layout::{EVENT_BUFFER, STATE_WORDS};
 use record::Record;
 
@@ -34,8 +35,7 @@ pub fn whole(r: &[u32]) -> bool
     }
     (r[record::CHECK] == check(&r[1..]))
         & (r[record::LENGTH] as usize == r.len())
-        & (1 <= r[record::CALL])
-        & (r[record::CALL] <= 15)
+        & Call::try_from(r[record::CALL]).is_ok()
         & (r[record::RESTARTS] <= 1)
         & (r[record::STATE] as usize <= HELD_WORDS)
         & (r[record::BUFFER] as usize <= EVENT_BUFFER)
