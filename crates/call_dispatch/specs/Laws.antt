@@ -158,7 +158,9 @@ own_code c =
     cond-case P (eqb c 12) (λ e. sym (eqb-true c 12 e)) (λ e.
     cond-case P (eqb c 13) (λ e. sym (eqb-true c 13 e)) (λ e.
     cond-case P (eqb c 14) (λ e. sym (eqb-true c 14 e)) (λ e.
-    cond-case P (eqb c 15) (λ e. sym (eqb-true c 15 e)) (λ e. tt)))))))))))))))
+    cond-case P (eqb c 15) (λ e. sym (eqb-true c 15 e)) (λ e.
+    cond-case P (eqb c 19) (λ e. sym (eqb-true c 19 e)) (λ e.
+    cond-case P (eqb c 20) (λ e. sym (eqb-true c 20 e)) (λ e. tt)))))))))))))))))
 
 pub coded : (c : ℕ) {x : Named} → call_of c ≡ Ok x → code_of x ≡ c
 coded c h = subst (λ (r : Answer Named UnknownCall). IfOk r (λ y. code_of y ≡ c)) h (own_code c)

@@ -5,9 +5,10 @@ use Rattle.lists.specs.Lists.{Row, flat, put}
 use Rattle.layout.specs.Request.{add_v4_size, del_v4_size, add_route4_size, del_route4_size}
 use Rattle.definition.specs.Call.{Call}
 use Rattle.definition.specs.Step.{unfit, Result, step, left_call}
+use Rattle.call_mask.specs.Masked.{add_v4_mask_call, del_v4_mask_call}
 use Rattle.call_reply.specs.declared.Reply.{Reply}
 use Rattle.call_dispatch.specs.declared.numbered.Call.{Call as Named}
-use Rattle.call_dispatch.specs.declared.numbered.Call.TheVariants.{Up, Down, AddV4, DelV4, Expire, AddRoute4, DelRoute4, Dump4, Lookup4, Lookup4Flow, Local4, Source4, Source, Select4, Left}
+use Rattle.call_dispatch.specs.declared.numbered.Call.TheVariants.{Up, Down, AddV4, DelV4, Expire, AddRoute4, DelRoute4, Dump4, Lookup4, Lookup4Flow, Local4, Source4, Source, Select4, Left, AddV4Mask, DelV4Mask}
 use Rattle.call_dispatch.specs.declared.numbered.UnknownCall.{UnknownCall}
 use Rattle.call_reply.specs.Answer.{reply_of}
 
@@ -67,6 +68,10 @@ ask_at code row a b c =
     (cond (eqb code 12) (Call.source4 row a)
     (cond (eqb code 13) (Call.source a) (Call.select4 a b c)))
 
+-- ---- 19 and 20 are 3 and 4 with a netmask in place of the prefix, which are no Call: on the state's words
+abbrev pub masked_at : ℕ → Row → ℕ → ℕ → List ℕ → Result
+masked_at code q clock room w = cond (eqb code 19) (add_v4_mask_call q room clock w) (del_v4_mask_call q room w)
+
 -- ---- all, on the state's words: 8 lists the routes, 15 is left, which doesn't see them
 unfoldable pub call_by : ℕ → Row → ℕ → ℕ → ℕ → ℕ → List ℕ → Result
 call_by code lent a b c room w =
@@ -74,7 +79,8 @@ call_by code lent a b c room w =
     (cond (eqb code 8) (step (Call.dump4 room) w)
     (cond (leb code 10) (step (find_at code room a b c) w)
     (cond (leb code 14) (step (ask_at code lent a b c) w)
-    (record { reply = left_call lent (clock_of a b); words = w }))))
+    (cond (eqb code 15) (record { reply = left_call lent (clock_of a b); words = w })
+    (masked_at code lent (clock_of a b) room w)))))
 
 -- ---- the calls that have a number
 abbrev pub code_of : Named → ℕ
@@ -93,6 +99,8 @@ code_of Source4 = 12
 code_of Source = 13
 code_of Select4 = 14
 code_of Left = 15
+code_of AddV4Mask = 19
+code_of DelV4Mask = 20
 
 unfoldable pub call_of : ℕ → Answer Named UnknownCall
 call_of c =
@@ -111,7 +119,9 @@ call_of c =
     (cond (eqb c 13) (Ok Source)
     (cond (eqb c 14) (Ok Select4)
     (cond (eqb c 15) (Ok Left)
-    (Err (record { 0 = c }))))))))))))))))
+    (cond (eqb c 19) (Ok AddV4Mask)
+    (cond (eqb c 20) (Ok DelV4Mask)
+    (Err (record { 0 = c }))))))))))))))))))
 
 abbrev pub is_call : ℕ → Bool
 is_call c = is_ok (call_of c)

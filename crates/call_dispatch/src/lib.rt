@@ -7,6 +7,7 @@ ghost use Rattle.layout.specs.Event as Event;
 ghost use Rattle.definition.specs.Call.{Call};
 ghost use Rattle.definition.specs.Step.{event_room, step};
 ghost use Rattle.definition.specs.Noninterference.Public.{Made};
+ghost use Rattle.call_mask.specs.Masked.{add_v4_mask_call, del_v4_mask_call};
 ghost use Rattle.call_reply.specs.Answer.{numbers_in};
 ghost use Rattle.call_dispatch.specs.Numbered.{Did};
 
@@ -87,6 +88,21 @@ pub fn del_route4_lent(state: &mut [u32], q: &[u32], room: usize, events: &mut [
         events.old result state.new events.new }
 {
     Reply::of(call_change::del_route4_lent(state, q, room, events))
+}
+
+// ---- those with a netmask in place of the prefix, which are no Call of the definition
+pub fn add_v4_mask(state: &mut [u32], q: &[u32], events: &mut [u32], clock: u64) -> Reply
+    ensures { Did (add_v4_mask_call q.now (length events.old) clock state.old)
+        events.old result state.new events.new }
+{
+    Reply::of(call_mask::add_v4(state, q, events, clock))
+}
+
+pub fn del_v4_mask(state: &mut [u32], q: &[u32], events: &mut [u32]) -> Reply
+    ensures { Did (del_v4_mask_call q.now (length events.old) state.old)
+        events.old result state.new events.new }
+{
+    Reply::of(call_mask::del_v4(state, q, events))
 }
 
 // ---- those that read, and write rows

@@ -24,6 +24,8 @@ pub enum Call {
     Source,
     Select4,
     Left,
+    AddV4Mask,
+    DelV4Mask,
 }
 
 // A number that is no call's.
@@ -61,6 +63,8 @@ impl TryFrom<u32> for Call {
             13 => Ok(Call::Source),
             14 => Ok(Call::Select4),
             15 => Ok(Call::Left),
+            19 => Ok(Call::AddV4Mask),
+            20 => Ok(Call::DelV4Mask),
             _ => Err(UnknownCall(code)),
         }
     }
@@ -86,6 +90,8 @@ impl From<Call> for u32 {
             Call::Source => 13,
             Call::Select4 => 14,
             Call::Left => 15,
+            Call::AddV4Mask => 19,
+            Call::DelV4Mask => 20,
         }
     }
 }
@@ -108,6 +114,8 @@ impl fmt::Display for Call {
             Call::Source => write!(f, "source"),
             Call::Select4 => write!(f, "select4"),
             Call::Left => write!(f, "left"),
+            Call::AddV4Mask => write!(f, "add_v4_mask"),
+            Call::DelV4Mask => write!(f, "del_v4_mask"),
         }
     }
 }
@@ -151,6 +159,8 @@ impl Call {
             Call::Source => crate::source(state, a),
             Call::Select4 => crate::select4(state, a, b, c),
             Call::Left => call_reply::remaining(row_address::left(lent, clock_of(a, b))),
+            Call::AddV4Mask => crate::add_v4_mask(state, lent, buffer, clock_of(a, b)),
+            Call::DelV4Mask => crate::del_v4_mask(state, lent, buffer),
         }
     }
 }

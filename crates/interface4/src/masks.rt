@@ -36,7 +36,7 @@ pub extern "C" fn interface4w_add_v4_mask(
     ensures { Did (add_v4_mask_call request.now (length events.old) clock state.old)
         events.old result state.new events.new }
 {
-    Reply::of(call_mask::add_v4(state, request, events, clock))
+    call_dispatch::add_v4_mask(state, request, events, clock)
 }
 
 #[unsafe(no_mangle)]
@@ -48,7 +48,7 @@ pub extern "C" fn interface4w_del_v4_mask(
     ensures { Did (del_v4_mask_call request.now (length events.old) state.old)
         events.old result state.new events.new }
 {
-    Reply::of(call_mask::del_v4(state, request, events))
+    call_dispatch::del_v4_mask(state, request, events)
 }
 
 // The refusal of a mask, behind those of the state and of the room for events.

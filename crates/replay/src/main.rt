@@ -17,8 +17,8 @@ use std::{array, fmt, fs, str};
 // The most words of a record.
 const MOST: usize = 4096;
 
-// The calls' numbers are 1 to 15.
-const CALLS: usize = 16;
+// The calls' numbers go up to 20.
+const CALLS: usize = 21;
 
 // The next record, in room for the longest. Its second word says how many it has.
 fn next<'a>(input: &mut impl Read, room: &'a mut [u32; MOST]) -> Option<&'a [u32]> {

@@ -91,16 +91,22 @@ pub fn run(count: usize, seed: u64) -> bool {
     missed.is_empty() && others.is_empty() && unfit == expected_unfit()
 }
 
-fn answer_text(code: u32, number: u32) -> String {
-    format!("{} {number}", NAMES[code as usize - 1])
-}
-
 /// The answers that are not among those seen.
 pub fn unseen(seen: &BTreeMap<(u32, u32), usize>) -> Vec<String> {
-    let all = (1..).zip(ANSWERS);
-    let pairs = all.flat_map(|(code, answers)| answers.iter().map(move |&n| (code, n)));
-    let missing = pairs.filter(|pair| !seen.contains_key(pair));
-    missing.map(|(code, n)| answer_text(code, n)).collect()
+    let all = NAMES.iter().zip(1..).zip(ANSWERS);
+    all.flat_map(|((name, code), answers)| unseen_of(seen, name, code, answers))
+        .collect()
+}
+
+/// Those of one call.
+pub fn unseen_of(
+    seen: &BTreeMap<(u32, u32), usize>,
+    name: &str,
+    code: u32,
+    answers: &[u32],
+) -> Vec<String> {
+    let missing = answers.iter().filter(|&&n| !seen.contains_key(&(code, n)));
+    missing.map(|n| format!("{name} {n}")).collect()
 }
 
 /// Those seen that no call of the kind gives.
@@ -109,7 +115,8 @@ fn others(seen: &BTreeMap<(u32, u32), usize>) -> Vec<String> {
         ANSWERS[code as usize - 1].contains(&n) || code == 6 && (1..=133).contains(&n)
     };
     let strange = seen.keys().filter(|pair| !known(pair));
-    strange.map(|&(code, n)| answer_text(code, n)).collect()
+    let text = |&(code, n): &(u32, u32)| format!("{} {n}", NAMES[code as usize - 1]);
+    strange.map(text).collect()
 }
 
 /// The model's reply, with a buffer cut to whole words as a slice of bytes

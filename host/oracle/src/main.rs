@@ -1,5 +1,6 @@
 //! The oracle's commands. Every one ends with a line of counts; the exit
 //! status is 0 only if nothing failed.
+use oracle::vectors::{MODELS, Makers};
 use oracle::{
     checks, coverage, document, examples, facts, faults, json, linux, messages, netmask, pairs,
     rfc, vectors,
@@ -141,15 +142,23 @@ fn replayed(data: &[u32]) -> Result<bool, String> {
     let records = vectors::replay(data)?;
     let mut found = 0;
     let mut missed = 0;
-    for fault in faults::on_words() {
-        if vectors::replay_on(data, fault.run).is_ok() {
-            println!("MISSED  {}", fault.name);
+    let calls = faults::on_words().map(|fault| {
+        let calls = fault.run;
+        (fault.name, Makers { calls, ..MODELS })
+    });
+    let masked = faults::masks::FAULTS.iter().map(|fault| {
+        let masked = fault.run;
+        (fault.name, Makers { masked, ..MODELS })
+    });
+    for (name, faulty) in calls.chain(masked) {
+        if vectors::replay_on(data, faulty).is_ok() {
+            println!("MISSED  {name}");
             missed += 1;
         } else {
             found += 1;
         }
     }
-    let missing = coverage::unseen(&vectors::answers(data));
+    let missing = vectors::unseen(data);
     for answer in &missing {
         println!("MISSING {answer}");
     }

@@ -50,6 +50,19 @@ pub fn with_word(call: &Call, word: u32) -> Call {
 
 /// The calls whose requests have a mask in place of the prefix: 200, 201,
 /// 207, and then the call with the prefix.
+pub fn masked(call: &Call, state: &mut [u32], buffer: &mut [u32]) -> Reply {
+    let before = model::lengths(call, state, buffer.len());
+    if let Err(number) = before.and_then(|()| model::standing(call, state)) {
+        return Reply::refused(number);
+    }
+    let prefix = model(mask(call));
+    if prefix.number != 0 {
+        return prefix;
+    }
+    model::model(&with_word(call, prefix.value), state, buffer)
+}
+
+/// These as a port.
 pub struct Masked;
 
 impl WordPort for Masked {
@@ -57,15 +70,7 @@ impl WordPort for Masked {
         "the model of masks".to_string()
     }
     fn call(&mut self, call: &Call, state: &mut [u32], buffer: &mut [u32]) -> Reply {
-        let before = model::lengths(call, state, buffer.len());
-        if let Err(number) = before.and_then(|()| model::standing(call, state)) {
-            return Reply::refused(number);
-        }
-        let prefix = model(mask(call));
-        if prefix.number != 0 {
-            return prefix;
-        }
-        model::model(&with_word(call, prefix.value), state, buffer)
+        masked(call, state, buffer)
     }
 }
 

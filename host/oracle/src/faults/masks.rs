@@ -5,8 +5,8 @@ use crate::compare::{against, effect};
 use crate::fit;
 use crate::generate::masks::Masks;
 use crate::model::{self, INVALID, UNFIT_REQUEST};
-use crate::netmask::{self, BAD_MASK, Masked, mask, with_word};
-use crate::port::{Bytes, WordPort};
+use crate::netmask::{self, BAD_MASK, Masked, mask, masked, with_word};
+use crate::port::Bytes;
 
 pub const FAULTS: &[Fault] = &[
     Fault::new("202 before 207", fields_first),
@@ -47,7 +47,7 @@ fn request_first(number: u32, call: &Call, state: &mut [u32], buffer: &mut [u32]
     if stands && fit::request(&with_word(call, 0)).err() == Some(number) {
         return Reply::refused(number);
     }
-    Masked.call(call, state, buffer)
+    masked(call, state, buffer)
 }
 
 fn mask_before_state(call: &Call, state: &mut [u32], buffer: &mut [u32]) -> Reply {
@@ -55,11 +55,11 @@ fn mask_before_state(call: &Call, state: &mut [u32], buffer: &mut [u32]) -> Repl
     if lengths.is_ok() && netmask::model(mask(call)).number == BAD_MASK {
         return Reply::refused(BAD_MASK);
     }
-    Masked.call(call, state, buffer)
+    masked(call, state, buffer)
 }
 
 fn state_changed(call: &Call, state: &mut [u32], buffer: &mut [u32]) -> Reply {
-    let reply = Masked.call(call, state, buffer);
+    let reply = masked(call, state, buffer);
     if reply.number == BAD_MASK {
         state[0] ^= 1;
     }
@@ -67,7 +67,7 @@ fn state_changed(call: &Call, state: &mut [u32], buffer: &mut [u32]) -> Reply {
 }
 
 fn buffer_changed(call: &Call, state: &mut [u32], buffer: &mut [u32]) -> Reply {
-    let reply = Masked.call(call, state, buffer);
+    let reply = masked(call, state, buffer);
     if reply.number == BAD_MASK {
         buffer[0] = 0;
     }
@@ -76,7 +76,7 @@ fn buffer_changed(call: &Call, state: &mut [u32], buffer: &mut [u32]) -> Reply {
 
 fn leading_ones(call: &Call, state: &mut [u32], buffer: &mut [u32]) -> Reply {
     if model::lengths(call, state, buffer.len()).is_err() {
-        return Masked.call(call, state, buffer);
+        return masked(call, state, buffer);
     }
     let prefix = mask(call).leading_ones();
     model::model(&with_word(call, prefix), state, buffer)

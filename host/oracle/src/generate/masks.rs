@@ -1,5 +1,5 @@
 //! Requests for an address with a netmask in place of the prefix.
-use super::cases::{Cases, USUAL};
+use super::cases::{Cases, USUAL, Weights};
 use crate::compare::Case;
 use crate::netmask::place;
 use crate::rng::Rng;
@@ -12,8 +12,13 @@ pub struct Masks {
 
 impl Masks {
     pub fn new(seed: u64) -> Self {
+        Self::weighted(seed, USUAL)
+    }
+
+    /// Of some origins.
+    pub fn weighted(seed: u64, weights: Weights) -> Self {
         Self {
-            cases: Cases::new(seed, USUAL),
+            cases: Cases::new(seed, weights),
             rng: Rng::new(!seed),
         }
     }

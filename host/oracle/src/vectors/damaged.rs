@@ -11,6 +11,7 @@ const ADD_ROUTE4: usize = 3;
 
 /// The places of a record's words.
 const LENGTH: usize = 1;
+const CALL: usize = 2;
 const NUMBER: usize = 6;
 const VALUE: usize = 8;
 const SETS_END: usize = 10;
@@ -58,6 +59,8 @@ pub fn lists(data: &[u32]) -> Vec<(&'static str, Vec<u8>)> {
             }),
         ),
         ("listing", saying(DUMP4, &|r| raise(r, CHANGES_END, 0))),
+        // a number between those of calls
+        ("call", saying(DUMP4, &|r| r[CALL] = 16)),
         ("byte", flipped),
         ("short", whole[..whole.len() - 1].to_vec()),
         ("long", [whole.clone(), vec![0]].concat()),

@@ -1,25 +1,29 @@
 //! The fixed list of answers: a file of little-endian words that a program
 //! without Rust at hand can replay. host/README.md describes its format.
 mod damaged;
+mod masked;
 mod replay;
 mod traps;
 
-pub use replay::{answers, replay, replay_on};
+pub use replay::{MODELS, Makers, replay, replay_on};
 
 use crate::call::Call;
 use crate::campaign;
 use crate::compare::{Case, filled};
 use crate::coverage;
-use crate::faults;
+use crate::faults::{self, Run};
 use crate::generate::calls::{self, Host};
-use crate::generate::cases::{Cases, Weights};
+use crate::generate::cases::Cases;
+use crate::generate::masks::Masks;
 use crate::generate::states::Sizes;
 use crate::generate::{damage, limits, states};
 use crate::model::model;
+use crate::netmask;
 use crate::port::bytes;
 use crate::rng::Rng;
 use crate::script::written;
 use crate::words::{self, STATE_WORDS};
+use replay::answers;
 use std::collections::BTreeMap;
 use std::fs;
 use std::path::Path;
@@ -42,6 +46,10 @@ pub const HELD_WORDS: usize = STATE_WORDS + 1;
 const SEQUENCES: usize = 44_000;
 const DIRECT: usize = 12_000;
 const LIMITS: usize = 16_500;
+const MASKED: usize = 8_000;
+
+/// What writes a case into the list, if there is room for it.
+type Record = fn(&mut Writer, &Case) -> bool;
 
 /// The list in the making.
 struct Writer {
@@ -54,8 +62,7 @@ struct Writer {
 /// lacks an answer.
 pub fn write(folder: &str, seed: u64) -> Result<(), String> {
     let data = vectors(seed);
-    let seen = answers(&data);
-    let missing = coverage::unseen(&seen);
+    let missing = unseen(&data);
     if !missing.is_empty() {
         return Err(format!("not in the list: {}", missing.join("; ")));
     }
@@ -66,7 +73,7 @@ pub fn write(folder: &str, seed: u64) -> Result<(), String> {
         fs::write(&path, content).map_err(|e| format!("{}: {e}", path.display()))?;
     }
     let mut counts: BTreeMap<u32, usize> = BTreeMap::new();
-    for ((_, number), times) in seen {
+    for ((_, number), times) in answers(&data) {
         *counts.entry(number).or_default() += times;
     }
     let text: Vec<String> = counts.iter().map(|(n, k)| format!("{n}: {k}")).collect();
@@ -80,6 +87,12 @@ pub fn write(folder: &str, seed: u64) -> Result<(), String> {
     Ok(())
 }
 
+/// The answers that are not in a list.
+pub fn unseen(data: &[u32]) -> Vec<String> {
+    let seen = answers(data);
+    [coverage::unseen(&seen), masked::unseen(&seen)].concat()
+}
+
 /// The words of the list.
 pub fn vectors(seed: u64) -> Vec<u32> {
     let mut w = Writer {
@@ -90,10 +103,15 @@ pub fn vectors(seed: u64) -> Vec<u32> {
     let mut rng = Rng::new(seed);
     w.by_hand();
     w.written();
-    w.part(SEQUENCES, &mut rng, [1, 0, 0, 0, 0, 0, 0]);
-    w.part(DIRECT, &mut rng, [0, 1, 0, 0, 0, 0, 0]);
+    let mut sequences = Cases::new(rng.draw(), [1, 0, 0, 0, 0, 0, 0]);
+    w.part(SEQUENCES, Writer::record, || sequences.next_case().1);
+    let mut direct = Cases::new(rng.draw(), [0, 1, 0, 0, 0, 0, 0]);
+    w.part(DIRECT, Writer::record, || direct.next_case().1);
     w.unfit(&mut rng);
     w.limits(LIMITS, &mut rng);
+    w.masked();
+    let mut masks = Masks::weighted(rng.draw(), [6, 3, 0, 0, 1, 1, 1]);
+    w.part(MASKED, Writer::record_masked, || masks.next_case());
     w.close();
     w.faults(seed);
     w.words
@@ -112,15 +130,26 @@ impl Writer {
     /// rejects, in both sets of tables, then what a random call seldom meets.
     fn by_hand(&mut self) {
         for (state, calls) in traps::all() {
-            self.sequence(state, calls);
+            self.sequence(Self::record, state, calls);
+        }
+    }
+
+    /// The calls with a netmask: each good mask, each refusal before those
+    /// behind it, wrong lengths.
+    fn masked(&mut self) {
+        for (state, calls) in masked::sequences() {
+            self.sequence(Self::record_masked, state, calls);
+        }
+        for case in masked::lengths() {
+            self.record_masked(&case);
         }
     }
 
     /// Each call on the state that the last one left.
-    fn sequence(&mut self, state: Vec<u32>, calls: Vec<Call>) {
+    fn sequence(&mut self, record: Record, state: Vec<u32>, calls: Vec<Call>) {
         let mut state = state;
         for call in calls {
-            self.record(&Case::new(call, state));
+            record(self, &Case::new(call, state));
             state = self.held[..STATE_WORDS].to_vec();
         }
     }
@@ -133,18 +162,17 @@ impl Writer {
         }
     }
 
-    /// Cases of some origins until `size` words are written.
-    fn part(&mut self, size: usize, rng: &mut Rng, weights: Weights) {
-        let mut cases = Cases::new(rng.draw(), weights);
+    /// Cases until `size` words are written.
+    fn part(&mut self, size: usize, record: Record, mut next_case: impl FnMut() -> Case) {
         let end = self.words.len() + size;
         while self.words.len() < end {
-            let (_, mut case) = cases.next_case();
+            let mut case = next_case();
             if case.cut != Default::default() {
                 // bytes are the host's affair; this list is about words
                 continue;
             }
             case.buffer.truncate(case.call.buffer().least());
-            self.record(&case);
+            record(self, &case);
         }
     }
 
@@ -194,7 +222,11 @@ impl Writer {
     /// For each planted fault that goes unfound, a case that finds it.
     fn faults(&mut self, seed: u64) {
         for fault in faults::on_words() {
-            if replay_on(&self.words, fault.run).is_ok() {
+            let faulty = Makers {
+                calls: fault.run,
+                ..MODELS
+            };
+            if replay_on(&self.words, faulty).is_ok() {
                 let case = fault.case(seed).expect("the comparison finds it");
                 assert!(self.record(&case), "{}: a long record", fault.name);
                 self.close();
@@ -239,8 +271,17 @@ impl Writer {
         }
     }
 
-    /// Writes the case and its answer, unless a replayer has no room for it.
     fn record(&mut self, case: &Case) -> bool {
+        self.record_by(case.call.code(), model, case)
+    }
+
+    /// The request has a netmask in place of the prefix.
+    fn record_masked(&mut self, case: &Case) -> bool {
+        self.record_by(masked::code(&case.call), netmask::masked, case)
+    }
+
+    /// Writes the case and its answer, unless a replayer has no room for it.
+    fn record_by(&mut self, code: u32, run: Run, case: &Case) -> bool {
         if case.state.len() > HELD_WORDS || case.buffer.len() > BUFFER_WORDS {
             return false;
         }
@@ -252,7 +293,7 @@ impl Writer {
         let sets = if fresh { from_zero } else { from_here };
         let mut state = case.state.clone();
         let mut buffer = case.buffer.clone();
-        let reply = model(&case.call, &mut state, &mut buffer);
+        let reply = run(&case.call, &mut state, &mut buffer);
         let changes = changed(&case.state, &state);
         let rows = &buffer[..written(&case.call, &reply)];
         let lent = case.call.lent().unwrap_or(&[]);
@@ -265,7 +306,7 @@ impl Writer {
         if length > RECORD_WORDS {
             return false;
         }
-        let mut record = vec![0, length as u32, case.call.code(), u32::from(fresh)];
+        let mut record = vec![0, length as u32, code, u32::from(fresh)];
         record.extend([case.state.len(), case.buffer.len()].map(|n| n as u32));
         record.extend([reply.number, reply.present, reply.value, reply.second]);
         record.extend([sets_end, lent_end, changes_end].map(|n| n as u32));

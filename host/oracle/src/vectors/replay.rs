@@ -1,19 +1,32 @@
 //! The list of answers replayed against the model.
-use super::{HEAD_WORDS, HELD_WORDS, MAGIC, RECORD_HEAD_WORDS, check};
+use super::{HEAD_WORDS, HELD_WORDS, MAGIC, RECORD_HEAD_WORDS, check, masked};
 use crate::call::Call;
 use crate::compare::filled;
 use crate::faults::Run;
 use crate::model::model;
+use crate::netmask;
 use std::collections::BTreeMap;
 
-/// Replays a list against the model, as another program would replay it
-/// against a port. Gives how many records there are.
-pub fn replay(data: &[u32]) -> Result<usize, String> {
-    replay_on(data, model)
+/// What makes the calls of a list: document 01's, and those with a netmask.
+#[derive(Clone, Copy)]
+pub struct Makers {
+    pub calls: Run,
+    pub masked: Run,
 }
 
-/// Replays a list against what does `run` in place of the model.
-pub fn replay_on(data: &[u32], run: Run) -> Result<usize, String> {
+pub const MODELS: Makers = Makers {
+    calls: model,
+    masked: netmask::masked,
+};
+
+/// Replays a list against the models, as another program would replay it
+/// against a port. Gives how many records there are.
+pub fn replay(data: &[u32]) -> Result<usize, String> {
+    replay_on(data, MODELS)
+}
+
+/// Replays a list against others in place of the models.
+pub fn replay_on(data: &[u32], makers: Makers) -> Result<usize, String> {
     let [MAGIC, _, _, records, sum, rest @ ..] = data else {
         return Err("not a list of answers".to_string());
     };
@@ -25,7 +38,7 @@ pub fn replay_on(data: &[u32], run: Run) -> Result<usize, String> {
     for i in 0..*records {
         let (record, after) = whole(rest).ok_or(format!("record {i} is damaged"))?;
         rest = after;
-        replay_one(record, &mut held, run).map_err(|what| format!("record {i}: {what}"))?;
+        replay_one(record, &mut held, makers).map_err(|what| format!("record {i}: {what}"))?;
     }
     if rest.is_empty() {
         Ok(*records as usize)
@@ -52,13 +65,17 @@ fn whole(words: &[u32]) -> Option<(&[u32], &[u32])> {
         .then_some((record, after))
 }
 
-fn replay_one(record: &[u32], held: &mut [u32], run: Run) -> Result<(), String> {
+fn replay_one(record: &[u32], held: &mut [u32], makers: Makers) -> Result<(), String> {
     let [sets_end, lent_end, changes_end] = [10, 11, 12].map(|i| record[i] as usize);
     if record[3] == 1 {
         held.fill(0);
     }
     apply(held, &record[RECORD_HEAD_WORDS..sets_end]);
-    let call = call(record[2], &record[sets_end..lent_end], &record[13..16])?;
+    let (code, run) = match masked::base(record[2]) {
+        Some(code) => (code, makers.masked),
+        None => (record[2], makers.calls),
+    };
+    let call = call(code, &record[sets_end..lent_end], &record[13..16])?;
     let state = &mut held[..record[4] as usize];
     let mut expected = state.to_vec();
     apply(&mut expected, &record[lent_end..changes_end]);

@@ -6,7 +6,7 @@ use crate::words;
 use reference::{AddressRow, Lists, RouteRow};
 
 /// A state and the calls on it, one after the other.
-type Sequence = (Vec<u32>, Vec<Call>);
+pub type Sequence = (Vec<u32>, Vec<Call>);
 
 pub fn all() -> Vec<Sequence> {
     let mut sequences = vec![
@@ -170,7 +170,7 @@ fn before_its_primary() -> Sequence {
 }
 
 /// As many routes of a private table.
-fn many_routes(count: u32) -> Vec<u32> {
+pub fn many_routes(count: u32) -> Vec<u32> {
     let route = |i: u32| {
         let mut row: RouteRow = [0; 32];
         row[..3].copy_from_slice(&[100, 0x0900_0000 + (i << 8), 24]);

@@ -63,3 +63,11 @@ returns-in-Select4 c = rw c.in-Select4.is (asked-did refl c.select4.ensures)
 pub returns-in-Left : goal.returns-in-Left
 unfolding call_by
 returns-in-Left c = rw c.in-Left.is (left-did c.args.lent.now _ c.args.state.now c.args.buffer.now c.left.ensures.result_value c.clock_of-in-Left.ensures c.remaining.ensures)
+
+pub returns-in-AddV4Mask : goal.returns-in-AddV4Mask
+unfolding call_by
+returns-in-AddV4Mask c = rw (c.in-AddV4Mask.is, ← c.clock_of-in-AddV4Mask.ensures) c.add_v4_mask.ensures
+
+pub returns-in-DelV4Mask : goal.returns-in-DelV4Mask
+unfolding call_by
+returns-in-DelV4Mask c = rw c.in-DelV4Mask.is c.del_v4_mask.ensures

@@ -8,29 +8,47 @@ use crate::script::{self, NewAddress, ip};
 use crate::words;
 use std::collections::BTreeMap;
 
-/// Each with its code in the list, the code of the call whose prefix the mask
-/// replaces, and the answers that it gives.
-const CALLS: [(&str, u32, u32, &[u32]); 2] = [
-    ("add_v4_mask", 19, 3, &[0, 17, 22, 200, 201, 202, 203, 207]),
-    ("del_v4_mask", 20, 4, &[0, 99, 200, 201, 202, 207]),
+/// A call with a netmask: its code in the list, the code of the call whose
+/// prefix the mask replaces, and the answers that it gives.
+struct Kind {
+    name: &'static str,
+    code: u32,
+    base: u32,
+    answers: &'static [u32],
+}
+
+const KINDS: [Kind; 2] = [
+    Kind {
+        name: "add_v4_mask",
+        code: 19,
+        base: 3,
+        answers: &[0, 17, 22, 200, 201, 202, 203, 207],
+    },
+    Kind {
+        name: "del_v4_mask",
+        code: 20,
+        base: 4,
+        answers: &[0, 99, 200, 201, 202, 207],
+    },
 ];
 
 /// The code of a request for an address with a mask.
 pub fn code(call: &Call) -> u32 {
-    let of = CALLS.iter().find(|(_, _, base, _)| *base == call.code());
-    of.expect("a request for an address").1
+    let of = KINDS.iter().find(|kind| kind.base == call.code());
+    of.expect("a request for an address").code
 }
 
 /// The code of the call whose prefix the mask replaces.
 pub fn base(code: u32) -> Option<u32> {
-    let of = CALLS.iter().find(|(_, own, ..)| *own == code);
-    of.map(|(_, _, base, _)| *base)
+    let of = KINDS.iter().find(|kind| kind.code == code);
+    of.map(|kind| kind.base)
 }
 
 /// The answers that are not among those seen.
 pub fn unseen(seen: &BTreeMap<(u32, u32), usize>) -> Vec<String> {
-    let all = CALLS.iter();
-    all.flat_map(|(name, code, _, answers)| coverage::unseen_of(seen, name, *code, answers))
+    KINDS
+        .iter()
+        .flat_map(|kind| coverage::unseen_of(seen, kind.name, kind.code, kind.answers))
         .collect()
 }
 
