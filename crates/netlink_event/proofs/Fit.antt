@@ -1,6 +1,6 @@
 -- What an event has that isn't refused: a kind from 1 to 4, flags of two bytes, a row that fits.
 -- Assumes nothing.
-use Rattle.std.specs.Prelude.{ℕ, zero, suc, ◌+◌, ◌-◌, ◌*◌, ◌^◌, ◌≤◌, ◌<◌, ◌≡◌, refl, true, false, cond, ◌&&◌, ◌||◌, List, [], ◌∷◌, eqb, leb, ltb, length, get_or, take, drop}
+use Rattle.std.specs.Prelude.{ℕ, zero, suc, ◌+◌, ◌*◌, ◌^◌, ◌≤◌, ◌<◌, ◌≡◌, refl, true, false, cond, ◌&&◌, ◌||◌, List, [], ◌∷◌, eqb, leb, ltb, length, get_or, take, drop}
 use Rattle.std.proofs.Common.{sym, ap, ap₂, ◌∙◌, arith, get_or-drop, drop-cons, eqb-true, leb-true, ltb-true}
 use Rattle.std.proofs.Math.Option.{none, some}
 use Rattle.std.proofs.lemmas.Bool.{eqb-false}
@@ -18,7 +18,7 @@ use Rattle.netlink.specs.Reader as Reader
 use Rattle.netlink.specs.Reader.{address, flag}
 use Rattle.netlink_event.specs.Written.{address_bytes, message}
 use Rattle.netlink_event.proofs.Back.{address-back, or-back, given-is}
-use Rattle.netlink_event.specs.Writer.{kind, flags, address_row, route_row, of_address, of_route, type_of}
+use Rattle.netlink_event.specs.Writer.{kind, flags, address_row, route_row, of_address, of_route, type_for, type_of}
 use Rattle.netlink_event.specs.Writer.{address_head, address_entries, route_head, route_entries, address_message, route_message, event_message, writes}
 
 -- ---- n words from a place on, word by word
@@ -143,7 +143,7 @@ one-of-two e h k =
     in
     or_case (eqb (kind e) 1) (eqb (kind e) 2) h (no 1 (omega arith)) (no 2 (omega arith))
 
-row-of : (e : Row) {C : Type 0} → writes e ≡ true
+pub row-of : (e : Row) {C : Type 0} → writes e ≡ true
     → (of_address e ≡ true → fit_address (address_row e) ≡ true → C) → (of_route e ≡ true → fit_route (route_row e) ≡ true → C) → C
 unfolding writes
 row-of e h f g =
@@ -171,9 +171,6 @@ module _ (e : Row) (h : writes e ≡ true) where
   of-route k = row-fits e h (λ a f. absurd (one-of-two e a k)) (λ r f. f)
 
 -- ---- its message
-abbrev type_for : ℕ → ℕ
-type_for k = get_or (20 ∷ 21 ∷ 24 ∷ 25 ∷ []) (k - 1) 0
-
 module _ (sequence port now : ℕ) (e : Row) where
   abbrev pub address_as : ℕ → List ℕ
   address_as type = message type (flags e) sequence port (address_head (address_row e)) (address_entries now (address_row e))

@@ -1,7 +1,8 @@
 -- A label's bytes are those of its four words, and the reader finds the words again; a label is cut at its first zero byte.
 -- Assumes nothing.
 use Rattle.std.specs.Prelude.{ℕ, zero, suc, ◌+◌, ◌*◌, ◌^◌, ◌≤◌, ◌<◌, ◌≡◌, refl, true, not, eqb, get_or, drop}
-use Rattle.std.proofs.Common.{sym, ◌∙◌, mul-suc, mul_comm, length-take, pow-add}
+use Rattle.std.proofs.Common.{sym, ◌∙◌, add-one, take-suc, mul-suc, mul_comm, length-take, pow-add}
+use Rattle.std.proofs.lemmas.List.{get_or_past}
 use Rattle.std.proofs.Math.Path.{ap}
 use mathlib.Core.List.{List, [], ◌∷◌, ◌++◌}
 use native.Mathlib.Omega.{arith}
@@ -57,6 +58,10 @@ module _ (a : Row) (f : AddressFits a) (b : Below 4294967296 a) where
   unfolding bytes
   label-bytes = ap (λ (l : List ℕ). take (Address.label_length a) (bytes_of l)) (lists 4 9 a (omega (arith, f.long)))
 
+  long-bytes : length bytes ≡ 16
+  unfolding bytes
+  long-bytes = length-bytes_of (listed 4 9 a)
+
   value-is : value bytes ≡ Address.label a
   unfolding bytes bytes_of
   value-is =
@@ -88,6 +93,17 @@ module _ (a : Row) (f : AddressFits a) (b : Below 4294967296 a) where
   -- the whole label's words are the row's
   pub label-back : label_words (label_bytes a) ≡ listed 5 8 a
   label-back = λ j. length-label j ∷ words-back j
+
+  -- the byte behind the label is 0, so the closing zero stands in the row
+  pub closed : take (Address.label_length a + 1) (bytes_of (take 4 (drop 9 a))) ≡ label_bytes a ++ (0 ∷ [])
+  closed =
+      let n : ℕ = Address.label_length a in
+      let w : List ℕ = bytes_of (take 4 (drop 9 a)) in
+      let same : w ≡ bytes = unfold bytes in ap bytes_of (lists 4 9 a (omega (arith, f.long))) in
+      let long : length w ≡ 16 = ap length same ∙ long-bytes in
+      let zero-there : get_or w n 0 ≡ 0 =
+      ap (λ (l : List ℕ). get_or l n 0) same ∙ sym (byte-is n) ∙ get_or_past (label_bytes a) n 0 (omega (arith, length-label)) in
+      rw (add-one, take-suc w n 0 (omega (arith, f.short)), zero-there)
 
 -- ---- the label as the reader has it
 short-until : (l : List ℕ) → length (label l) ≤ length l

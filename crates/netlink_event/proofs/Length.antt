@@ -30,8 +30,8 @@ module _ (sequence port now : ℕ) (e : Row) where
     address-most k =
         omega (arith, length-address k, at-most (address_entries now (address_row e)), address-total now (address_row e) (of-address e w k))
 
-    pub message-most : length (event_message sequence port now e) ≤ message_most
-    message-most =
+    pub within-most : length (event_message sequence port now e) ≤ message_most
+    within-most =
         row-fits e w
         (λ k f. omega (arith, address-most k))
         (λ k f. omega (arith, length-route k, at-most (route_entries (route_row e)), route-total (route_row e)))

@@ -37,8 +37,11 @@ abbrev pub of_route : Row → Bool
 of_route e = eqb (kind e) 3 || eqb (kind e) 4
 
 -- "a message of type 20, 21, 24 or 25": by the kind, from 1 to 4
+abbrev pub type_for : ℕ → ℕ
+type_for k = get_or (rtm_new_addr ∷ rtm_del_addr ∷ rtm_new_route ∷ rtm_del_route ∷ []) (k - 1) 0
+
 abbrev pub type_of : Row → ℕ
-type_of e = get_or (rtm_new_addr ∷ rtm_del_addr ∷ rtm_new_route ∷ rtm_del_route ∷ []) (kind e - 1) 0
+type_of e = type_for (kind e)
 
 -- "the device index is 1"
 abbrev pub index : ℕ

@@ -6,12 +6,8 @@ use borrow.Rule.Slice.PartMut.{put_mid}
 use Rattle.lists.specs.Lists.{put}
 use Rattle.lists.specs.Put.{put-none, put-behind}
 use Rattle.lists.specs.Rows.{length-put}
-use Rattle.netlink.specs.Attributes.{Attribute}
-use Rattle.netlink_event.specs.Written.{bytes2, bytes4}
+use Rattle.netlink_event.specs.Written.{bytes2, bytes4, Entry, written_all}
 use Rattle.netlink_put.specs.declared.Writer.{Writer}
-
-abbrev pub attribute : ℕ → List ℕ → Attribute
-attribute c p = record { code = c; payload = p }
 
 -- netlink's header, before the message's length is known
 abbrev pub unset_header : (type flags sequence port : ℕ) → List ℕ
@@ -28,6 +24,10 @@ pub record Appends (t : Writer) (vs : List ℕ) (u : Writer) : Type 0 where
   pub same_bytes : u.out.ghost_name ≡ t.out.ghost_name
   pub as_many : length u.out.now ≡ length t.out.now
   pub wrote : Wrote t.len vs u.len t.out.now u.out.now
+
+-- the attributes of a table that are there were written
+pub record Adds (t : Writer) (es : List Entry) (u : Writer) : Type 0 where
+  pub bytes : Appends t (written_all es) u
 
 -- vs was put at the front of the same bytes
 pub record Sets (t : Writer) (vs : List ℕ) (u : Writer) : Type 0 where

@@ -3,7 +3,7 @@
 
 ghost use Rattle.std.specs.Prelude.{◌≡◌, ◌+◌, ◌≤◌, ◌<◌, length};
 ghost use Rattle.netlink.specs.Attributes.{padded};
-ghost use Rattle.netlink_event.specs.Written.{when, written, written_all};
+ghost use Rattle.netlink_event.specs.Written.{when, always, written_all};
 
 // Lent bytes, and how many at their front are written.
 #[derive(Drop)]
@@ -16,7 +16,7 @@ pub struct Writer<'a> {
 impl<'a> Writer<'a> {
     ghost use Rattle.std.specs.Prelude.{[], ◌∷◌};
     ghost use Rattle.netlink_event.specs.Written.{bytes4};
-    ghost use Rattle.netlink_put.specs.Wrote.{Appends, Sets, attribute, unset_header};
+    ghost use Rattle.netlink_put.specs.Wrote.{Appends, Adds, Sets, unset_header};
 
     // Nothing is written yet.
     pub fn new(out: &'a mut [u8]) -> Writer<'a>
@@ -42,7 +42,8 @@ impl<'a> Writer<'a> {
         requires narrow { code < 65536 }
         requires short { length payload.now ≤ 140 }
         requires room { self.old.len + padded (length payload.now + 4) ≤ length self.old.out.now }
-        ensures { Appends self.old (written (attribute code payload.now)) self.new }
+        ensures bound { length (written_all (always code payload.now ∷ [])) ≤ padded (length payload.now + 4) }
+        ensures text { Adds self.old (always code payload.now ∷ []) self.new }
     {
         let padding = payload.len().next_multiple_of(4) - payload.len();
         self.push(&((4 + payload.len()) as u16).to_le_bytes());
@@ -56,7 +57,8 @@ impl<'a> Writer<'a> {
         requires narrow { code < 65536 }
         requires short { length payload.now ≤ 140 }
         requires room { self.old.len + padded (length payload.now + 4) ≤ length self.old.out.now }
-        ensures { Appends self.old (written_all (when present code payload.now ∷ [])) self.new }
+        ensures bound { length (written_all (when present code payload.now ∷ [])) ≤ padded (length payload.now + 4) }
+        ensures text { Adds self.old (when present code payload.now ∷ []) self.new }
     {
         if present {
             self.attribute(code, payload);
