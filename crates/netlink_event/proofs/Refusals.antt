@@ -1,17 +1,17 @@
 -- 201 has these causes and no others, 200 goes first, and of an event only the row of its kind is looked at.
 -- Assumes nothing.
-use Rattle.std.specs.Prelude.{ℕ, ◌-◌, ◌≤◌, ◌<◌, ◌≡◌, Bool, true, false, ◌&&◌, ◌||◌, [], ◌∷◌, eqb, leb, ltb, length, get_or, take, drop}
-use Rattle.std.proofs.Common.{sym, ap, ◌∙◌, arith, le-leb, leb-true, ltb-false, get_or-take}
+use Rattle.std.specs.Prelude.{ℕ, suc, ◌-◌, ◌≤◌, ◌<◌, ◌≡◌, Bool, true, false, ◌&&◌, ◌||◌, [], ◌∷◌, eqb, leb, ltb, length, get_or, take, drop}
+use Rattle.std.proofs.Common.{sym, ap, ◌∙◌, arith, eqb-true, eq-eqb, lt-ltb, le-leb, leb-true, ltb-false, get_or-take}
 use Rattle.std.proofs.lemmas.Bool.{eqb-false}
 use Rattle.std.proofs.lemmas.List.{drop-take}
 use Rattle.std.proofs.Math.Bool.{or-false}
 use Rattle.lists.specs.Lists.{Row}
-use Rattle.lists.specs.Bools.{test-case, fails, true-false}
+use Rattle.lists.specs.Bools.{or_case, test-case, fails, true-false}
 use Rattle.layout.specs.Address.{fit_address}
 use Rattle.layout.specs.Route.{fit_route}
 use Rattle.definition.specs.Call.{refusal}
 use Rattle.netlink_event.specs.Written.{message}
-use Rattle.netlink_event.specs.Writer.{flags, address_row, route_row, of_address, of_route, address_head, address_entries, event_message, writes, sent, write_call}
+use Rattle.netlink_event.specs.Writer.{kind, flags, address_row, route_row, of_address, of_route, address_head, address_entries, event_message, writes, sent, write_call}
 use Rattle.netlink_event.proofs.Fit.{one-of-two, address-message, event-long, flags-fit, row-fits, address-fits, route-fits}
 
 -- why an event is refused by 201
@@ -51,6 +51,39 @@ module _ (e : Row) where
   each-refuses (other_kind a r) = fails (writes e) (λ w. row-fits e w (λ k f. true-false (of_address e) k a) (λ k f. true-false (of_route e) k r))
   each-refuses (unfit_address a g) = fails (writes e) (λ w. true-false (fit_address (address_row e)) (address-fits e w a) g)
   each-refuses (unfit_route r g) = fails (writes e) (λ w. true-false (fit_route (route_row e)) (route-fits e w r) g)
+
+-- kinds as numbers
+pub low-kind : (e : Row) → 1 ≤ kind e → kind e ≤ 2 → of_address e ≡ true
+low-kind e a b =
+    test-case (eqb (kind e) 1) (λ h. rw h) (λ h. let two : kind e ≡ 2 = omega (arith, eqb-false (kind e) 1 h) in rw (h, eq-eqb (kind e) 2 two))
+
+pub high-kind : (e : Row) → 3 ≤ kind e → kind e ≤ 4 → of_route e ≡ true
+high-kind e a b =
+    test-case (eqb (kind e) 3) (λ h. rw h) (λ h. let four : kind e ≡ 4 = omega (arith, eqb-false (kind e) 3 h) in rw (h, eq-eqb (kind e) 4 four))
+
+pub no-kind : (e : Row) → (1 ≤ kind e → kind e ≤ 4 → ⊥) → writes e ≡ false
+no-kind e h =
+    each-refuses e
+    (other_kind (fails (of_address e) (λ a. or_case (eqb (kind e) 1) (eqb (kind e) 2) a (λ q. at 0 (eqb-true (kind e) 1 q) (omega arith)) (λ q. at 1 (eqb-true (kind e) 2 q) (omega arith))))
+    (fails (of_route e) (λ r. or_case (eqb (kind e) 3) (eqb (kind e) 4) r (λ q. at 2 (eqb-true (kind e) 3 q) (omega arith)) (λ q. at 3 (eqb-true (kind e) 4 q) (omega arith)))))
+  where
+    at : (n : ℕ) → kind e ≡ suc n → n < 4 → ⊥
+    at n q k = h (omega (arith, q)) (omega (arith, q))
+
+-- what is left to look at, case by case
+module _ (e : Row) (long : length e ≡ 34) (narrow : flags e ≤ 65535) where
+  pub by-address : of_address e ≡ true → fit_address (address_row e) ≡ writes e
+  by-address a =
+      test-case (fit_address (address_row e))
+      (λ g. g ∙ sym (takes-address e (eq-eqb (length e) 34 long) (lt-ltb (flags e) 65536 (omega arith)) a g))
+      (λ g. g ∙ sym (each-refuses e (unfit_address a g)))
+
+  pub by-route : of_route e ≡ true → fit_route (route_row e) ≡ writes e
+  by-route r =
+      let a : of_address e ≡ false = fails (of_address e) (λ a. one-of-two e a r) in
+      test-case (fit_route (route_row e))
+      (λ g. g ∙ sym (takes-route e (eq-eqb (length e) 34 long) (lt-ltb (flags e) 65536 (omega arith)) a r g))
+      (λ g. g ∙ sym (each-refuses e (unfit_route r g)))
 
 -- ---- words behind an address row aren't looked at
 only-address : (e : Row) → of_address e ≡ true → writes e ≡ eqb (length e) 34 && ltb (flags e) 65536 && fit_address (address_row e)
