@@ -18,14 +18,16 @@ pub record Is (reply : Reply) (w w' : List ℕ) (r : Result ℕ Refusal) : Type 
   pub says : answer_by valuing r ≡ numbers reply
   pub bytes : w' ≡ put 0 (flat reply.rows) w
 
-pub is-refused : (reply : Reply) (w : List ℕ) (r : Result ℕ Refusal) (e : Refusal) (n : ℕ) → IsErr r × IsErrAnd r (λ x. x ≡ e) → number_of e ≡ n → n ≢ 0
+pub is-refused : (reply : Reply) (w : List ℕ) (r : Result ℕ Refusal) (e : Refusal) (n : ℕ) → IsErr r × IsErrAnd r (λ x. x ≡ e)
+    → number_of e ≡ n → n ≢ 0
     → reply ≡ refusal n → Is reply w w r
 is-refused reply w (Ok a) e n h f z q = absurd h.1
 is-refused reply w (Err x) e n h f z q =
     let is : number_of x ≡ n = ap number_of h.1 ∙ f in
     rw q (record { refuses = (is, z); says = λ i. record { number = is i; present = 0; value = 0; second = 0 }; bytes = put-no-rows w })
 
-pub is-written : (reply : Reply) (m w : List ℕ) {w' : List ℕ} {n : ℕ} → reply ≡ sent m → n ≡ length m → w' ≡ put 0 m w → Is reply w w' (Ok n)
+pub is-written : (reply : Reply) (m w : List ℕ) {w' : List ℕ} {n : ℕ} → reply ≡ sent m → n ≡ length m → w' ≡ put 0 m w
+    → Is reply w w' (Ok n)
 is-written reply m w q f z =
     rw q
     (record {

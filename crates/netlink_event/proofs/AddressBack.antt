@@ -1,4 +1,4 @@
--- The reader of Paper 1 finds in the message of an address event what was put in.
+-- The reader finds in the message of an address event what was put in.
 -- Assumes nothing.
 use Rattle.std.specs.Prelude.{ℕ, ◌+◌, ◌≤◌, ◌<◌, ◌≡◌, true, ◌&&◌, List, [], ◌∷◌, ◌++◌, length, get_or, take, drop}
 use Rattle.std.proofs.Math.Path.{refl, ap}
@@ -14,13 +14,16 @@ use Rattle.layout.specs.Address as Address
 use Rattle.definition.specs.Reference.Source.{left}
 use Rattle.netlink.specs.Codes.{replace_bit, excl_bit}
 use Rattle.netlink.specs.Attributes.{Attribute, last}
-use Rattle.netlink.specs.Reader.{address, number, byte, flag, forever, or_else, optional, label, label_words, label_or, lo, valid_in, preferred_in}
+use Rattle.netlink.specs.Reader.{address, number, byte, flag, forever, or_else, optional, label, label_words, label_or, lo}
+use Rattle.netlink.specs.Reader.{valid_in, preferred_in}
 use Rattle.netlink.specs.Reader.{message_flags, sized_in, sizes, new_addr, del_addr, request, asked, read}
 use Rattle.netlink_event.specs.Written.{bytes4, writable, presents, message}
-use Rattle.netlink_event.proofs.Back.{bytes-back, number-back, address-back, two-back, all-entries, last-entry, or-back, zero-back, total}
+use Rattle.netlink_event.proofs.Back.{bytes-back, number-back, address-back, two-back, all-entries, last-entry, or-back}
+use Rattle.netlink_event.proofs.Back.{zero-back, total}
 use Rattle.netlink_event.proofs.MessageBack.{Sound, read-message}
 use Rattle.netlink_event.specs.Found.{zeroless}
-use Rattle.netlink_event.specs.Writer.{kind, flags, address_row, nonzero, address_head, label_bytes, cacheinfo, address_entries, event_message, writes}
+use Rattle.netlink_event.specs.Writer.{kind, flags, address_row, nonzero, address_head, label_bytes, cacheinfo, address_entries}
+use Rattle.netlink_event.specs.Writer.{event_message, writes}
 use Rattle.netlink_event.proofs.Fit.{AddressFits, listed, lists, below-part, left-preferred-below, left-valid-below, value-back}
 use Rattle.netlink_event.proofs.Fit.{flags-fit, of-address, address_as, message-1, message-2}
 use Rattle.netlink_event.proofs.LabelBack.{closing-zero, bytes-short, label-short, uncut, label-back}
@@ -162,7 +165,8 @@ asks-del up m l = refl
 
 -- ---- THE LAWS: the reader accepts the message of an event, and the request has the row's words
 module _ (sequence port now : ℕ) (e : Row) (w : writes e ≡ true) (b : Below 4294967296 e) (up : ℕ) where
-  pub read-new-address : kind e ≡ 1 → read up (event_message sequence port now e) ≡ asked 20 (new_addr_of up now (flags e) (address_row e))
+  pub read-new-address : kind e ≡ 1
+      → read up (event_message sequence port now e) ≡ asked 20 (new_addr_of up now (flags e) (address_row e))
   unfolding m
   read-new-address k =
       let a = address_row e in

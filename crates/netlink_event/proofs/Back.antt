@@ -13,13 +13,15 @@ use Rattle.std.proofs.lemmas.Bool.{not-false}
 use Rattle.lists.specs.Lists.{all, each, pairwise, zeros}
 use Rattle.lists.specs.Rows.{length-zeros}
 use Rattle.lists.specs.Bools.{and_left, and_right, test-case, cond-true, cond-false}
-use Rattle.netlink.specs.Attributes.{Attribute, Parsed, u16, padded, whole, first, more, parsed, attributes, right, last_after, last}
+use Rattle.netlink.specs.Attributes.{Attribute, Parsed, u16, padded, whole, first, more, parsed, attributes, right, last_after}
+use Rattle.netlink.specs.Attributes.{last}
 use Rattle.netlink.specs.Reader.{number, address, or_else, given}
 use Rattle.netlink_event.specs.Written.{bytes4, address_bytes, written, writable, Entry, presents, written_all}
 use Rattle.netlink.specs.Laws.{is_whole, parsed-more, parsed-end}
 
 -- ---- numbers
-pub bytes-back : (n : ℕ) → n < 4294967296 → n % 256 + 256 * (n / 256 % 256) + 65536 * (n / 65536 % 256 + 256 * (n / 16777216 % 256)) ≡ n
+pub bytes-back : (n : ℕ) → n < 4294967296
+    → n % 256 + 256 * (n / 256 % 256) + 65536 * (n / 65536 % 256 + 256 * (n / 16777216 % 256)) ≡ n
 bytes-back n h =
     let e : n / 256 / 256 ≡ n / 65536 = div-div-eq-div-mul n 256 256 in
     let f : n / 65536 / 256 ≡ n / 16777216 = div-div-eq-div-mul n 65536 256 in
@@ -81,7 +83,8 @@ module _ (a : Attribute) (fit : InTwoBytes a) (r : List ℕ) where
       ∙ take_at a.payload (z ++ r) n refl
 
   whole-back : whole (written a ++ r) ≡ true
-  whole-back = is_whole (written a ++ r) (rw size-back (omega arith)) (rw (size-back, length-append, length-written) (omega arith))
+  whole-back =
+      is_whole (written a ++ r) (rw size-back (omega arith)) (rw (size-back, length-append, length-written) (omega arith))
 
   first-back : first (written a ++ r) ≡ a
   unfolding first
@@ -146,7 +149,8 @@ unfolding last_after
 hit c o true a l h = rw h
 hit c o false a l h = refl
 
-none-later : (c : ℕ) (o : Option (List ℕ)) (t : List Entry) → all (λ e. ltb c e.attribute.code) t ≡ true → last_after c o (presents t) ≡ o
+none-later : (c : ℕ) (o : Option (List ℕ)) (t : List Entry) → all (λ e. ltb c e.attribute.code) t ≡ true
+    → last_after c o (presents t) ≡ o
 unfolding last_after
 none-later c o [] h = refl
 none-later c o (e ∷ t) h =
@@ -174,7 +178,8 @@ last-entry c (e ∷ t) h =
     ∙ sym (cond-false (eqb k c) o (entry c t) w))
 
 -- a value that is 0 where it isn't written
-pub or-back : (r : List ℕ → ℕ) (b : Bool) (p : List ℕ) (n : ℕ) → r p ≡ n → (b ≡ false → n ≡ 0) → or_else r 0 (cond b (some p) none) ≡ n
+pub or-back : (r : List ℕ → ℕ) (b : Bool) (p : List ℕ) (n : ℕ) → r p ≡ n → (b ≡ false → n ≡ 0)
+    → or_else r 0 (cond b (some p) none) ≡ n
 or-back r true p n e z = e
 or-back r false p n e z = sym (z refl)
 

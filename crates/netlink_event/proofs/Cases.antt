@@ -12,10 +12,10 @@ use Rattle.definition.specs.Reference.Source.{left}
 use Rattle.netlink.specs.Reader.{asked, read}
 use Rattle.netlink_event.specs.Written.{written, written_all, message}
 use Rattle.netlink.specs.Cases as Reading
-use Rattle.netlink_event.specs.Writer.{address_message, route_message, event_message, writes}
+use Rattle.netlink_event.specs.Writer.{address_message, route_message, event_message, writes, write_call}
 
 unfoldable pub computing : Unit {0}
-unfolding Reading.computing zeros has_bit host_bits is_kind age left_preferred left_valid left bytes_of fit_address fit_route written written_all message address_message route_message event_message writes
+unfolding Reading.computing zeros has_bit host_bits is_kind age left_preferred left_valid left bytes_of fit_address fit_route written written_all message address_message route_message event_message writes write_call
 computing = tt
 
 -- ---- a new address: the loopback's own, 127.0.0.1/8 lo, permanent, without broadcast; sequence 7, port 1000
@@ -42,8 +42,8 @@ own-read : read 1 own_message ≡ asked 20 (2130706433 ∷ 2130706433 ∷ 8 ∷ 
 unfolding computing own_message
 own-read = refl
 
--- ---- a deleted address: 10.6.0.1 with the peer 10.6.0.2/24, a broadcast, an empty label, flags 0x200 (low byte 0), priority 300, proto 3;
--- valid for 100 seconds and preferred for 60, of which 10 have gone
+-- ---- a deleted address: 10.6.0.1 with the peer 10.6.0.2/24, a broadcast, an empty label, flags 0x200 (low byte 0), priority 300,
+-- proto 3; valid for 100 seconds and preferred for 60, of which 10 have gone
 peer_event : Row
 peer_event =
     2 ∷ 0 ∷ 168165377 ∷ 168165378 ∷ 24 ∷ 1 ∷ 168165631 ∷ 253 ∷ 512 ∷ 3 ∷ 0 ∷ 0 ∷ 0 ∷ 0 ∷ 0 ∷ 300 ∷ 100 ∷ 60
@@ -188,7 +188,7 @@ zero-taken : writes zero_event ≡ true
 unfolding computing zero_event
 zero-taken = refl
 
--- kinds 0, and 5 and 6 (document 02, Paper 9), flags of 17 bits, a prefix of 33 bits, a route with host bits, a kind of route that there isn't, 33 words
+-- kinds 0, 5 and 6, flags of 17 bits, a prefix of 33 bits, a route with host bits, a kind of route that there isn't, 33 words
 kind_0 : writes (zeros 34) ≡ false
 unfolding computing
 kind_0 = refl

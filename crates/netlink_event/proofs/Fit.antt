@@ -1,6 +1,7 @@
 -- What an event has that isn't refused: a kind from 1 to 4, flags of two bytes, a row that fits.
 -- Assumes nothing.
-use Rattle.std.specs.Prelude.{ℕ, zero, suc, ◌+◌, ◌*◌, ◌^◌, ◌≤◌, ◌<◌, ◌≡◌, refl, true, false, cond, ◌&&◌, ◌||◌, List, [], ◌∷◌, eqb, leb, ltb, length, get_or, take, drop}
+use Rattle.std.specs.Prelude.{ℕ, zero, suc, ◌+◌, ◌*◌, ◌^◌, ◌≤◌, ◌<◌, ◌≡◌, refl, true, false, cond, ◌&&◌, ◌||◌, List, [], ◌∷◌, eqb}
+use Rattle.std.specs.Prelude.{leb, ltb, length, get_or, take, drop}
 use Rattle.std.proofs.Common.{sym, ap, ap₂, ◌∙◌, arith, get_or-drop, drop-cons, eqb-true, leb-true, ltb-true}
 use Rattle.std.proofs.Math.Option.{none, some}
 use Rattle.std.proofs.lemmas.Bool.{eqb-false}
@@ -19,7 +20,8 @@ use Rattle.netlink.specs.Reader.{address, flag}
 use Rattle.netlink_event.specs.Written.{address_bytes, message}
 use Rattle.netlink_event.proofs.Back.{address-back, or-back, given-is}
 use Rattle.netlink_event.specs.Writer.{kind, flags, address_row, route_row, of_address, of_route, type_for, type_of}
-use Rattle.netlink_event.specs.Writer.{address_head, address_entries, route_head, route_entries, address_message, route_message, event_message, writes}
+use Rattle.netlink_event.specs.Writer.{address_head, address_entries, route_head, route_entries, address_message, route_message}
+use Rattle.netlink_event.specs.Writer.{event_message, writes}
 
 -- ---- n words from a place on, word by word
 abbrev pub listed : ℕ → ℕ → List ℕ → List ℕ
@@ -28,7 +30,8 @@ listed (suc n) at l = get_or l at 0 ∷ listed n (suc at) l
 
 pub lists : (n at : ℕ) (l : List ℕ) → at + n ≤ length l → take n (drop at l) ≡ listed n at l
 lists zero at l h = refl
-lists (suc n) at l h = ap (take (suc n)) (drop-cons l at 0 (omega arith)) ∙ ap (λ (k : List ℕ). get_or l at 0 ∷ k) (lists n (suc at) l (omega arith))
+lists (suc n) at l h =
+    ap (take (suc n)) (drop-cons l at 0 (omega arith)) ∙ ap (λ (k : List ℕ). get_or l at 0 ∷ k) (lists n (suc at) l (omega arith))
 
 -- ---- numbers of 32 bits
 below-take : (k n : ℕ) (l : List ℕ) → 0 < k → Below k l → Below k (take n l)

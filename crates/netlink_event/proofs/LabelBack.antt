@@ -108,7 +108,8 @@ module _ (a : Row) (f : AddressFits a) (b : Below 4294967296 a) where
 -- ---- the label as the reader has it
 short-until : (l : List ℕ) → length (label l) ≤ length l
 short-until [] = omega arith
-short-until (x ∷ l) = cond-case (λ (m : List ℕ). length m ≤ suc (length l)) (eqb 0 x) (λ e. omega arith) (λ e. omega (arith, short-until l))
+short-until (x ∷ l) =
+    cond-case (λ (m : List ℕ). length m ≤ suc (length l)) (eqb 0 x) (λ e. omega arith) (λ e. omega (arith, short-until l))
 
 pub closing-zero : (l : List ℕ) → label (l ++ (0 ∷ [])) ≡ label l
 closing-zero l = (until-before (eqb 0) l (0 ∷ []) refl).0

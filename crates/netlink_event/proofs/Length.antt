@@ -7,19 +7,22 @@ use Rattle.netlink_event.specs.Written.{written_all}
 use Rattle.netlink_event.proofs.Back.{at-most, table-fours}
 use Rattle.netlink_event.proofs.MessageBack.{length-message}
 use Rattle.netlink_event.specs.Writer.{flags, address_row, route_row, of_address, of_route, type_of}
-use Rattle.netlink_event.specs.Writer.{address_head, address_entries, route_head, route_entries, event_message, writes, message_most}
+use Rattle.netlink_event.specs.Writer.{address_head, address_entries, route_head, route_entries, event_message, writes}
+use Rattle.netlink_event.specs.Writer.{message_most}
 use Rattle.netlink_event.proofs.Fit.{row-fits, of-address, address-message, route-message}
 use Rattle.netlink_event.proofs.AddressBack.{address-total}
 use Rattle.netlink_event.proofs.RouteBack.{route-total}
 
 module _ (sequence port now : ℕ) (e : Row) where
-  pub length-address : of_address e ≡ true → length (event_message sequence port now e) ≡ 24 + length (written_all (address_entries now (address_row e)))
+  pub length-address : of_address e ≡ true
+      → length (event_message sequence port now e) ≡ 24 + length (written_all (address_entries now (address_row e)))
   length-address k =
       let a = address_row e in
       ap length (address-message sequence port now e k)
       ∙ length-message (type_of e) (flags e) sequence port (address_head a) (address_entries now a)
 
-  pub length-route : of_route e ≡ true → length (event_message sequence port now e) ≡ 28 + length (written_all (route_entries (route_row e)))
+  pub length-route : of_route e ≡ true
+      → length (event_message sequence port now e) ≡ 28 + length (written_all (route_entries (route_row e)))
   length-route k =
       let r = route_row e in
       ap length (route-message sequence port now e k)

@@ -12,9 +12,11 @@ use Rattle.lists.specs.Bools.{and_left, and_right, or-false, or_case, test-case,
 use Rattle.endian.specs.Laws.{Below}
 use Rattle.netlink.specs.Codes.{rtax_max}
 use Rattle.netlink.specs.Attributes.{Attribute, attributes, right, last}
-use Rattle.netlink.specs.Reader.{number, or_else, given, metric_sized, nested, unknown_metric, types, metric, metrics_asked, pair, pairs_asked}
+use Rattle.netlink.specs.Reader.{number, or_else, given, metric_sized, nested, unknown_metric, types, metric, metrics_asked, pair}
+use Rattle.netlink.specs.Reader.{pairs_asked}
 use Rattle.netlink_event.specs.Written.{bytes4, writable, presents, written_all}
-use Rattle.netlink_event.proofs.Back.{number-back, attributes-back, right-back, all-entries, last-entry, entry, or-back, given-is, zero-back, at-most}
+use Rattle.netlink_event.proofs.Back.{number-back, attributes-back, right-back, all-entries, last-entry, entry, or-back, given-is}
+use Rattle.netlink_event.proofs.Back.{zero-back, at-most}
 use Rattle.netlink_event.specs.Writer.{nonzero, metric_entry, metric_entries}
 use Rattle.netlink_event.proofs.Fit.{listed, lists}
 
@@ -111,7 +113,8 @@ module _ (l : List ℕ) where
         in
         ap₂ (λ (n : ℕ) (k : List ℕ). n ∷ k) value (same-values ts (and_right here rest h))
 
-    same-given : (ts : List ℕ) → all (λ t. among t types) ts ≡ true → keep (λ t. given (last t read_in)) ts ≡ keep (λ t. nonzero (at t)) ts
+    same-given : (ts : List ℕ) → all (λ t. among t types) ts ≡ true
+        → keep (λ t. given (last t read_in)) ts ≡ keep (λ t. nonzero (at t)) ts
     same-given [] h = refl
     same-given (t ∷ ts) h =
         let here = among t types in

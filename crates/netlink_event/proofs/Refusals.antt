@@ -1,6 +1,7 @@
 -- 201 has these causes and no others, 200 goes first, and of an event only the row of its kind is looked at.
 -- Assumes nothing.
-use Rattle.std.specs.Prelude.{ℕ, suc, ◌-◌, ◌≤◌, ◌<◌, ◌≡◌, Bool, true, false, ◌&&◌, ◌||◌, [], ◌∷◌, eqb, leb, ltb, length, get_or, take, drop}
+use Rattle.std.specs.Prelude.{ℕ, suc, ◌-◌, ◌≤◌, ◌<◌, ◌≡◌, Bool, true, false, ◌&&◌, ◌||◌, [], ◌∷◌, eqb, leb, ltb, length, get_or}
+use Rattle.std.specs.Prelude.{take, drop}
 use Rattle.std.proofs.Common.{sym, ap, ◌∙◌, arith, eqb-true, eq-eqb, lt-ltb, le-leb, leb-true, ltb-false, get_or-take}
 use Rattle.std.proofs.lemmas.Bool.{eqb-false}
 use Rattle.std.proofs.lemmas.List.{drop-take}
@@ -11,7 +12,8 @@ use Rattle.layout.specs.Address.{fit_address}
 use Rattle.layout.specs.Route.{fit_route}
 use Rattle.definition.specs.Call.{refusal}
 use Rattle.netlink_event.specs.Written.{message}
-use Rattle.netlink_event.specs.Writer.{kind, flags, address_row, route_row, of_address, of_route, address_head, address_entries, event_message, writes, sent, write_call}
+use Rattle.netlink_event.specs.Writer.{kind, flags, address_row, route_row, of_address, of_route, address_head, address_entries}
+use Rattle.netlink_event.specs.Writer.{event_message, writes, sent, write_call}
 use Rattle.netlink_event.proofs.Fit.{one-of-two, address-message, event-long, flags-fit, row-fits, address-fits, route-fits}
 
 -- why an event is refused by 201
@@ -23,11 +25,13 @@ pub data Unwritable (e : Row) : Type 0 where
   unfit_route : of_route e ≡ true → fit_route (route_row e) ≡ false → Unwritable e
 
 module _ (e : Row) where
-  takes-address : eqb (length e) 34 ≡ true → ltb (flags e) 65536 ≡ true → of_address e ≡ true → fit_address (address_row e) ≡ true → writes e ≡ true
+  takes-address : eqb (length e) 34 ≡ true → ltb (flags e) 65536 ≡ true → of_address e ≡ true → fit_address (address_row e) ≡ true
+      → writes e ≡ true
   unfolding writes
   takes-address l f a g = rw (l, f, a, g)
 
-  takes-route : eqb (length e) 34 ≡ true → ltb (flags e) 65536 ≡ true → of_address e ≡ false → of_route e ≡ true → fit_route (route_row e) ≡ true → writes e ≡ true
+  takes-route : eqb (length e) 34 ≡ true → ltb (flags e) 65536 ≡ true → of_address e ≡ false → of_route e ≡ true
+      → fit_route (route_row e) ≡ true → writes e ≡ true
   unfolding writes
   takes-route l f a r g = rw (l, f, a, r, g)
 
@@ -48,7 +52,8 @@ module _ (e : Row) where
   pub each-refuses : Unwritable e → writes e ≡ false
   each-refuses (no_event h) = fails (writes e) (λ w. h (event-long e w))
   each-refuses (wide_flags h) = fails (writes e) (λ w. omega (arith, h, flags-fit e w))
-  each-refuses (other_kind a r) = fails (writes e) (λ w. row-fits e w (λ k f. true-false (of_address e) k a) (λ k f. true-false (of_route e) k r))
+  each-refuses (other_kind a r) =
+      fails (writes e) (λ w. row-fits e w (λ k f. true-false (of_address e) k a) (λ k f. true-false (of_route e) k r))
   each-refuses (unfit_address a g) = fails (writes e) (λ w. true-false (fit_address (address_row e)) (address-fits e w a) g)
   each-refuses (unfit_route r g) = fails (writes e) (λ w. true-false (fit_route (route_row e)) (route-fits e w r) g)
 
@@ -86,7 +91,8 @@ module _ (e : Row) (long : length e ≡ 34) (narrow : flags e ≤ 65535) where
       (λ g. g ∙ sym (each-refuses e (unfit_route r g)))
 
 -- ---- words behind an address row aren't looked at
-only-address : (e : Row) → of_address e ≡ true → writes e ≡ eqb (length e) 34 && ltb (flags e) 65536 && fit_address (address_row e)
+only-address : (e : Row) → of_address e ≡ true
+    → writes e ≡ eqb (length e) 34 && ltb (flags e) 65536 && fit_address (address_row e)
 unfolding writes
 only-address e a =
     rw (a, fails (of_route e) (λ r. one-of-two e a r))

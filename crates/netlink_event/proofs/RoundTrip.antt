@@ -11,13 +11,15 @@ use Rattle.layout.specs.Route as Route
 use Rattle.netlink.specs.Reader.{read}
 use Rattle.netlink_event.specs.Writer.{kind, flags, address_row, route_row, nonzero, event_message, writes}
 use Rattle.netlink_event.proofs.Fit.{AddressFits, RouteFits, listed, lists, below-part, row-fits}
-use Rattle.netlink_event.specs.Found.{AddressAdded, AddressDeleted, RouteNamed, RouteAdded, metric_pairs, RouteDeleted, Found, address_added, address_deleted, route_added, route_deleted}
+use Rattle.netlink_event.specs.Found.{AddressAdded, AddressDeleted, RouteNamed, RouteAdded, metric_pairs, RouteDeleted, Found}
+use Rattle.netlink_event.specs.Found.{address_added, address_deleted, route_added, route_deleted}
 use Rattle.netlink_event.proofs.AddressBack.{new_addr_of, del_addr_of, label-words, read-new-address, read-del-address}
 use Rattle.netlink_event.proofs.MetricsBack.{pairs_from}
 use Rattle.netlink_event.proofs.RouteBack.{new_route_of, del_route_of, read-new-route, read-del-route}
 
 -- ---- addresses
-address-added-is : (up now flags : ℕ) (a : Row) → AddressFits a → Below 4294967296 a → AddressAdded now flags a (new_addr_of up now flags a)
+address-added-is : (up now flags : ℕ) (a : Row) → AddressFits a → Below 4294967296 a
+    → AddressAdded now flags a (new_addr_of up now flags a)
 address-added-is up now flags a f b =
     record {
       local = refl;

@@ -1,4 +1,4 @@
--- The reader of Paper 1 finds in the message of a route event what was put in.
+-- The reader finds in the message of a route event what was put in.
 -- Assumes nothing.
 use Rattle.std.specs.Prelude.{ℕ, ◌+◌, ◌≤◌, ◌<◌, ◌≡◌, refl, true, false, cond, List, [], ◌∷◌, ◌++◌, eqb, length, get_or}
 use Rattle.std.proofs.Math.Path.{sym, ap, ap₂}
@@ -12,14 +12,19 @@ use Rattle.prefix.specs.Mask.{host_bits}
 use Rattle.endian.specs.Laws.{Below}
 use Rattle.layout.specs.Route as Route
 use Rattle.netlink.specs.Attributes.{Attribute, last}
-use Rattle.netlink.specs.Reader.{address, number, or_else, optional, message_flags, u32, nested, metrics_in, metrics_asked, pairs_asked}
+use Rattle.netlink.specs.Reader.{address, number, or_else, optional, message_flags, u32, nested, metrics_in, metrics_asked}
+use Rattle.netlink.specs.Reader.{pairs_asked}
 use Rattle.netlink.specs.Reader.{nested_right, sized_in, sizes, route_words, new_route, del_route, request, asked, read}
 use Rattle.netlink_event.specs.Written.{address_bytes, bytes4, writable, presents, written_all, message}
-use Rattle.netlink_event.proofs.Back.{bytes-back, number-back, address-back, two-back, all-entries, last-entry, or-back, zero-back, total}
+use Rattle.netlink_event.proofs.Back.{bytes-back, number-back, address-back, two-back, all-entries, last-entry, or-back}
+use Rattle.netlink_event.proofs.Back.{zero-back, total}
 use Rattle.netlink_event.proofs.MessageBack.{Sound, read-message}
-use Rattle.netlink_event.specs.Writer.{kind, flags, route_row, nonzero, onlink_flag, metric_entries, route_head, route_entries, event_message, writes}
-use Rattle.netlink_event.proofs.Fit.{RouteFits, lists, below-part, below-drop, value-back, flags-fit, of-route, route_as, message-3, message-4}
-use Rattle.netlink_event.proofs.MetricsBack.{pairs_from, metrics-length, metrics-right, metrics-sized, nested-back, asked-back, pairs-back}
+use Rattle.netlink_event.specs.Writer.{kind, flags, route_row, nonzero, onlink_flag, metric_entries, route_head, route_entries}
+use Rattle.netlink_event.specs.Writer.{event_message, writes}
+use Rattle.netlink_event.proofs.Fit.{RouteFits, lists, below-part, below-drop, value-back, flags-fit, of-route, route_as}
+use Rattle.netlink_event.proofs.Fit.{message-3, message-4}
+use Rattle.netlink_event.proofs.MetricsBack.{pairs_from, metrics-length, metrics-right, metrics-sized, nested-back, asked-back}
+use Rattle.netlink_event.proofs.MetricsBack.{pairs-back}
 
 -- ---- what both requests begin with, by the last attribute of each code
 fields : (m : List ℕ) (l : List Attribute) {o1 o4 o5 o6 o7 o15 : Option (List ℕ)}
@@ -160,7 +165,8 @@ asks-del up m l = refl
 
 -- ---- THE LAWS: the reader accepts the message of an event, and the request has the row's words
 module _ (sequence port now : ℕ) (e : Row) (w : writes e ≡ true) (b : Below 4294967296 e) (up : ℕ) where
-  pub read-new-route : kind e ≡ 3 → read up (event_message sequence port now e) ≡ asked 24 (new_route_of up (flags e) (route_row e))
+  pub read-new-route : kind e ≡ 3
+      → read up (event_message sequence port now e) ≡ asked 24 (new_route_of up (flags e) (route_row e))
   unfolding m
   read-new-route k =
       let r = route_row e in

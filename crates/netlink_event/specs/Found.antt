@@ -1,6 +1,6 @@
--- What the reader is to find in the message of an event: "The reader of Paper 1 must find in each message the table, addresses, kind,
--- scope, priority, lifetimes and metrics that were put in, as far as a request of that type has the field." One record for each type of
--- message, one field for each field of its request. proofs/RoundTrip has it for every event that isn't refused.
+-- What the reader is to find in the message of an event: "the table, addresses, kind, scope, priority, lifetimes and metrics that
+-- were put in, as far as a request of that type has the field" (document 02). One record for each type of message, one field for
+-- each of its request. proofs/RoundTrip has it for every event that isn't refused.
 use Rattle.std.specs.Prelude.{ℕ, suc, ◌≡◌, Bool, true, cond, not, ◌&&◌, List, [], ◌∷◌, eqb, take, drop}
 use Rattle.lists.specs.Lists.{Row, all}
 use Rattle.layout.specs.Flags.{has_bit}

@@ -1,6 +1,7 @@
 -- An event row as a message of rtnetlink, and what refuses it, sentence by sentence as document 02 has it ("Events back onto the
 -- socket"). What a header, an attribute and its padding are stands in Written, for the reader in netlink/specs/Attributes.
-use Rattle.std.specs.Prelude.{ℕ, ◌-◌, ◌%◌, Bool, cond, not, ◌&&◌, ◌||◌, List, [], ◌∷◌, ◌++◌, map, eqb, leb, ltb, length, get_or, take, drop}
+use Rattle.std.specs.Prelude.{ℕ, ◌-◌, ◌%◌, Bool, cond, not, ◌&&◌, ◌||◌, List, [], ◌∷◌, ◌++◌, map, eqb, leb, ltb, length, get_or}
+use Rattle.std.specs.Prelude.{take, drop}
 use Rattle.lists.specs.Lists.{Row, any, zeros}
 use Rattle.endian.specs.Endian.{bytes_of}
 use Rattle.layout.specs.Address as Address
@@ -11,7 +12,8 @@ use Rattle.layout.specs.Event as Event
 use Rattle.definition.specs.Call.{Reply, refusal}
 use Rattle.definition.specs.Reference.Source.{left}
 use Rattle.netlink.specs.Codes.{rtm_new_addr, rtm_del_addr, rtm_new_route, rtm_del_route, inet}
-use Rattle.netlink.specs.Codes.{ifa_address, ifa_local, ifa_label, ifa_broadcast, ifa_cacheinfo, ifa_flags, ifa_rt_priority, ifa_proto}
+use Rattle.netlink.specs.Codes.{ifa_address, ifa_local, ifa_label, ifa_broadcast, ifa_cacheinfo, ifa_flags, ifa_rt_priority}
+use Rattle.netlink.specs.Codes.{ifa_proto}
 use Rattle.netlink.specs.Codes.{rta_dst, rta_oif, rta_gateway, rta_priority, rta_prefsrc, rta_metrics, rta_table}
 use Rattle.netlink.specs.Reader.{types}
 use Rattle.netlink_event.specs.Written.{bytes4, address_bytes, Entry, when, always, written_all, message}
@@ -118,7 +120,8 @@ address_message sequence port now e =
     message (type_of e) (flags e) sequence port (address_head (address_row e)) (address_entries now (address_row e))
 
 unfoldable pub route_message : (sequence port : ℕ) → Row → List ℕ
-route_message sequence port e = message (type_of e) (flags e) sequence port (route_head (route_row e)) (route_entries (route_row e))
+route_message sequence port e =
+    message (type_of e) (flags e) sequence port (route_head (route_row e)) (route_entries (route_row e))
 
 unfoldable pub event_message : (sequence port now : ℕ) → Row → List ℕ
 event_message sequence port now e = cond (of_address e) (address_message sequence port now e) (route_message sequence port e)

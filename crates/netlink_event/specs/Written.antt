@@ -1,4 +1,5 @@
--- A message as a list of bytes, written: what a header, an attribute and its padding are is what the reader reads (Attributes, Reader).
+-- A message as a list of bytes, written. What a header, an attribute and its padding are is what the reader reads
+-- (netlink/specs/Attributes, Reader).
 use Rattle.std.specs.Prelude.{ℕ, ◌+◌, ◌-◌, ◌/◌, ◌%◌, Bool, true, cond, ◌&&◌, List, [], ◌∷◌, ◌++◌, ltb, length}
 use Rattle.lists.specs.Lists.{each, zeros}
 use Rattle.netlink.specs.Attributes.{Attribute, padded}

@@ -1,6 +1,7 @@
 -- What the pieces of an attribute come to, and attributes behind attributes.
 -- Assumes nothing.
-use Rattle.std.specs.Prelude.{ℕ, zero, suc, ◌+◌, ◌-◌, ◌%◌, ◌≤◌, ◌<◌, ◌≡◌, refl, Bool, true, false, List, [], ◌∷◌, ◌++◌, length, take}
+use Rattle.std.specs.Prelude.{ℕ, zero, suc, ◌+◌, ◌-◌, ◌%◌, ◌≤◌, ◌<◌, ◌≡◌, refl, Bool, true, false, List, [], ◌∷◌, ◌++◌, length}
+use Rattle.std.specs.Prelude.{take}
 use Rattle.std.proofs.Common.{sym, ap, ◌∙◌, append_assoc, append-nil, arith}
 use Rattle.lists.specs.Lists.{each, zeros}
 use Rattle.lists.specs.Keep.{each_append}
@@ -60,8 +61,10 @@ pub ◌and_also◌ : {t u v : Writer} {es fs : List Entry} → Adds t es u → A
 ◌and_also◌ {es = es} {fs = fs} a b = record { bytes = same (written_all (es ++ fs)) (written-behind es fs) (a.bytes and_then b.bytes) }
 
 -- the same presence and the same payload in other words
-pub with_presence : {t u : Writer} {b d : Bool} {c : ℕ} {p : List ℕ} → b ≡ d → Adds t (when b c p ∷ []) u → Adds t (when d c p ∷ []) u
+pub with_presence : {t u : Writer} {b d : Bool} {c : ℕ} {p : List ℕ} → b ≡ d → Adds t (when b c p ∷ []) u
+    → Adds t (when d c p ∷ []) u
 with_presence e a = rw e at a
 
-pub with_payload : {t u : Writer} {b : Bool} {c : ℕ} {p q : List ℕ} → p ≡ q → Adds t (when b c p ∷ []) u → Adds t (when b c q ∷ []) u
+pub with_payload : {t u : Writer} {b : Bool} {c : ℕ} {p q : List ℕ} → p ≡ q → Adds t (when b c p ∷ []) u
+    → Adds t (when b c q ∷ []) u
 with_payload e a = rw e at a

@@ -55,7 +55,8 @@ pub address-bound : (now : ℕ) (a : Row) → fit_address a ≡ true → length 
 address-bound now a fit = omega (arith, at-most (address_entries now a), address-total now a (fit-address a fit))
 
 pub label-bound : (a : Row) → fit_address a ≡ true → length (written_all (label_entry a ∷ [])) ≤ 20
-label-bound a fit = omega (arith, at-most (label_entry a ∷ []), length-append (label_bytes a) (0 ∷ []), bytes-short a (fit-address a fit))
+label-bound a fit =
+    omega (arith, at-most (label_entry a ∷ []), length-append (label_bytes a) (0 ∷ []), bytes-short a (fit-address a fit))
 
 pub cacheinfo-bound : (now : ℕ) (a : Row) → length (written_all (cacheinfo_entry now a ∷ [])) ≤ 20
 cacheinfo-bound now a = omega (arith, at-most (cacheinfo_entry now a ∷ []), length-zeros 8)

@@ -57,7 +57,8 @@ module _ (now : ℕ) (e : Row) where
 
   pub of-route : of_route e ≡ true → route_body (route_row e) ≡ body now e
   unfolding body
-  of-route r = sym (cond-false (of_address e) (address_body now (address_row e)) (route_body (route_row e)) (fails (of_address e) (λ a. one-of-two e a r)))
+  of-route r =
+      sym (cond-false (of_address e) (address_body now (address_row e)) (route_body (route_row e)) (fails (of_address e) (λ a. one-of-two e a r)))
 
   module _ (w : writes e ≡ true) where
     pub low-kind : kind e ≤ 2 → of_address e ≡ true
@@ -87,7 +88,8 @@ module _ (now : ℕ) (e : Row) where
         (λ a f. omega (arith, ap length (of-address a), address-bound now (address_row e) f))
         (λ r f. omega (arith, ap length (of-route r), route-bound (route_row e)))
 
-    pub event-framed : (sequence port : ℕ) → framed (type_of e) (flags e) sequence port (body now e) ≡ event_message sequence port now e
+    pub event-framed : (sequence port : ℕ)
+        → framed (type_of e) (flags e) sequence port (body now e) ≡ event_message sequence port now e
     event-framed sequence port =
         row-of e w
         (λ a f. ap (framed (type_of e) (flags e) sequence port) (sym (of-address a)) ∙ sym (message-framed _ _ _ _ _ _) ∙ sym (address-message sequence port now e a))

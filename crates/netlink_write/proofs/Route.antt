@@ -1,6 +1,7 @@
 -- What the pieces of a route's message come to.
 -- Assumes nothing.
-use Rattle.std.specs.Prelude.{ℕ, zero, suc, ◌+◌, ◌-◌, ◌*◌, ◌≤◌, ◌<◌, ◌≡◌, refl, Bool, true, false, cond, not, List, [], ◌∷◌, ◌++◌, map, eqb, leb, length, get_or, take, drop, Result, Ok, Err}
+use Rattle.std.specs.Prelude.{ℕ, zero, suc, ◌+◌, ◌-◌, ◌*◌, ◌≤◌, ◌<◌, ◌≡◌, refl, Bool, true, false, cond, not, List, [], ◌∷◌, ◌++◌}
+use Rattle.std.specs.Prelude.{map, eqb, leb, length, get_or, take, drop, Result, Ok, Err}
 use Rattle.std.proofs.Common.{sym, ap, ◌∙◌, arith, add-one, length-append, take-suc, take_at, eqb-true, ne_eqb, leb-true, le-leb}
 use Rattle.std.specs.Result.{OkIff, result_unwrap_or}
 use Rattle.std.proofs.lemmas.Bool.{eqb-false}
@@ -44,7 +45,8 @@ unfolding rising
 type_at k h = rising-at 17 1 k h ∙ omega arith
 
 module _ (m : Row) where
-  pub next : (k : ℕ) → k < 17 → take (k + 1) (metric_entries m) ≡ take k (metric_entries m) ++ (when (nonzero (get_or m k 0)) (k + 1) (bytes4 (get_or m k 0)) ∷ [])
+  pub next : (k : ℕ) → k < 17
+      → take (k + 1) (metric_entries m) ≡ take k (metric_entries m) ++ (when (nonzero (get_or m k 0)) (k + 1) (bytes4 (get_or m k 0)) ∷ [])
   next k h =
       let back : k + 1 - 1 ≡ k = omega arith in
       let here : get_or (metric_entries m) k (metric_entry m 0) ≡ when (nonzero (get_or m k 0)) (k + 1) (bytes4 (get_or m k 0)) =
@@ -119,7 +121,8 @@ module _ (m : Row) where
     abbrev entry : Entry
     entry = when (nonzero (get_or m k 0)) (k + 1) (bytes4 (get_or m k 0))
 
-    pub next-bound : length (written_all (take k (metric_entries m))) ≤ 8 * k → length (written_all (take (k + 1) (metric_entries m))) ≤ 8 * (k + 1)
+    pub next-bound : length (written_all (take k (metric_entries m))) ≤ 8 * k
+        → length (written_all (take (k + 1) (metric_entries m))) ≤ 8 * (k + 1)
     next-bound b =
         let behind : length (written_all (take (k + 1) (metric_entries m))) ≡ length (written_all (take k (metric_entries m))) + length (written_all (entry ∷ [])) =
         ap (λ (t : List Entry). length (written_all t)) (next m k h)
@@ -128,13 +131,15 @@ module _ (m : Row) where
         in
         omega (arith, behind, bounded (nonzero (get_or m k 0)) (k + 1) (bytes4 (get_or m k 0)))
 
-    pub next-added : {t u v : Writer} → Adds t (take k (metric_entries m)) u → Adds u (entry ∷ []) v → Adds t (take (k + 1) (metric_entries m)) v
+    pub next-added : {t u v : Writer} → Adds t (take k (metric_entries m)) u → Adds u (entry ∷ []) v
+        → Adds t (take (k + 1) (metric_entries m)) v
     next-added a b = rw (next m k h) (a and_also b)
 
 pub few-metrics : (m : Row) → length (written_all (metric_entries m)) ≤ 136
 few-metrics m = at-most (metric_entries m)
 
-pub metrics-bound : (m : Row) → length (written_all (when (any nonzero m) rta_metrics (written_all (metric_entries m)) ∷ [])) ≤ 140
+pub metrics-bound : (m : Row)
+    → length (written_all (when (any nonzero m) rta_metrics (written_all (metric_entries m)) ∷ [])) ≤ 140
 metrics-bound m = omega (arith, at-most (when (any nonzero m) rta_metrics (written_all (metric_entries m)) ∷ []), few-metrics m)
 
 -- ---- the nested ones at the front of a buffer

@@ -3,7 +3,8 @@ use Rattle.std.specs.Prelude.{ℕ, cond, List, [], ◌∷◌, ◌++◌}
 use Rattle.lists.specs.Lists.{Row}
 use Rattle.netlink.specs.Codes.{ifa_label, ifa_cacheinfo}
 use Rattle.netlink_event.specs.Written.{Entry, always, written_all}
-use Rattle.netlink_event.specs.Writer.{address_row, route_row, of_address, address_head, label_bytes, cacheinfo, address_entries, route_head, route_entries}
+use Rattle.netlink_event.specs.Writer.{address_row, route_row, of_address, address_head, label_bytes, cacheinfo, address_entries}
+use Rattle.netlink_event.specs.Writer.{route_head, route_entries}
 
 abbrev pub label_entry : Row → Entry
 label_entry a = always ifa_label (label_bytes a ++ (0 ∷ []))

@@ -29,6 +29,7 @@ const USAGE: &str = "usage: oracle COMMAND
   cases N SEED [--large PERCENT]
                          prints N random cases as JSON lines
   message-cases N SEED   prints N random messages as JSON lines
+  event-cases N SEED     prints N random events as JSON lines
   message-list N SEED FOLDER
                          writes a list of N messages, and what is to be
                          printed of them
@@ -117,9 +118,14 @@ fn command(arguments: &[String]) -> Result<bool, String> {
             replayed(&oracle::port::words(&data))
         }
         "cases" => cases(rest),
-        "message-cases" => match rest {
+        "message-cases" | "event-cases" => match rest {
             [_, _] => {
-                json::messages(number(rest, 0, 0)?, number(rest, 1, SEED)?);
+                let (count, seed) = (number(rest, 0, 0)?, number(rest, 1, SEED)?);
+                if name == "event-cases" {
+                    json::events(count, seed);
+                } else {
+                    json::messages(count, seed);
+                }
                 Ok(true)
             }
             _ => Err(USAGE.to_string()),

@@ -41,7 +41,8 @@ write-requires-clause-fit c =
     ap writes whole.same ∙ fit
 
 pub write-requires-clause-room : goal.write-requires-clause-room
-write-requires-clause-room c = leb-true 216 (length c.args.message.now) (passed (leb 216 (length c.args.message.now)) _ c.in_ok-unless.ensures)
+write-requires-clause-room c =
+    leb-true 216 (length c.args.message.now) (passed (leb 216 (length c.args.message.now)) _ c.in_ok-unless.ensures)
 
 pub returns : goal.returns
 returns c =
