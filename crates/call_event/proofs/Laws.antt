@@ -1,16 +1,21 @@
 -- What an event comes to as an answer.
 -- Assumes nothing.
-use Rattle.std.specs.Prelude.{ℕ, ◌≡◌, ◌≢◌, refl, List, length, Result, Ok, Err}
+use Rattle.std.specs.Prelude.{ℕ, ◌≡◌, ◌≢◌, refl, true, List, length, take, Result, Ok, Err}
 use Rattle.std.specs.Result.{IsErr, IsErrAnd}
-use Rattle.std.proofs.Common.{sym, ap, ◌∙◌}
-use Rattle.lists.specs.Lists.{flat, put}
+use Rattle.std.proofs.Common.{sym, ap, ◌∙◌, subst}
+use Rattle.lists.specs.Lists.{Row, flat, put}
 use Rattle.lists.specs.Put.{put-no-rows}
 use Rattle.lists.specs.At.{flat-one}
 use Rattle.definition.specs.Call.{Reply, numbers, refusal}
 use Rattle.refusal.specs.declared.Refusal.{Refusal}
 use Rattle.refusal.specs.Refusal.{number_of, Refuses}
 use Rattle.call_read.specs.Answer.{answer_by, valuing}
-use Rattle.netlink_event.specs.Writer.{sent}
+use Rattle.endian.specs.Laws.{Below}
+use Rattle.netlink.specs.Reader.{read}
+use Rattle.netlink_event.specs.Found.{Found}
+use Rattle.netlink_event.specs.Writer.{event_message, writes, sent}
+use Rattle.netlink_event.proofs.RoundTrip.{finds}
+use Rattle.netlink_write.proofs.Route.{nested-payload}
 
 -- r is the answer that a reply says, and leaves the bytes as it says
 pub record Is (reply : Reply) (w w' : List ℕ) (r : Result ℕ Refusal) : Type 0 where
@@ -35,3 +40,12 @@ is-written reply m w q f z =
       says = λ i. record { number = 0; present = 0; value = f i; second = 0 };
       bytes = z ∙ ap (λ (l : List ℕ). put 0 l w) (sym (flat-one m));
     })
+
+-- what was written is read back
+module _ (sequence port now up : ℕ) (e : Row) (fit : writes e ≡ true) (small : Below 4294967296 e) where
+  pub written-back : (w : List ℕ) {w' : List ℕ} {n : ℕ} → n ≡ length (event_message sequence port now e)
+      → w' ≡ put 0 (event_message sequence port now e) w → Found now e (read up (take n w'))
+  written-back w {w'} {n} f z =
+      let m = event_message sequence port now e in
+      let front : take n w' ≡ m = nested-payload m w z f in
+      subst (λ (l : List ℕ). Found now e (read up l)) (sym front) (finds sequence port now e fit small up)

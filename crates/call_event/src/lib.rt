@@ -1,11 +1,13 @@
 // The call that writes an event as a message onto a socket, on lent words and bytes. What is refused writes nothing.
 #![tactic(auto)]
 
-ghost use Rattle.std.specs.Prelude.{◌≡◌, length};
+ghost use Rattle.std.specs.Prelude.{◌≡◌, ◌≤◌, ◌%◌, ℕ, IfOk, length, take};
 ghost use Rattle.lists.specs.Lists.{flat, put};
 ghost use Rattle.definition.specs.Call.{numbers};
 ghost use Rattle.refusal.specs.Refusal.{Refuses};
 ghost use Rattle.call_read.specs.Answer.{answer_by, valuing};
+ghost use Rattle.netlink.specs.Reader.{read};
+ghost use Rattle.netlink_event.specs.Found.{Found};
 ghost use Rattle.netlink_event.specs.Writer.{writes, write_call};
 
 use layout::{EVENT_WORDS, event};
@@ -33,7 +35,8 @@ fn fit_event(event: &[u32]) -> bool
     }
 }
 
-// An event as a message; how many bytes it has. `clock` is when it is written, for what is left of an address's lifetimes.
+// An event as a message; how many bytes it has. `clock` is when it is written, for what is left of an address's lifetimes. The reader
+// finds in the message what was put in.
 pub fn write(
     event: &[u32],
     message: &mut [u8],
@@ -44,6 +47,8 @@ pub fn write(
     ensures refuses { Refuses result (write_call (length message.old) sequence port clock event.now).number }
     ensures says { answer_by valuing result ≡ numbers (write_call (length message.old) sequence port clock event.now) }
     ensures bytes_after { message.new ≡ put 0 (flat (write_call (length message.old) sequence port clock event.now).rows) message.old }
+    ensures size { IfOk result (λ n. (n ≤ 216) × (n % 4 ≡ 0)) }
+    ensures read_back { IfOk result (λ n. (up : ℕ) → Found clock event.now (read up (take n message.new))) }
 {
     unless(MESSAGE_BYTES <= message.len(), Refusal::WrongLength)?;
     unless(fit_event(event), Refusal::Malformed)?;
