@@ -1,17 +1,26 @@
--- A message takes at most 216 bytes, that of an address 112, and a multiple of four.
+-- A message takes at most 216 bytes, that of an address 112, and a multiple of four; its attributes stand in rising order.
 -- Assumes nothing.
 use Rattle.std.specs.Prelude.{ℕ, ◌+◌, ◌%◌, ◌≤◌, ◌≡◌, true, length}
-use Rattle.std.proofs.Common.{ap, ◌∙◌, arith}
+use Rattle.std.proofs.Common.{refl, ap, ◌∙◌, arith}
 use Rattle.lists.specs.Lists.{Row}
 use Rattle.netlink_event.specs.Written.{written_all}
-use Rattle.netlink_event.proofs.Back.{at-most, table-fours}
+use Rattle.netlink_event.proofs.Back.{rising, at-most, table-fours}
 use Rattle.netlink_event.proofs.MessageBack.{length-message}
 use Rattle.netlink_event.specs.Writer.{flags, address_row, route_row, of_address, of_route, type_of}
-use Rattle.netlink_event.specs.Writer.{address_head, address_entries, route_head, route_entries, event_message, writes}
-use Rattle.netlink_event.specs.Writer.{message_most}
+use Rattle.netlink_event.specs.Writer.{address_head, address_entries, route_head, route_entries, metric_entries}
+use Rattle.netlink_event.specs.Writer.{event_message, writes, message_most}
 use Rattle.netlink_event.proofs.Fit.{row-fits, of-address, address-message, route-message}
 use Rattle.netlink_event.proofs.AddressBack.{address-total}
 use Rattle.netlink_event.proofs.RouteBack.{route-total}
+
+pub address-rises : (now : ℕ) (a : Row) → rising (address_entries now a) ≡ true
+address-rises now a = refl
+
+pub route-rises : (r : Row) → rising (route_entries r) ≡ true
+route-rises r = refl
+
+pub metrics-rise : (l : Row) → rising (metric_entries l) ≡ true
+metrics-rise l = refl
 
 module _ (sequence port now : ℕ) (e : Row) where
   pub length-address : of_address e ≡ true

@@ -14,7 +14,8 @@ bytes4 n = n % 256 ∷ n / 256 % 256 ∷ n / 65536 % 256 ∷ n / 16777216 % 256 
 abbrev pub address_bytes : ℕ → List ℕ
 address_bytes n = n / 16777216 % 256 ∷ n / 65536 % 256 ∷ n / 256 % 256 ∷ n % 256 ∷ []
 
--- ---- an attribute: its length with the header's four, its code, the payload, and zeros up to a multiple of four
+-- ---- an attribute: its length with the header's four, its code ("Codes bear no flag bits"), the payload, and zeros up to a
+-- multiple of four ("padding is zero and counts in the message's length")
 unfoldable pub written : Attribute → List ℕ
 written a =
     bytes2 (4 + length a.payload)
