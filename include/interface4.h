@@ -1,8 +1,9 @@
 /*
- * IPv4 on a guest's loopback: addresses, routes, source choice, and requests
- * as they come off an rtnetlink socket. The functions of libinterface4.a
- * (`rt lib` in crates/interface4), for x86-64 Linux, to be used from C99 or C++.
- * Each is proved to do what documents 01 and 02 say for any lent words at all.
+ * IPv4 on a guest's loopback: addresses, routes, source choice, requests as
+ * they come off an rtnetlink socket, and events as they go onto it. The
+ * functions of libinterface4.a (`rt lib` in crates/interface4), for x86-64
+ * Linux, to be used from C99 or C++. Each is proved to do what documents 01 and
+ * 02 say for any lent words at all.
  *
  * Each call is there twice: interface4w_* on words of 32 bits where they are,
  * and interface4_* on bytes, each word as four, the lowest first, which copies
@@ -127,9 +128,11 @@ extern "C" {
 #define INTERFACE4_RTM_DELADDR 21
 #define INTERFACE4_RTM_NEWROUTE 24
 #define INTERFACE4_RTM_DELROUTE 25
+/* The most bytes of a message that is written, and the fewest of a buffer for it. */
+#define INTERFACE4_MESSAGE_BYTES 216
 
 /* The last of document 02's papers that this header knows: see interface4_sizes. */
-#define INTERFACE4_PAPER 4
+#define INTERFACE4_PAPER 5
 
 /* A lifetime that never ends. */
 #define INTERFACE4_FOREVER UINT32_MAX
@@ -152,7 +155,7 @@ extern "C" {
 #define INTERFACE4_NO_ROUTE_TO_NETWORK 101 /* no route fits */
 #define INTERFACE4_UNREACHABLE 113         /* a route says so */
 #define INTERFACE4_UNFIT_BUFFER 200        /* a slice of the wrong length */
-#define INTERFACE4_UNFIT_STATE 201         /* not well-formed; a row too */
+#define INTERFACE4_UNFIT_STATE 201         /* not well-formed; a row or event too */
 #define INTERFACE4_UNFIT_REQUEST 202       /* a field or clock out of range */
 #define INTERFACE4_NO_SPACE 203            /* a list would pass its limit */
 #define INTERFACE4_BAD_LENGTH 204          /* of a message, or in it */
@@ -190,6 +193,7 @@ typedef struct interface4_reply {
 #define INTERFACE4W_STACK_LEFT 4096
 #define INTERFACE4W_STACK_CHECK 4096
 #define INTERFACE4W_STACK_READ 4096
+#define INTERFACE4W_STACK_WRITE 4096
 #define INTERFACE4W_STACK_ADD_V4_MASK 45056
 #define INTERFACE4W_STACK_DEL_V4_MASK 4096
 #define INTERFACE4_STACK_UP 184320
@@ -209,6 +213,7 @@ typedef struct interface4_reply {
 #define INTERFACE4_STACK_LEFT 4096
 #define INTERFACE4_STACK_CHECK 40960
 #define INTERFACE4_STACK_READ 4096
+#define INTERFACE4_STACK_WRITE 4096
 #define INTERFACE4_STACK_ADD_V4_MASK 172032
 #define INTERFACE4_STACK_DEL_V4_MASK 131072
 #define INTERFACE4_STACK_SIZES 4096
@@ -344,6 +349,29 @@ interface4_reply interface4w_read(const uint8_t *message, size_t message_len, ui
                                   uint32_t up);
 interface4_reply interface4_read(const uint8_t *message, size_t message_len, uint8_t *request, size_t request_len,
                                  uint32_t up);
+
+/*
+ * Events onto a socket. No state.
+ */
+
+/*
+ * One event row is written as an rtnetlink message, type 20, 21, 24 or 25 by
+ * its kind: the header with the event's flags, `sequence` and `port`, ifaddrmsg
+ * or rtmsg, and attributes by rising code. `message` is bytes in both,
+ * anywhere, at least INTERFACE4_MESSAGE_BYTES whatever this message takes; what
+ * is behind the message keeps what it held. `value` is the message's bytes, a
+ * multiple of 4. An address's lifetimes are those that left gives at `now`,
+ * its stamps 0. The device index is 1, absent where a route's device is 0.
+ *
+ * 200 for a shorter buffer; then 201 for an event that isn't
+ * INTERFACE4_EVENT_WORDS long, is of another kind, has flags over 65,535, or
+ * whose row could stand in no state. What is behind an address row isn't
+ * looked at.
+ */
+interface4_reply interface4w_write(const uint32_t *event, size_t event_len, uint8_t *message, size_t message_len,
+                                   uint32_t sequence, uint32_t port, uint64_t now);
+interface4_reply interface4_write(const uint8_t *event, size_t event_len, uint8_t *message, size_t message_len,
+                                  uint32_t sequence, uint32_t port, uint64_t now);
 
 /*
  * The prefix of a netmask, `value`, the count of its ones: 255.255.255.0 is 24.

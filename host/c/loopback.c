@@ -1,6 +1,7 @@
 /*
- * A loopback from C: up, an address, a lookup, a message off a socket,
- * refusals; every function of the header on words, and every one on bytes.
+ * A loopback from C: up, an address, a lookup, a message off a socket and one
+ * onto it, refusals; every function of the header on words, and every one on
+ * bytes.
  * Each number is held against a literal; the status is 1 if one differs.
  */
 #include "interface4.h"
@@ -28,6 +29,7 @@ static uint32_t by_local[INTERFACE4_DEL_V4_WORDS];
 static uint32_t route[INTERFACE4_ADD_ROUTE4_WORDS];
 static uint32_t same_route[INTERFACE4_DEL_ROUTE4_WORDS];
 static uint32_t request[INTERFACE4_REQUEST_BUFFER_WORDS];
+static uint8_t written[INTERFACE4_MESSAGE_BYTES];
 static int failed;
 
 /* ip addr add 10.1.0.5/24 dev lo valid_lft 10 preferred_lft 5 */
@@ -40,6 +42,16 @@ static const uint8_t message[] = {
     8, 0, 2, 0, 10, 1, 0, 5, 8, 0, 1, 0, 10, 1, 0, 5,
     /* cache information: preferred, valid, stamps */
     20, 0, 6, 0, 5, 0, 0, 0, 10, 0, 0, 0, 0, 0, 0, 0, 0, 0, 0, 0,
+};
+
+/* What tells of it, three seconds later, with sequence 7 and port 9. */
+static const uint8_t notice[] = {
+    76, 0, 0, 0, INTERFACE4_RTM_NEWADDR, 0, 0, 0, 7, 0, 0, 0, 9, 0, 0, 0,
+    2, 24, 0, 0, 1, 0, 0, 0,
+    /* address, local, label */
+    8, 0, 1, 0, 10, 1, 0, 5, 8, 0, 2, 0, 10, 1, 0, 5, 7, 0, 3, 0, 'l', 'o', 0, 0,
+    /* cache information, flags */
+    20, 0, 6, 0, 2, 0, 0, 0, 7, 0, 0, 0, 0, 0, 0, 0, 0, 0, 0, 0, 8, 0, 8, 0, 0, 0, 0, 0,
 };
 
 static void is(const char *what, uint32_t found, uint32_t expected)
@@ -126,6 +138,14 @@ static void same_request(void)
   memset(request, 0x5a, sizeof request);
 }
 
+/* What the event of that address is written as, and nothing behind it. */
+static void same_notice(void)
+{
+  is("the message", (uint32_t)memcmp(written, notice, sizeof notice), 0);
+  is("what is behind it", written[sizeof notice], 0x5a);
+  memset(written, 0x5a, sizeof written);
+}
+
 static void on_words(void)
 {
   interface4_reply reply;
@@ -143,6 +163,10 @@ static void on_words(void)
   told("read", reply, 0, INTERFACE4_RTM_NEWADDR, INTERFACE4_ADD_V4_WORDS);
   told("add_v4", interface4w_add_v4(W(state), request, reply.second, W(events), 0), 0, 4, 0);
   same_request();
+  memset(written, 0x5a, sizeof written);
+  reply = interface4w_write(events, INTERFACE4_EVENT_WORDS, written, sizeof written, 7, 9, 3000000000u);
+  told("write", reply, 0, sizeof notice, 0);
+  same_notice();
   two_addresses();
   told("left", interface4w_left(W(own), 3000000000u), 0, 2, 7);
 
@@ -167,6 +191,9 @@ static void on_words(void)
   printf("10.1.0.5/24 again: refused %" PRIu32 "\n", reply.number);
   refused("lookup4 of what has no route", interface4w_lookup4(W(state), W(row), FAR), 101);
   refused("a message cut short", interface4w_read(message, sizeof message - 1, W(request), 1), 204);
+  reply = interface4w_write(events, INTERFACE4_EVENT_WORDS, written, sizeof written - 1, 7, 9, 0);
+  refused("215 bytes for a message", reply, 200);
+  refused("35 words for an event", interface4w_write(events, 35, written, sizeof written, 7, 9, 0), 201);
   refused("48 words for a request", interface4w_read(message, sizeof message, request, 48, 1), 200);
   refused("a short event buffer", interface4w_up(W(state), events, INTERFACE4_EVENT_BUFFER_WORDS - 1, 8), 200);
   address[2] = 33;
@@ -195,6 +222,12 @@ static void on_bytes(void)
   told("read, on bytes", interface4_read(message, sizeof message, B(request), 1), 0, 20, 18);
   same_request();
   told("add_v4, on bytes", interface4_add_v4(B(state), B(address), B(events), 0), 0, 4, 0);
+  told("write, on bytes",
+       interface4_write((uint8_t *)events, INTERFACE4_EVENT_BYTES, written, sizeof written, 7, 9, 3000000000u), 0,
+       sizeof notice, 0);
+  same_notice();
+  refused("part of a word, on bytes",
+          interface4_write((uint8_t *)events, INTERFACE4_EVENT_BYTES + 1, written, sizeof written, 7, 9, 0), 201);
   two_addresses();
   told("left, on bytes", interface4_left(B(own), 3000000000u), 0, 2, 7);
   told("lookup4, on bytes", interface4_lookup4(B(state), B(row), PEER), 0, 0, 0);

@@ -27,6 +27,9 @@ static uint32_t add_v4_mask[18], del_v4_mask[11];
 /* A message, and where it is read to. */
 static uint8_t message[176];
 static uint32_t request[INTERFACE4_REQUEST_BUFFER_WORDS];
+/* An event, and where it is written to. */
+static uint32_t event[INTERFACE4_EVENT_WORDS];
+static uint8_t written[INTERFACE4_MESSAGE_BYTES];
 static uint64_t now;
 static uint32_t ip;
 static interface4_reply reply;
@@ -54,7 +57,8 @@ static interface4_reply reply;
   CALL(select4, (P(state), 1, ip, 253))                         \
   CALL(left, (P(own), now))                                     \
   CALL(check, (P(state)))                                       \
-  CALL(read, (message, sizeof message, P(request), 1))
+  CALL(read, (message, sizeof message, P(request), 1))          \
+  CALL(write, (P(event), written, sizeof written, 1, 2, now))
 
 #define P W
 #define ON_WORDS(name, arguments) static void words_##name(void) { reply = interface4w_##name arguments; }
@@ -245,6 +249,28 @@ static void carries(unsigned type)
     at = attribute(at, metric, 4);
 }
 
+/* An event of this kind whose message is the longest: a label of 15 bytes, or every metric. */
+static void tells(uint32_t kind)
+{
+  size_t i;
+  memset(event, 0, sizeof event);
+  event[0] = kind;
+  event[1] = 65535;
+  if (kind <= INTERFACE4_DEL_ADDR4) {
+    event[5] = event[9] = event[15] = event[16] = event[17] = 1;
+    event[10] = 15;
+    memset(&event[11], 'l', 15);
+  } else {
+    event[2] = 1000;
+    event[4] = 24;
+    event[6] = event[7] = event[10] = event[12] = event[14] = event[15] = event[16] = 1;
+    for (i = 17; i < INTERFACE4_EVENT_WORDS; i++)
+      event[i] = UINT32_MAX;
+  }
+  words_write();
+  must("write");
+}
+
 static void clear(int up)
 {
   memset(state, 0, sizeof state);
@@ -266,6 +292,7 @@ int main(void)
     carries(i ? INTERFACE4_RTM_DELADDR : INTERFACE4_RTM_NEWADDR);
     words_read();
     must("read");
+    tells(i ? INTERFACE4_DEL_ADDR4 : INTERFACE4_NEW_ADDR4);
     address(0x0c000001u, 24, 10);
     route(254, 0x0e000000u, 0);
     requests();
@@ -275,6 +302,7 @@ int main(void)
     carries(i ? INTERFACE4_RTM_DELROUTE : INTERFACE4_RTM_NEWROUTE);
     words_read();
     must("read");
+    tells(i ? INTERFACE4_DEL_ROUTE4 : INTERFACE4_NEW_ROUTE4);
     /* one subnet: a primary, its secondaries, routes from it */
     clear(0);
     fill(64, 24, 1, lives[i], 256, 254, 1, 1);

@@ -6,6 +6,7 @@
 use layout::{ADDRESS_WORDS, EVENT_BUFFER, LISTING_BUFFER, ROUTE_WORDS, STATE_WORDS};
 
 mod changing;
+mod events;
 mod given;
 mod masks;
 mod messages;

@@ -1,12 +1,14 @@
 //! How long each call takes: the unchanged Rust on its own lists, the Rust
 //! doing the port's job on lent words (plainly, and tuned), the port on
 //! words, on bytes and through `Addresses`. The tables are Markdown.
+mod events;
 mod masks;
 mod measure;
 mod messages;
 mod reader;
 mod same_job;
 mod states;
+mod writer;
 
 use measure::{Times, Way, enough, measure, median, section};
 use naskrefim::words;
@@ -21,7 +23,7 @@ const USAGE: &str = "usage: bench [--addresses] [--rounds N] [--only TEXT]
                  the Rust on its own lists
   --rounds N     501 if it isn't said
   --only TEXT    only calls whose name has TEXT in it; check: the check of a
-                 state alone; read: messages; mask: netmasks";
+                 state alone; read: messages; mask: netmasks; write: events";
 /// Cases on which the Rust on lent words is first compared with the model.
 const COMPARED: usize = 3_000;
 
@@ -63,8 +65,9 @@ fn main() -> ExitCode {
     if addresses {
         return swap(&usual, &special, rounds);
     }
-    let [check, read, mask] = ["check", "read", "mask"].map(|name| name.contains(only.as_str()));
-    if usual.is_empty() && special.is_empty() && !check && !read && !mask {
+    let others = ["check", "read", "mask", "write"].map(|name| name.contains(only.as_str()));
+    let [check, read, mask, write] = others;
+    if usual.is_empty() && special.is_empty() && others == [false; 4] {
         eprintln!("no call has {only} in its name\n{USAGE}");
         return ExitCode::FAILURE;
     }
@@ -100,6 +103,9 @@ fn main() -> ExitCode {
     }
     if mask {
         masks::table(&states::usual(), rounds);
+    }
+    if write {
+        events::table(rounds);
     }
     ExitCode::SUCCESS
 }

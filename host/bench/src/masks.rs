@@ -1,7 +1,7 @@
 //! How long a netmask takes: `interface4_prefix` against plain Rust, and the
 //! calls with a mask against the base's with the prefix that plain Rust
 //! makes of it.
-use crate::measure::{enough, median, section};
+use crate::measure::in_turn;
 use crate::states::Measured;
 use crate::{ratio, time};
 use naskrefim::{Reply, bytes, words};
@@ -14,19 +14,6 @@ use std::hint::black_box;
 fn plain(mask: u32) -> Option<u32> {
     let ones = mask.count_ones();
     (ones + mask.trailing_zeros() == 32).then_some(ones)
-}
-
-/// Medians of two ways, in turn.
-fn both(rounds: usize, mut run: impl FnMut(usize)) -> [f64; 2] {
-    let calls: [usize; 2] = core::array::from_fn(|way| enough(|| run(way)));
-    let mut times: [Vec<f64>; 2] = Default::default();
-    for round in 0..rounds {
-        for k in 0..2 {
-            let way = (round + k) % 2;
-            times[way].push(section(calls[way], || run(way)));
-        }
-    }
-    times.map(median)
 }
 
 /// The call on words, with a mask as it is or by the base with its prefix;
@@ -83,7 +70,7 @@ pub fn table(calls: &[Measured], rounds: usize) {
         let ratio = ratio(library, plain);
         println!("| {name} | {} | {} | {ratio} |", time(plain), time(library));
     };
-    let prefix = both(rounds, |way| {
+    let prefix = in_turn(rounds, |way| {
         for p in 0..=32 {
             let mask = black_box(reference::mask(p));
             match way {
@@ -103,7 +90,7 @@ pub fn table(calls: &[Measured], rounds: usize) {
             measured.state.clone(),
             filled(naskrefim::EVENT_BUFFER_WORDS),
         );
-        let words = both(rounds, |way| {
+        let words = in_turn(rounds, |way| {
             state.copy_from_slice(black_box(&measured.state));
             let mut own = request.clone();
             black_box(on_words(
@@ -117,7 +104,7 @@ pub fn table(calls: &[Measured], rounds: usize) {
         row(&format!("{}, words", measured.name), words);
         let (first, request) = (bytes_of(&measured.state), bytes_of(&request));
         let (mut state, mut events) = (first.clone(), bytes_of(&events));
-        let bytes = both(rounds, |way| {
+        let bytes = in_turn(rounds, |way| {
             state.copy_from_slice(black_box(&first));
             let mut own = request.clone();
             black_box(on_bytes(

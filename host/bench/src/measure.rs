@@ -53,6 +53,19 @@ pub fn enough(mut run: impl FnMut()) -> usize {
     (SECTION / first.max(1.0)).clamp(1.0, MOST_CALLS) as usize
 }
 
+/// Medians of several ways to run something, all in turn.
+pub fn in_turn<const N: usize>(rounds: usize, mut run: impl FnMut(usize)) -> [f64; N] {
+    let calls: [usize; N] = core::array::from_fn(|way| enough(|| run(way)));
+    let mut times: [Vec<f64>; N] = core::array::from_fn(|_| Vec::new());
+    for round in 0..rounds {
+        for k in 0..N {
+            let way = (round + k) % N;
+            times[way].push(section(calls[way], || run(way)));
+        }
+    }
+    times.map(median)
+}
+
 /// The things that the ways work on.
 struct Stage<'a> {
     measured: &'a Measured,

@@ -1,6 +1,6 @@
 //! How long a message takes to be read: the library on words and on bytes,
 //! through `Request::read`, and a plain reader that is fast.
-use crate::measure::{Way, enough, measure, median, section};
+use crate::measure::{Way, in_turn, measure};
 use crate::reader;
 use crate::states::Measured;
 use crate::{ratio, time};
@@ -122,7 +122,7 @@ pub fn table(calls: &[Measured], rounds: usize) {
 fn times(message: &[u8], rounds: usize) -> [f64; 5] {
     let mut on_words = [0u32; 49];
     let mut on_bytes = [0u8; 196];
-    let mut run = |way: usize| {
+    in_turn(rounds, |way| {
         let message = black_box(message);
         match way {
             0 => told(reader::read(message, black_box(&mut on_words), 1)),
@@ -131,16 +131,7 @@ fn times(message: &[u8], rounds: usize) -> [f64; 5] {
             3 => drop(black_box(bytes::read(message, black_box(&mut on_bytes), 1))),
             _ => drop(black_box(Request::read(message, true))),
         }
-    };
-    let calls: [usize; 5] = core::array::from_fn(|way| enough(|| run(way)));
-    let mut times: [Vec<f64>; 5] = Default::default();
-    for round in 0..rounds {
-        for k in 0..5 {
-            let way = (round + k) % 5;
-            times[way].push(section(calls[way], || run(way)));
-        }
-    }
-    times.map(median)
+    })
 }
 
 fn told(reply: Reply) {

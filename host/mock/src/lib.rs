@@ -4,6 +4,7 @@
 //! faults that MOCK_FAULT names, ones that only a boundary can have, it
 //! must find that.
 use oracle::call::{Buffer, Call};
+use oracle::event::{self, Given, WordWriter, Writer};
 use oracle::message::{self, Reader};
 use oracle::model::model;
 use oracle::netmask::{self, Masked};
@@ -52,6 +53,7 @@ trait Element: Copy + Default {
         buffer: &mut [Self],
     ) -> oracle::call::Reply;
     fn read(message: &[u8], request: &mut [Self], up: u32) -> oracle::call::Reply;
+    fn write(event: &[Self], message: &mut [u8], given: Given) -> oracle::call::Reply;
 }
 
 impl Element for u8 {
@@ -74,6 +76,9 @@ impl Element for u8 {
     }
     fn read(message: &[u8], request: &mut [u8], up: u32) -> oracle::call::Reply {
         message::Model.read(message, request, up)
+    }
+    fn write(event: &[u8], message: &mut [u8], given: Given) -> oracle::call::Reply {
+        Bytes(event::Model).write(event, message, given)
     }
 }
 
@@ -106,6 +111,9 @@ impl Element for u32 {
         let reply = message::Model.read(message, &mut bytes, up);
         request.copy_from_slice(&port::words(&bytes));
         reply
+    }
+    fn write(event: &[u32], message: &mut [u8], given: Given) -> oracle::call::Reply {
+        event::Model.write(event, message, given)
     }
 }
 
@@ -192,6 +200,64 @@ fn read<E: Element>(message: &[u8], request: &mut [E], up: u32) -> Reply {
     reply.into()
 }
 
+/// The writer of events.
+fn write<E: Element>(event: &mut [E], message: &mut [u8], given: Given) -> Reply {
+    let fault = fault();
+    let given = match fault.as_str() {
+        "half a writer's clock" => Given {
+            now: u64::from(given.now as u32),
+            ..given
+        },
+        "sequence and port swapped" => Given {
+            sequence: given.port,
+            port: given.sequence,
+            ..given
+        },
+        _ => given,
+    };
+    let before = message.to_vec();
+    let mut reply = E::write(event, message, given);
+    match fault.as_str() {
+        // SAFETY: none, this is the fault; the comparison lends guarded slices
+        "past the message" => unsafe {
+            message.as_mut_ptr_range().end.write(0);
+        },
+        "the message cleared behind" if reply.number == 0 => {
+            message[reply.value as usize..].fill(0);
+        }
+        "a refused message cleared" if reply.number == 201 => message.fill(0),
+        "writes the event" => event.fill(E::default()),
+        "padding as it was" if reply.number == 0 => {
+            for at in padding(&message[..reply.value as usize]) {
+                message[at] = before[at];
+            }
+        }
+        "flags' high byte dropped" if reply.number == 0 => message[7] = 0,
+        "215 bytes are enough" if message.len() == 215 => {
+            let mut longer = vec![0; 216];
+            reply = E::write(event, &mut longer, given);
+            let length = (reply.value as usize).min(215);
+            message[..length].copy_from_slice(&longer[..length]);
+        }
+        "events' words unlike bytes" if E::ALIGNED && reply.number == 201 => reply.number = 202,
+        _ => {}
+    }
+    reply.into()
+}
+
+/// The places of the padding behind a message's attributes.
+fn padding(message: &[u8]) -> Vec<usize> {
+    let mut all = Vec::new();
+    // behind the header, and ifaddrmsg or rtmsg
+    let mut at = if message[4] < 24 { 24 } else { 28 };
+    while at < message.len() {
+        let end = at + usize::from(message[at]);
+        at = end.next_multiple_of(4);
+        all.extend(end..at);
+    }
+    all
+}
+
 /// The check alone: what `local4` refuses.
 fn checked(local4: Reply) -> Reply {
     let lax = fault() == "a lax check" && local4.number == 201;
@@ -275,6 +341,28 @@ macro_rules! all {
             let request = unsafe { from_raw_parts_mut(request, request_length) };
             super::read::<$element>(message, request, up)
         }
+
+        /// # Safety
+        /// Each pointer and length are those of one slice.
+        #[unsafe(export_name = concat!($prefix, "write"))]
+        pub unsafe extern "C" fn write(
+            event: *mut $element,
+            event_length: usize,
+            message: *mut u8,
+            message_length: usize,
+            sequence: u32,
+            port: u32,
+            now: u64,
+        ) -> Reply {
+            let event = unsafe { from_raw_parts_mut(event, event_length) };
+            let message = unsafe { from_raw_parts_mut(message, message_length) };
+            let given = Given {
+                sequence,
+                port,
+                now,
+            };
+            super::write::<$element>(event, message, given)
+        }
     };
 }
 
@@ -300,7 +388,7 @@ pub extern "C" fn prefix(mask: u32) -> Reply {
 pub extern "C" fn sizes() -> Reply {
     Reply {
         number: 0,
-        present: 4,
+        present: 5,
         value: if fault() == "other sizes" {
             9_509
         } else {

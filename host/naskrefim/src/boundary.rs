@@ -42,7 +42,7 @@ impl Reply {
     }
 }
 
-/// How a slice is lent: for reading or for writing, or bytes for reading
+/// How a slice is lent: for reading or for writing; or bytes for either,
 /// beside whatever the call is on.
 macro_rules! lent {
     (read $element:ty) => {
@@ -54,14 +54,21 @@ macro_rules! lent {
     (bytes $element:ty) => {
         &[u8]
     };
+    (write_bytes $element:ty) => {
+        &mut [u8]
+    };
 }
 macro_rules! raw {
     (read $element:ty) => { *const $element };
     (write $element:ty) => { *mut $element };
     (bytes $element:ty) => { *const u8 };
+    (write_bytes $element:ty) => { *mut u8 };
 }
 macro_rules! pointer {
     (write $slice:ident) => {
+        ptr::from_mut($slice)
+    };
+    (write_bytes $slice:ident) => {
         ptr::from_mut($slice)
     };
     ($other:ident $slice:ident) => {
@@ -181,6 +188,12 @@ macro_rules! exported {
             /// of words written. `up` becomes the request's last word where
             /// it has one for it.
             read(message: bytes, request: write; up: u32);
+            /// The event in `event` is written as one rtnetlink message,
+            /// from the start of `message`, which has room for
+            /// [`MESSAGE_BYTES`](crate::MESSAGE_BYTES): see
+            /// [`Event::message`](crate::Event::message). `value` is the
+            /// number of bytes written.
+            write(event: read, message: write_bytes; sequence: u32, port: u32, now: u64);
         }
     };
 }
@@ -249,7 +262,7 @@ pub struct Sizes {
 /// use naskrefim::{EVENT_LIMIT, STATE_WORDS, sizes};
 /// let sizes = sizes();
 /// assert_eq!((sizes.state_words, sizes.event_rows), (STATE_WORDS, EVENT_LIMIT));
-/// assert_eq!(sizes.paper, 4);
+/// assert_eq!(sizes.paper, 5);
 /// ```
 #[must_use]
 pub fn sizes() -> Sizes {

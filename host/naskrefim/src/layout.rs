@@ -274,6 +274,28 @@ pub(crate) fn request(of: u32, words: &[u32; DEL_ROUTE4_WORDS]) -> Request {
     }
 }
 
+/// The row of an event, as a call that tells it writes it.
+pub(crate) fn event_row(event: &Event) -> [u32; EVENT_WORDS] {
+    let mut row = [0; EVENT_WORDS];
+    let [what, flags, rest @ ..] = &mut row;
+    match event {
+        Event::NewAddr4(a) | Event::DelAddr4(a) => {
+            rest[..ADDRESS_WORDS].copy_from_slice(&address_row(a));
+        }
+        Event::NewRoute4(r, _) | Event::DelRoute4(r) => *rest = route_row(r),
+    }
+    *what = match event {
+        Event::NewAddr4(_) => 1,
+        Event::DelAddr4(_) => 2,
+        Event::NewRoute4(..) => 3,
+        Event::DelRoute4(_) => 4,
+    };
+    if let Event::NewRoute4(_, of) = event {
+        *flags = (*of).into();
+    }
+    row
+}
+
 /// The event of a row that the library wrote.
 pub(crate) fn event(row: &[u32; EVENT_WORDS]) -> Event {
     let [what, flags, rest @ ..] = row;

@@ -7,8 +7,9 @@
 //! [`words`] and [`bytes`] are the calls as the library has them, on lent
 //! slices, for hosts that keep the state elsewhere. [`Request`] is what an
 //! rtnetlink message asks for, as it comes off the socket, and
-//! [`Addresses::perform`] does it. No function of this crate is unsafe,
-//! whatever it is given.
+//! [`Addresses::perform`] does it; [`Event::message`] is what those who
+//! listen are told. No function of this crate is unsafe, whatever it is
+//! given.
 //!
 //! ```
 //! use core::net::Ipv4Addr;
@@ -67,6 +68,7 @@
 //! | `read` | 4,096 | 4,096 |
 //! | `add_v4_mask` | 45,056 | 172,032 |
 //! | `del_v4_mask` | 4,096 | 131,072 |
+//! | `write` | 4,096 | 4,096 |
 //!
 //! [`Addresses`] calls [`words`], and needs less than 4,096 bytes of its
 //! own. The numbers are those of the C header; `host/c/stack` finds them
@@ -127,6 +129,10 @@ pub const STATE_WORDS: usize =
 pub const EVENT_BUFFER_WORDS: usize = EVENT_LIMIT * EVENT_WORDS;
 /// The fewest words of a listing buffer.
 pub const LISTING_BUFFER_WORDS: usize = ROUTE_LIMIT * ROUTE_WORDS;
+
+/// The most bytes of the message of an [`Event`], and the fewest that
+/// [`words::write`] is lent for it.
+pub const MESSAGE_BYTES: usize = 216;
 
 /// The words of a request to [`words::add_v4`].
 pub const ADD_V4_WORDS: usize = 18;

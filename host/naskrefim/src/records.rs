@@ -1,7 +1,7 @@
 //! Addresses, routes, requests and events, with the Rust's names.
 use crate::layout;
 use crate::{F_CREATE, FOREVER, NO_METRICS, SCOPE_LINK, SCOPE_NOWHERE, TABLE_MAIN};
-use crate::{Refused, words};
+use crate::{MESSAGE_BYTES, Refused, words};
 use alloc::vec::Vec;
 use core::net::Ipv4Addr;
 
@@ -261,6 +261,65 @@ pub enum Event {
     NewRoute4(Route4, u16),
     /// A route went.
     DelRoute4(Route4),
+}
+
+impl Event {
+    /// The event as the rtnetlink message that tells it, of type 20, 21, 24
+    /// or 25: netlink's header with `sequence` and `port`, `ifaddrmsg` or
+    /// `rtmsg`, attributes by rising code; at most [`MESSAGE_BYTES`], and a
+    /// multiple of four, so that a next one may follow at once. The header's
+    /// flags are those of [`Event::NewRoute4`], else 0.
+    ///
+    /// An address's lifetimes are those that are [`left`](V4::left) at the
+    /// clock `now`, in nanoseconds, and its stamps are 0. The device index
+    /// is 1, that of the loopback. Absent values, a destination of length 0,
+    /// and a priority, a metric or an address's proto of 0 give no
+    /// attribute.
+    ///
+    /// [`Request::read`](crate::Request::read) finds in it what was put in,
+    /// but for a label with a zero byte in it, which is read up to there.
+    ///
+    /// # Errors
+    /// None for an event that a call told, or whose address or route is one
+    /// of a state. [`Refused::UNFIT_STATE`] for one that could stand in none:
+    /// a prefix over 32, a label over 15 bytes, or a destination with bits
+    /// outside its length.
+    ///
+    /// ```
+    /// use core::net::Ipv4Addr;
+    /// use naskrefim::{Addresses, Lifetimes, Refused, Request, SCOPE_UNIVERSE, V4};
+    ///
+    /// # fn main() -> Result<(), Refused> {
+    /// let mut lo = Addresses::new();
+    /// lo.up(0)?;
+    /// let own = Ipv4Addr::new(10, 1, 0, 5);
+    /// let new = V4::new(own, own, 24, SCOPE_UNIVERSE);
+    /// let lifetimes = Lifetimes { valid: 10, preferred: 5 };
+    /// let told = lo.add_v4(new, lifetimes, false, true, 0)?;
+    ///
+    /// // to those who listen, three seconds later
+    /// let message = told[0].message(7, 0, 3_000_000_000)?;
+    /// assert_eq!(message.len(), 76);
+    /// assert_eq!(message[..12], [76, 0, 0, 0, 20, 0, 0, 0, 7, 0, 0, 0]); // length, type, flags, sequence
+    /// assert_eq!(message[16..24], [2, 24, 0, 0, 1, 0, 0, 0]); // family, prefix, flags, scope, index
+    /// assert_eq!(message[24..32], [8, 0, 1, 0, 10, 1, 0, 5]); // address
+    /// assert_eq!(message[48..56], [20, 0, 6, 0, 2, 0, 0, 0]); // preferred for two seconds more
+    ///
+    /// let read = Request::read(&message, true)?;
+    /// let Request::NewAddress { new, lifetimes, .. } = read else {
+    ///     panic!("type 20 is a new address")
+    /// };
+    /// assert_eq!((new.local, new.prefix), (own, 24));
+    /// assert_eq!(lifetimes, Lifetimes { valid: 7, preferred: 2 });
+    /// # Ok(())
+    /// # }
+    /// ```
+    pub fn message(&self, sequence: u32, port: u32, now: u64) -> Result<Vec<u8>, Refused> {
+        let mut message = [0; MESSAGE_BYTES];
+        let row = layout::event_row(self);
+        let reply = words::write(&row, &mut message, sequence, port, now).accepted()?;
+        Ok(message[..reply.value as usize].to_vec())
+    }
 }
 
 /// A route to add, as its request names it.

@@ -48,6 +48,7 @@ fn sizes_are_the_crates_and_the_librarys() {
         assert_eq!(of(&format!("{name}_WORDS")), words, "{name}");
         assert_eq!(of(&format!("{name}_BYTES")), 4 * words, "{name}");
     }
+    assert_eq!(of("MESSAGE_BYTES"), MESSAGE_BYTES);
     assert_eq!(of("ADDRESSES_AT"), 3);
     assert_eq!(of("ROUTES_AT"), 3 + ADDRESS_LIMIT * ADDRESS_WORDS);
     assert_eq!(of("TABLES_AT"), STATE_WORDS - TABLE_LIMIT);
@@ -107,5 +108,5 @@ fn stack() {
         assert!(docs.lines().any(|line| line == row), "{row}");
         rows += 1;
     }
-    assert_eq!(rows, 19);
+    assert_eq!(rows, 20);
 }

@@ -54,7 +54,9 @@ fn day() -> (usize, usize) {
     ];
     assert_eq!(lo.perform(&message, true, 0).unwrap().len(), 1);
     message[4] = 25;
-    assert_eq!(lo.perform(&message, true, 0).unwrap().len(), 1);
+    let told = lo.perform(&message, true, 0).unwrap();
+    assert_eq!(told.len(), 1);
+    assert_eq!(told[0].message(0, 0, 0).unwrap().len(), 52);
     lo.down();
     lo.del_v4(Some(Ipv4Addr::LOCALHOST), None, 0, None).unwrap();
     lo.expire(2_000_000_000).unwrap();

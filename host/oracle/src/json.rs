@@ -1,11 +1,14 @@
 //! Random cases as JSON lines, for a script that turns them into
 //! equations. host/README.md describes the form.
-use crate::call::Call;
+use crate::call::{Call, Reply};
 use crate::compare::Case;
+use crate::event::{Given, Model, WordWriter as _};
 use crate::generate::cases::{Cases, Weights};
+use crate::generate::events::Events;
 use crate::generate::messages::{MessageCase, Messages};
 use crate::message::read;
 use crate::model::model;
+use crate::port::exact;
 use crate::rng::Rng;
 use crate::script::written;
 use crate::well_formed;
@@ -49,6 +52,30 @@ pub fn messages(count: usize, seed: u64) {
              \"second\":{},\"words\":{}}}}}",
             words.len(),
             array(&words)
+        );
+    }
+}
+
+/// Prints `count` events of whole words, each with the room that it is lent
+/// and the message that it gives.
+pub fn events(count: usize, seed: u64) {
+    let mut events = Events::new(seed);
+    let whole = std::iter::repeat_with(|| events.next_case());
+    let whole = whole.filter(|case| case.event.len().is_multiple_of(4));
+    for case in whole.take(count) {
+        let (event, room) = (exact(&case.event), case.message.len());
+        let mut message = case.message;
+        let Reply { number, value, .. } = Model.write(&event, &mut message, case.given);
+        let Given {
+            sequence,
+            port,
+            now,
+        } = case.given;
+        println!(
+            "{{\"event\":{},\"room\":{room},\"sequence\":{sequence},\"port\":{port},\"now\":{now},\
+             \"expect\":{{\"number\":{number},\"value\":{value},\"bytes\":{:?}}}}}",
+            array(&event),
+            &message[..value as usize]
         );
     }
 }

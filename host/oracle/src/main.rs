@@ -2,8 +2,8 @@
 //! status is 0 only if nothing failed.
 use oracle::vectors::{MODELS, Makers};
 use oracle::{
-    checks, coverage, document, examples, facts, faults, json, linux, messages, netmask, pairs,
-    rfc, vectors,
+    checks, coverage, document, events, examples, facts, faults, json, linux, messages, netmask,
+    pairs, rfc, vectors,
 };
 use std::process::ExitCode;
 use std::time::Instant;
@@ -20,6 +20,8 @@ const USAGE: &str = "usage: oracle COMMAND
   pairs [N] [SEED]       document 01's claim about two runs, on N pairs
   messages [N] [SEED]    the reader of messages: by hand, on N generated ones,
                          and with planted faults
+  events [N] [SEED]      the writer of events: by hand, on N generated ones,
+                         and with planted faults
   selftest [SEED]        planted faults, which the comparison must find
   vectors FOLDER [SEED]  writes the fixed list of answers, and damaged ones
   replay FILE            replays such a list against the model and against
@@ -28,12 +30,15 @@ const USAGE: &str = "usage: oracle COMMAND
   cases N SEED [--large PERCENT]
                          prints N random cases as JSON lines
   message-cases N SEED   prints N random messages as JSON lines
+  event-cases N SEED     prints N random events as JSON lines
   message-list N SEED FOLDER
                          writes a list of N messages, and what is to be
                          printed of them
+  event-list N SEED FOLDER
+                         the same of N events
   all                    all of examples, linux, rfc, facts, netmasks,
-                         document, generator, pairs, messages, selftest, and
-                         a list of answers replayed";
+                         document, generator, pairs, messages, events, selftest,
+                         and a list of answers replayed";
 
 const CASES: usize = 30_000;
 const PAIRS: usize = 2_000;
@@ -93,6 +98,11 @@ fn command(arguments: &[String]) -> Result<bool, String> {
             let (count, seed) = (number(rest, 0, CASES)?, number(rest, 1, SEED)?);
             Ok(messages::run(count, seed))
         }
+        "events" => {
+            most(2)?;
+            let (count, seed) = (number(rest, 0, CASES)?, number(rest, 1, SEED)?);
+            Ok(events::run(count, seed))
+        }
         "selftest" => {
             most(1)?;
             Ok(faults::selftest(number(rest, 0, SEED)?))
@@ -109,9 +119,14 @@ fn command(arguments: &[String]) -> Result<bool, String> {
             replayed(&oracle::port::words(&data))
         }
         "cases" => cases(rest),
-        "message-cases" => match rest {
+        "message-cases" | "event-cases" => match rest {
             [_, _] => {
-                json::messages(number(rest, 0, 0)?, number(rest, 1, SEED)?);
+                let (count, seed) = (number(rest, 0, 0)?, number(rest, 1, SEED)?);
+                if name == "event-cases" {
+                    json::events(count, seed);
+                } else {
+                    json::messages(count, seed);
+                }
                 Ok(true)
             }
             _ => Err(USAGE.to_string()),
@@ -120,6 +135,13 @@ fn command(arguments: &[String]) -> Result<bool, String> {
             [_, _, folder] => {
                 let (count, seed) = (number(rest, 0, 0)?, number(rest, 1, SEED)?);
                 messages::list::write(count, seed, folder).map(|()| true)
+            }
+            _ => Err(USAGE.to_string()),
+        },
+        "event-list" => match rest {
+            [_, _, folder] => {
+                let (count, seed) = (number(rest, 0, 0)?, number(rest, 1, SEED)?);
+                events::list::write(count, seed, folder).map(|()| true)
             }
             _ => Err(USAGE.to_string()),
         },
@@ -174,7 +196,7 @@ type Part = dyn Fn() -> Result<bool, String>;
 /// Everything, and one line of counts for each part.
 fn all() -> Result<bool, String> {
     let begin = Instant::now();
-    let parts: [(&str, &Part); 11] = [
+    let parts: [(&str, &Part); 12] = [
         ("examples", &|| Ok(checks::run("examples", examples::check))),
         ("linux", &|| Ok(checks::run("linux", linux::check))),
         ("rfc", &|| Ok(checks::run("rfc", rfc::check))),
@@ -184,6 +206,7 @@ fn all() -> Result<bool, String> {
         ("generator", &|| Ok(coverage::run(CASES, SEED))),
         ("pairs", &|| Ok(pairs::run(PAIRS, SEED))),
         ("messages", &|| Ok(messages::run(CASES, SEED))),
+        ("events", &|| Ok(events::run(CASES, SEED))),
         ("selftest", &|| Ok(faults::selftest(SEED))),
         ("replay", &|| replayed(&vectors::vectors(vectors::SEED))),
     ];

@@ -79,17 +79,25 @@ impl WordPort for Model {
     }
 }
 
+/// The words of a slice whose size must be exact. One that isn't whole words
+/// cannot be, and no words at all stand for it.
+pub fn exact(bytes: &[u8]) -> Vec<u32> {
+    if bytes.len().is_multiple_of(4) {
+        words(bytes)
+    } else {
+        Vec::new()
+    }
+}
+
 /// A port over words met through bytes.
 pub struct Bytes<W>(pub W);
 
 impl<W: WordPort> Bytes<W> {
-    /// The words of a slice whose size must be exact. One that isn't whole
-    /// words cannot be, and no words at all stand for it.
     fn exact(&self, bytes: &[u8]) -> Vec<u32> {
-        if bytes.len().is_multiple_of(4) || self.0.overlooks_part_words() {
+        if self.0.overlooks_part_words() {
             words(bytes)
         } else {
-            Vec::new()
+            exact(bytes)
         }
     }
     /// A call that may write its state: what it did is written back.

@@ -1,6 +1,7 @@
 //! The linked library behind the oracle's ports: on bytes, on words, and
 //! through `Addresses`.
 pub mod constants;
+pub mod events;
 pub mod guarded;
 pub mod library;
 pub mod masks;

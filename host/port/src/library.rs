@@ -3,6 +3,7 @@ use crate::guarded::Guard;
 use crate::guarded::Lent::{Read, Write};
 use naskrefim::{bytes, words};
 use oracle::call::{Call, Reply};
+use oracle::event::{Given, WordWriter, Writer};
 use oracle::message::{Reader, WordReader};
 use oracle::port::{Port, WordPort};
 
@@ -127,6 +128,22 @@ impl Reader for OnBytes {
     }
 }
 
+impl Writer for OnBytes {
+    fn name(&self) -> String {
+        Port::name(self)
+    }
+    fn write(&mut self, event: &[u8], message: &mut [u8], given: Given) -> Reply {
+        let Given {
+            sequence,
+            port,
+            now,
+        } = given;
+        let lent = [Read(event), Write(message)];
+        let call = |[e, m]: [&mut [u8]; 2]| bytes::write(e, m, sequence, port, now);
+        reply(self.0.lend(BYTE, lent, call))
+    }
+}
+
 /// The library on words.
 #[derive(Default)]
 pub struct OnWords {
@@ -215,6 +232,28 @@ impl WordReader for OnWords {
         } = self;
         reply(given.lend(WORD, [Write(request)], |[r]| {
             bytes.lend(BYTE, [Read(message)], |[m]| words::read(m, r, up))
+        }))
+    }
+}
+
+impl WordWriter for OnWords {
+    fn name(&self) -> String {
+        WordPort::name(self)
+    }
+    fn write(&mut self, event: &[u32], message: &mut [u8], given: Given) -> Reply {
+        let Given {
+            sequence,
+            port,
+            now,
+        } = given;
+        let Self {
+            words: lent,
+            bytes: room,
+        } = self;
+        reply(lent.lend(WORD, [Read(event)], |[e]| {
+            room.lend(BYTE, [Write(message)], |[m]| {
+                words::write(e, m, sequence, port, now)
+            })
         }))
     }
 }

@@ -4,9 +4,9 @@ use oracle::call::{KINDS, NAMES};
 use oracle::campaign::{self, Campaign, Kinds};
 use oracle::port::Bytes;
 use port::library::{OnBytes, OnWords};
-use port::masks;
-use port::messages::{Boundary, Comparison, Summary};
+use port::messages::{self, Boundary, Summary};
 use port::typed::Typed;
+use port::{events, masks};
 use std::process::ExitCode;
 use std::time::{Duration, Instant, SystemTime};
 
@@ -15,21 +15,24 @@ const USAGE: &str = "usage: port [OPTION VALUE]..
                      is said), in place of counts
   --cases N          N generated cases, and
   --pairs N          N pairs of runs, and
-  --messages N       N messages, read and performed, and N requests for an
-                     address with a netmask
+  --messages N       N messages, read and performed, N requests for an
+                     address with a netmask, and N events, written
   --seed N           where they come from; a fresh seed if it isn't given
   --calls A,B,..     only these calls (then no pairs); read: messages; mask:
                      requests with a netmask, and all 2^32 netmasks
-                     (with counts only those beside a good one)
+                     (with counts only those beside a good one); write:
+                     events
   --boundary WHICH   bytes, words or addresses; all if it isn't given";
 
 /// What comes between two looks at the clock.
 const BATCH: usize = 500;
 const PAIRS_PER_BATCH: usize = 3;
-/// What the reading of messages is called beside the other calls.
+/// What is asked for beside the calls: that messages are read, requests with
+/// a netmask, that events are written.
+const OTHERS: [&str; 3] = [READ, MASK, WRITE];
 const READ: &str = "read";
-/// And requests with a netmask.
 const MASK: &str = "mask";
+const WRITE: &str = "write";
 
 struct Options {
     seconds: u64,
@@ -38,6 +41,7 @@ struct Options {
     calls: Kinds,
     read: bool,
     mask: bool,
+    write: bool,
     /// One of [`BOUNDARIES`], or all.
     boundary: Option<String>,
 }
@@ -63,6 +67,7 @@ fn options(arguments: &[String]) -> Result<Options, String> {
         calls: [true; KINDS],
         read: true,
         mask: true,
+        write: true,
         boundary: None,
     };
     if !arguments.len().is_multiple_of(2) {
@@ -77,7 +82,11 @@ fn options(arguments: &[String]) -> Result<Options, String> {
             "--pairs" => options.counts = Some([cases, number(value)?, messages]),
             "--messages" => options.counts = Some([cases, pairs, number(value)?]),
             "--seed" => options.seed = number(value)?,
-            "--calls" => (options.calls, options.read, options.mask) = kinds(value)?,
+            "--calls" => {
+                options.calls = kinds(value)?;
+                let asked = OTHERS.map(|other| value.split(',').any(|name| name == other));
+                [options.read, options.mask, options.write] = asked;
+            }
             "--boundary" if BOUNDARIES.contains(&value.as_str()) => {
                 options.boundary = Some(value.clone());
             }
@@ -92,14 +101,13 @@ fn number<T: std::str::FromStr>(text: &str) -> Result<T, String> {
         .map_err(|_| format!("not a number: {text}\n{USAGE}"))
 }
 
-fn kinds(text: &str) -> Result<(Kinds, bool, bool), String> {
+fn kinds(text: &str) -> Result<Kinds, String> {
     let mut kinds = [false; KINDS];
-    let named = |other: &str| text.split(',').any(|name| name == other);
-    for name in text.split(',').filter(|name| ![READ, MASK].contains(name)) {
+    for name in text.split(',').filter(|name| !OTHERS.contains(name)) {
         let kind = NAMES.iter().position(|known| *known == name);
         kinds[kind.ok_or_else(|| format!("no such call: {name}\n{USAGE}"))?] = true;
     }
-    Ok((kinds, named(READ), named(MASK)))
+    Ok(kinds)
 }
 
 /// A seed that another run will not have.
@@ -119,11 +127,19 @@ fn run(options: &Options) -> Result<(), String> {
     for port in &mut ports {
         campaign = campaign.with(&mut **port);
     }
-    let mut messages = Comparison::new(options.seed);
-    let mut masks = masks::Comparison::new(options.seed);
+    let mut others = Others {
+        messages: messages::Comparison::new(options.seed),
+        masks: masks::Comparison::new(options.seed),
+        events: events::Comparison::new(options.seed),
+    };
     let begin = Instant::now();
-    let found = compare(&mut campaign, &mut messages, &mut masks, options);
+    let found = compare(&mut campaign, &mut others, options);
     say(&campaign.summary, begin.elapsed(), options.seed);
+    let Others {
+        messages,
+        masks,
+        events,
+    } = others;
     if options.read {
         let Summary {
             read,
@@ -136,6 +152,12 @@ fn run(options: &Options) -> Result<(), String> {
         println!(
             "with a netmask {:?}; {} calls of the library",
             masks.numbers, masks.calls
+        );
+    }
+    if options.write {
+        println!(
+            "events written {:?}; {} calls of the library",
+            events.numbers, events.calls
         );
     }
     found.inspect(|()| println!("port: nothing found"))
@@ -162,30 +184,44 @@ fn compared(options: &Options) -> String {
     }
     let asked = NAMES.iter().zip(options.calls).filter(|(_, asked)| *asked);
     let mut names: Vec<&str> = asked.map(|(name, _)| *name).collect();
-    names.extend(options.read.then_some(READ));
-    names.extend(options.mask.then_some(MASK));
+    let others = OTHERS
+        .into_iter()
+        .zip([options.read, options.mask, options.write]);
+    names.extend(others.filter(|(_, asked)| *asked).map(|(name, _)| name));
     format!("only {}, on {on}, and no pairs of runs", names.join(", "))
 }
 
-fn compare(
-    campaign: &mut Campaign,
-    messages: &mut Comparison,
-    masks: &mut masks::Comparison,
-    options: &Options,
-) -> Result<(), String> {
+/// What is compared beside the calls.
+struct Others {
+    messages: messages::Comparison,
+    masks: masks::Comparison,
+    events: events::Comparison,
+}
+
+fn compare(campaign: &mut Campaign, others: &mut Others, options: &Options) -> Result<(), String> {
+    let Others {
+        messages,
+        masks,
+        events,
+    } = others;
     campaign.by_hand()?;
-    let mut readers = boundaries(options);
+    let mut lent = boundaries(options);
     if options.read {
-        messages.swept(&mut readers)?;
+        messages.swept(&mut lent)?;
+    }
+    if options.write {
+        events.swept(&mut lent)?;
     }
     if options.mask {
         masks::Comparison::prefixes(options.counts.is_none())?;
     }
-    let mut part = |[cases, pairs, read]: [usize; 3]| {
+    let mut part = |[cases, pairs, others]: [usize; 3]| {
+        let count = |asked| if asked { others } else { 0 };
         campaign.cases(cases)?;
         campaign.pairs(pairs)?;
-        messages.generated(&mut readers, if options.read { read } else { 0 })?;
-        masks.generated(if options.mask { read } else { 0 })
+        messages.generated(&mut lent, count(options.read))?;
+        masks.generated(count(options.mask))?;
+        events.generated(&mut lent, count(options.write))
     };
     match options.counts {
         Some(counts) => part(counts)?,
@@ -200,6 +236,9 @@ fn compare(
     // a few cases need not reach them
     if options.mask && options.counts.is_none() {
         masks.reached()?;
+    }
+    if options.write && options.counts.is_none() {
+        events.reached()?;
     }
     Ok(())
 }

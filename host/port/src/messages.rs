@@ -4,6 +4,7 @@ use crate::records::event_words;
 use naskrefim::Addresses;
 use oracle::call::Reply;
 use oracle::compare::{Case, Effect, against, expected, filled};
+use oracle::event::Writer;
 use oracle::generate::messages::{MessageCase, Messages};
 use oracle::message::{Reader, call, read};
 use oracle::messages;
@@ -11,8 +12,8 @@ use oracle::port::{Port, bytes, words};
 use std::collections::BTreeMap;
 
 /// What the library is met through.
-pub trait Boundary: Port + Reader {}
-impl<B: Port + Reader> Boundary for B {}
+pub trait Boundary: Port + Reader + Writer {}
+impl<B: Port + Reader + Writer> Boundary for B {}
 
 /// How often messages were read and performed with each number.
 #[derive(Default)]
@@ -43,8 +44,8 @@ impl Comparison {
     pub fn swept(&mut self, boundaries: &mut [Box<dyn Boundary>]) -> Result<(), String> {
         let sizes = naskrefim::sizes();
         let found = (sizes.state_words, sizes.event_rows, sizes.paper);
-        if found != (9_507, 384, 4) {
-            return Err(format!("sizes: {found:?} in place of (9507, 384, 4)"));
+        if found != (9_507, 384, 5) {
+            return Err(format!("sizes: {found:?} in place of (9507, 384, 5)"));
         }
         let mut cases = messages::swept().into_iter();
         cases.try_for_each(|case| self.one(boundaries, &case))

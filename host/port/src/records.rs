@@ -189,6 +189,31 @@ pub fn request_words(request: &Request) -> (u32, Vec<u32>) {
     }
 }
 
+/// The event of a row whose byte fields are bytes, and whose kind is one;
+/// the rest need not be fit.
+pub fn event(words: &[u32]) -> Option<Event> {
+    let (what, flags) = (*words.first()?, u16::try_from(*words.get(1)?).ok()?);
+    let row = words.get(2..34)?;
+    let bytes = |places: &[usize]| places.iter().all(|&at| row[at] < 256);
+    match what {
+        1 | 2 if bytes(&[2, 5, 7]) => {
+            let own = address(&row[..20]);
+            Some(match what {
+                1 => Event::NewAddr4(own),
+                _ => Event::DelAddr4(own),
+            })
+        }
+        3 | 4 if bytes(&[2, 3, 5, 6, 7]) && Kind::of(byte(row[5])).is_some() => {
+            let route = route(row);
+            Some(match what {
+                3 => Event::NewRoute4(route, flags),
+                _ => Event::DelRoute4(route),
+            })
+        }
+        _ => None,
+    }
+}
+
 pub fn event_words(event: &Event) -> Vec<u32> {
     let (mut words, row) = match event {
         Event::NewAddr4(a) => (vec![1, 0], address_words(a)),

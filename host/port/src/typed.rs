@@ -2,11 +2,12 @@
 //! go by its records, and what those cannot say (wrong lengths, fields over
 //! their width) by the words.
 use crate::library::OnWords;
-use crate::records::{address, address_words, ask, event_words, label};
+use crate::records::{address, address_words, ask, event, event_words, label};
 use crate::records::{request_words, route, route_words, select, there};
 use naskrefim::{Addresses, Ask4, Event, Lifetimes, PERMANENT, Refused, Request, Route4};
 use naskrefim::{Select4, V4};
 use oracle::call::{Call, DEL_ROUTE4_WORDS, Reply};
+use oracle::event::{Given, MESSAGE_BYTES, WordWriter};
 use oracle::message::WordReader;
 use oracle::port::WordPort;
 use oracle::words::{ADDRESSES_AT, ROUTES_AT, STATE_WORDS, TABLES_AT};
@@ -64,6 +65,26 @@ impl WordReader for Typed {
                     second: words.len() as u32,
                     ..Reply::value(kind)
                 }
+            }
+        }
+    }
+}
+
+impl WordWriter for Typed {
+    fn name(&self) -> String {
+        WordPort::name(self)
+    }
+    fn write(&mut self, row: &[u32], message: &mut [u8], given: Given) -> Reply {
+        // what records cannot say goes by the words
+        let told = event(row).filter(|told| event_words(told) == row);
+        let (Some(told), true) = (told, message.len() >= MESSAGE_BYTES) else {
+            return WordWriter::write(&mut self.0, row, message, given);
+        };
+        match told.message(given.sequence, given.port, given.now) {
+            Err(refused) => Reply::refused(refused.number()),
+            Ok(bytes) => {
+                message[..bytes.len()].copy_from_slice(&bytes);
+                Reply::value(bytes.len() as u32)
             }
         }
     }

@@ -2,6 +2,7 @@
 //! must find every one of them.
 mod answers;
 mod effects;
+pub mod events;
 pub mod masks;
 pub mod messages;
 mod refusals;
@@ -119,6 +120,35 @@ pub fn selftest(seed: u64) -> bool {
         sound.as_ref().map_or_else(String::clone, said)
     );
     found == all.len() && parted == parting.len() && sound.is_ok()
+}
+
+/// Faults of another kind, which must each be found within `count` of the
+/// cases; those begin anew for each.
+pub fn all_found<F, C, I: Iterator<Item = C>>(
+    what: &str,
+    count: usize,
+    faults: &[F],
+    name: fn(&F) -> &'static str,
+    cases: impl Fn() -> I,
+    against: impl Fn(&F, &C) -> Result<Reply, String>,
+) -> bool {
+    let mut missed = 0;
+    for fault in faults {
+        let found = (1..=count).zip(cases()).find_map(|(i, case)| {
+            let what = against(fault, &case).err()?;
+            Some((i, what.lines().next().unwrap_or_default().to_string()))
+        });
+        match found {
+            Some((i, what)) => println!("found   {what} (case {i})"),
+            None => {
+                missed += 1;
+                println!("MISSED  {} in {count} cases", name(fault));
+            }
+        }
+    }
+    let found = faults.len() - missed;
+    println!("{what}: {found} of {} faults found", faults.len());
+    missed == 0
 }
 
 /// The model met through bytes: nothing may be found.

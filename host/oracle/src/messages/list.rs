@@ -4,12 +4,11 @@
 use super::reach;
 use crate::faults::messages::{FAULTS, Fault};
 use crate::generate::messages::{MessageCase, Messages};
+use crate::listed::{self, Wanted};
 use crate::message::{Model, Reader};
 use crate::port::{bytes, words};
 use crate::vectors::check;
-use std::collections::{BTreeMap, BTreeSet};
-use std::fs;
-use std::path::Path;
+use std::collections::BTreeMap;
 
 /// "NKM1" in the file's first four bytes.
 const MAGIC: u32 = u32::from_le_bytes(*b"NKM1");
@@ -18,8 +17,6 @@ const MAGIC: u32 = u32::from_le_bytes(*b"NKM1");
 const ROOM: usize = 51;
 const PATTERN: u32 = 0xa5a5_a5a5;
 const MOST: usize = 1024;
-/// How many generated messages are looked at.
-const LOOKED: usize = 30_000;
 const CAPTURED: &str = include_str!("../../../messages/ip.txt");
 /// The fault that no request of whole words shows.
 const OF_BYTES: &str = "a request of whole words alone";
@@ -56,26 +53,21 @@ impl Record {
     }
 }
 
-/// Writes the list and what is to be printed into `folder`, as `stdin` and
-/// `stdout`.
+/// Writes the list and what is to be printed into `folder`.
 pub fn write(count: usize, seed: u64, folder: &str) -> Result<(), String> {
     let records = records(count, seed)?;
     let total = records.len();
     let mut list = bytes(&[MAGIC, seed as u32, total as u32]);
-    let mut printed = String::new();
+    let mut lines = Vec::new();
     let mut numbers: BTreeMap<u32, usize> = BTreeMap::new();
-    for (i, record) in records.iter().enumerate() {
+    for record in &records {
         let Record { message, lent, up } = record;
         list.extend(bytes(&[message.len() as u32, *lent as u32, *up]));
         list.extend(message);
-        printed += &format!("{i}: {}\n", record.answer(&mut Model));
+        lines.push(record.answer(&mut Model));
         *numbers.entry(number(record)).or_default() += 1;
     }
-    printed += &format!("{total} messages of {total}\n");
-    for (name, content) in [("stdin", &list[..]), ("stdout", printed.as_bytes())] {
-        let path = Path::new(folder).join(name);
-        fs::write(&path, content).map_err(|e| format!("{}: {e}", path.display()))?;
-    }
+    listed::write("messages", folder, &list, &lines)?;
     println!(
         "message-list: {total} messages in {} bytes, seed {seed}; by number: {numbers:?}",
         list.len()
@@ -88,41 +80,26 @@ fn number(record: &Record) -> u32 {
     Model.read(&record.message, &mut request, record.up).number
 }
 
-/// The captured messages; of the generated ones each that shows what none
-/// before it did, or that finds a planted fault; then more of them.
+/// The captured messages, and generated ones.
 fn records(count: usize, seed: u64) -> Result<Vec<Record>, String> {
-    let mut all: Vec<Record> = captured().iter().map(Record::new).collect();
-    let mut missed = FAULTS.to_vec();
-    let mut seen = BTreeSet::new();
+    let captured = captured().iter().map(Record::new).collect();
+    let wanted = Wanted {
+        what: "messages",
+        count,
+        faults: FAULTS,
+        name: |fault| fault.name,
+        but: &[OF_BYTES],
+    };
     let mut messages = Messages::new(seed);
-    for _ in 0..LOOKED {
+    let next = || {
         let case = messages.next_case();
-        let record = Record::new(&case);
-        if case.message.len() > MOST {
-            continue;
-        }
-        let before = (seen.len(), missed.len());
-        seen.extend(shown(&case, &record));
-        missed.retain(|fault| !finds(&record, *fault));
-        if before != (seen.len(), missed.len()) {
-            all.push(record);
-        }
-    }
-    let missed: Vec<&str> = missed.iter().map(|fault| fault.name).collect();
-    if missed != [OF_BYTES] {
-        return Err(format!("not found by the list: {}", missed.join("; ")));
-    }
-    if all.len() > count {
-        let least = all.len();
-        return Err(format!("{count} messages don't show all: {least} do"));
-    }
-    while all.len() < count {
-        let case = messages.next_case();
-        if case.message.len() <= MOST {
-            all.push(Record::new(&case));
-        }
-    }
-    Ok(all)
+        (case.message.len() <= MOST).then(|| {
+            let record = Record::new(&case);
+            let shown = shown(&case, &record);
+            (record, shown)
+        })
+    };
+    listed::chosen(&wanted, captured, next, finds)
 }
 
 /// What there is to see of a message: its number, for each type, its damage,

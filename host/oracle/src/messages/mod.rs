@@ -8,7 +8,8 @@ mod swept;
 
 use crate::call::Reply;
 use crate::checks;
-use crate::faults::messages::FAULTS;
+use crate::faults::all_found;
+use crate::faults::messages::{FAULTS, Fault};
 use crate::generate::drafts::Draft;
 use crate::generate::messages::{MessageCase, Messages};
 use crate::message::{DEL_ADDRESS, Model, NEW_ADDRESS, NEW_ROUTE, Reader, ifa, rta};
@@ -52,31 +53,28 @@ pub fn against(reader: &mut dyn Reader, case: &MessageCase) -> Result<Reply, Str
     ))
 }
 
-fn hex(bytes: &[u8]) -> String {
+pub fn hex(bytes: &[u8]) -> String {
     bytes.iter().map(|b| format!("{b:02x}")).collect()
+}
+
+/// The bytes of a message written as hexadecimal digits.
+pub fn bytes_of(hex: &str) -> Vec<u8> {
+    let digits: Vec<u8> = hex.bytes().filter(u8::is_ascii_hexdigit).collect();
+    let pair = |two: &[u8]| {
+        let text = std::str::from_utf8(two).expect("digits");
+        u8::from_str_radix(text, 16).expect("two digits")
+    };
+    digits.chunks(2).map(pair).collect()
 }
 
 /// Every fault must be found within `count` messages.
 fn selftest(count: usize, seed: u64) -> bool {
-    let mut missed = 0;
-    for fault in FAULTS {
+    let cases = || {
         let mut messages = Messages::new(seed);
-        let mut reader = *fault;
-        let found = (1..=count).find_map(|i| {
-            let what = against(&mut reader, &messages.next_case()).err()?;
-            Some((i, what.lines().next().unwrap_or_default().to_string()))
-        });
-        match found {
-            Some((i, what)) => println!("found   {what} (message {i})"),
-            None => {
-                missed += 1;
-                println!("MISSED  {} in {count} messages", fault.name);
-            }
-        }
-    }
-    let found = FAULTS.len() - missed;
-    println!("messages: {found} of {} faults found", FAULTS.len());
-    missed == 0
+        std::iter::repeat_with(move || messages.next_case())
+    };
+    let one = |fault: &Fault, case: &_| against(&mut { *fault }, case);
+    all_found("messages", count, FAULTS, |fault| fault.name, cases, one)
 }
 
 /// A new address 10.1.0.5/24.

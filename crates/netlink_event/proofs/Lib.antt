@@ -1,0 +1,11 @@
+pub mod Back
+pub mod MessageBack
+pub mod Fit
+pub mod LabelBack
+pub mod AddressBack
+pub mod MetricsBack
+pub mod RouteBack
+pub mod Refusals
+pub mod Length
+pub mod RoundTrip
+pub mod Cases

@@ -1,0 +1,3 @@
+pub mod Written
+pub mod Writer
+pub mod Found

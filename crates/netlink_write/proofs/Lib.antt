@@ -1,0 +1,4 @@
+pub mod Fields
+pub mod Address
+pub mod Route
+pub mod Message
