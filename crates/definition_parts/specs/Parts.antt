@@ -93,4 +93,3 @@ dump4_begin_call room cursor rows w = part_from (begun w) room cursor rows w
 
 unfoldable pub dump4_next_call : ℕ → List ℕ → ℕ → List ℕ → PartResult
 dump4_next_call room cursor rows w = part_from cursor room cursor rows w
-
