@@ -71,7 +71,7 @@ pub next-word : (k : List ℕ) (room : ℕ) (cursor : List ℕ) (rows : ℕ) (w 
     → cursor_place (part rows k w).cursor < 4294967296
 unfolding part
 next-word k room cursor rows w z h =
-    next-place (cursor_place k) rows (dump4 (state_of w)) ((dump4-listing (state_of w) (good-held w (passed room cursor rows w z).held)).0) h
+    next-place (cursor_place k) rows (dump4 (state_of w)) (dump4-listing (state_of w) (good-held w (passed room cursor rows w z).held)).0 h
 
 -- dump4_begin looks at nothing in the cursor but its length, and writes all of it
 pub begin-whatever : (room : ℕ) (k j : List ℕ) (rows : ℕ) (w : List ℕ) → length k ≡ length j → (dump4_begin_call room k rows w).reply.number ≡ 0

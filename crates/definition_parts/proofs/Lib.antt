@@ -1,2 +1,5 @@
 pub mod Laws
+pub mod Altered
+pub mod Changed
+pub mod Counting
 pub mod Examples

@@ -89,7 +89,7 @@ passed room cursor rows w z =
       spacious = omega (arith, room-for, min-eq_left most);
     }
 
-pub part-shaped : (k : List ℕ) (room : ℕ) (cursor : List ℕ) (rows : ℕ) (w : List ℕ) → PartShape room ((part_from k room cursor rows w).reply)
+pub part-shaped : (k : List ℕ) (room : ℕ) (cursor : List ℕ) (rows : ℕ) (w : List ℕ) → PartShape room (part_from k room cursor rows w).reply
 unfolding part
 part-shaped k room cursor rows w =
     part-case k room cursor rows w (λ (r : PartResult). PartShape room r.reply)
