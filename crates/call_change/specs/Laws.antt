@@ -10,12 +10,12 @@ use Rattle.lists.specs.Bools.{and_right}
 use Rattle.definition.specs.State.{State}
 use Rattle.definition.specs.Words.{base_size, state_size, encode, base, table_count, changed, counted, leaves}
 use Rattle.definition.specs.Call.{Call, Reply, Numbers, numbers}
-use Rattle.definition.specs.Step.{Result, refuses, Semantics, checked, answered, result, roomy, outcome, perform, request_is, events_fit, event_room, step}
+use Rattle.definition.specs.Step.{Result, Semantics, checked, answered, result, roomy, outcome, perform, request_is, events_fit, event_room, step}
 use Rattle.definition.specs.Reference.Addresses.{Outcome}
 use Rattle.definition.specs.Preservation.Encode.{length-encode}
 use Rattle.definition.proofs.Preservation.Step.{Held, acted}
 use Rattle.definition_parts.specs.Rule.{has_events, altered}
-use Rattle.definition_parts.specs.Counting.{step-words}
+use Rattle.definition_parts.proofs.Counting.{step-words}
 use Rattle.state.specs.Represents.{Represents, holds-encodable}
 use Rattle.call_read.specs.Laws.{Passed, call-refused, call-passed, exit, refuses_some}
 use Rattle.call_read.specs.Answer.{answer_by, valuing, refused_by}
@@ -84,9 +84,9 @@ module _ (o : Outcome) (w : List ℕ) {v ev ev' : List ℕ} {r : Answer ℕ Refu
   left-full h e a d = rw (h, a) (record { refuses = (refl, λ z. omega (arith, z)); says = refl; lists = e; events = d })
 
 -- it told a row exactly where the reply has one
-some-told : (r : Answer ℕ Refusal) {x : Reply} → answer_by valuing r ≡ numbers x → told_some r ≡ has_events x
-some-told (Ok n) e = ap (λ (m : Numbers). ltb 0 m.value) e
-some-told (Err d) e = ap (λ (m : Numbers). ltb 0 m.value) e
+some-told : (r : Answer ℕ Refusal) (x : Reply) → answer_by valuing r ≡ numbers x → told_some r ≡ has_events x
+some-told (Ok n) x e = ap (λ (m : Numbers). ltb 0 m.value) e
+some-told (Err d) x e = ap (λ (m : Numbers). ltb 0 m.value) e
 
 -- behind the lists the change is counted, as the rule for the call says
 pub counts : (c : Call) {w v w' ev ev' : List ℕ} {r : Answer ℕ Refusal} (other : Bool) → Held w → Left (step c w) v ev ev' r
@@ -98,7 +98,7 @@ counts c {w} {v} {r = r} other h t rule e =
       refuses = t.refuses;
       says = t.says;
       words =
-          e ∙ ap (λ (b : Bool). v ++ counted ((b && other) || ltb (table_count w) (table_count v)) w) (some-told r t.says)
+          e ∙ ap (λ (b : Bool). v ++ counted ((b && other) || ltb (table_count w) (table_count v)) w) (some-told r (step c w).reply t.says)
           ∙ ap (λ (b : Bool). v ++ counted b w) (sym (rule (step c w).reply)) ∙ sym (step-words c w v h t.lists);
       events = t.events;
     }

@@ -1,25 +1,27 @@
 -- The answers of calls, by what the step below each comes to.
 -- Assumes nothing.
-use Rattle.std.specs.Prelude.{ℕ, ◌≤◌, ◌≡◌, refl, Bool, true, ◌&&◌, ◌||◌, List, length, Ok, Err}
+use Rattle.std.specs.Prelude.{ℕ, ◌≤◌, ◌≡◌, refl, Bool, true, ◌&&◌, ◌||◌, List, ◌++◌, length, Ok, Err}
 use denote.Ref.{MutBor}
 use Rattle.std.specs.Prelude.{Result as Answer}
 use Rattle.std.proofs.Common.{arith, sym, ap, subst, ◌∙◌, leb-true}
-use Rattle.lists.specs.Lists.{Row, flat, put}
+use Rattle.std.proofs.Math.Bool.{and-true}
+use Rattle.lists.specs.Lists.{Row, first, flat, put}
 use Rattle.lists.specs.Count.{count_most}
 use Rattle.lists.specs.Bools.{and_iff, test-case, cond-true, cond-false}
 use Rattle.lists.specs.Put.{put-no-rows}
 use Rattle.definition.specs.State.{State, Out, sizes}
-use Rattle.definition.specs.Words.{within, base, state_of}
+use Rattle.definition.specs.Words.{within, base_size, base, state_of, counted}
 use Rattle.definition.specs.Call.{Call, Reply}
 use Rattle.definition.specs.Step.{Result, Checks, semantics, outcome, roomy, event_room, step}
 use Rattle.definition.proofs.Preservation.Step.{acted}
-use Rattle.definition_parts.specs.Rule.{has_events, more_tables, altered}
-use Rattle.definition.specs.Reference.Addresses.{Outcome, goes, refused, down}
+use Rattle.definition_parts.specs.Rule.{has_events, more_tables, fewer_routes, row_changes, altered}
+use Rattle.definition_parts.proofs.Counting.{step-words}
+use Rattle.definition.specs.Reference.Addresses.{Outcome, goes, refused, down, same_address}
 use Rattle.definition.specs.Preservation.Shrinking.{potential, live}
 use Rattle.definition.proofs.Preservation.Peaks.{down-roomy}
-use Rattle.definition.specs.Preservation.Encode.{Admissible}
+use Rattle.definition.specs.Preservation.Encode.{Admissible, length-encode}
 use Rattle.definition.proofs.Preservation.Numbers.{Numbered}
-use Rattle.state.specs.Represents.{Represents}
+use Rattle.state.specs.Represents.{Represents, holds-encodable}
 use Rattle.step_events.specs.Emits.{Emits}
 use Rattle.step_events.specs.EmitsWithin.{RoomFor}
 use Rattle.step_events.specs.Comes.{Comes, ComesWhole, made, goes-made, whole-made}
@@ -109,5 +111,22 @@ pub taken : {st : State} {a b : Change} {d : Answer (Unit {0}) Refusal} {q l : R
 taken {st} {a} {b} {d} o same t = subst (λ (x : Row). ComesWhole st (o x) a b d) same t
 
 -- ---- the rule by which a call's change is counted: a row was told, of another address or route, or a table listed
-pub some-rule : (x : Reply) {w v : List ℕ} → has_events x || more_tables w v ≡ (has_events x && true) || more_tables w v
-some-rule x {w} {v} = ap (λ (b : Bool). b || more_tables w v) (sym (and-true (has_events x)))
+pub some-rule : (w : List ℕ) (x : Reply) (v : List ℕ) → has_events x || more_tables w v ≡ (has_events x && true) || more_tables w v
+some-rule w x v = ap (λ (b : Bool). b || more_tables w v) (sym (and-true (has_events x)))
+
+pub row-rule : (q : Row) (now : ℕ) (w : List ℕ) {other : Bool} → other ≡ row_changes q now (first (same_address q) (state_of w).addresses) → (x : Reply) (v : List ℕ)
+    → (has_events x && row_changes q now (first (same_address q) (state_of w).addresses)) || more_tables w v ≡ (has_events x && other) || more_tables w v
+row-rule q now w e x v = ap (λ (b : Bool). (has_events x && b) || more_tables w v) (sym e)
+
+-- down, whose change is told by fewer routes
+pub down-answers : (w ev : List ℕ) (room : ℕ) {v w' : List ℕ} → Passed (semantics (Call.down room)).checks w → Represents v (down (state_of w)).state
+    → (length v ≡ base_size → w' ≡ v ++ counted (fewer_routes w v) w) → Answers (step (Call.down room) w) w' ev ev (Ok 0)
+down-answers w ev room {v} p h e =
+    let left = subst (λ (x : Result). Left x v ev ev (Ok 0)) (sym (call-passed (semantics (Call.down room)) w p)) (down-left w ev p h) in
+    let long : length v ≡ base_size = ap length h.words ∙ length-encode (down (state_of w)).state (holds-encodable h) in
+    record {
+      refuses = left.refuses;
+      says = left.says;
+      words = e long ∙ sym (step-words (Call.down room) w v (record { long = p.long; well = p.well }) left.lists);
+      events = left.events;
+    }

@@ -13,7 +13,7 @@ ghost use Rattle.definition.specs.Reference.Addresses.{down, same_address};
 ghost use Rattle.definition_parts.specs.Rule.{row_changes};
 ghost use Rattle.state.specs.Represents.{Represents, represents};
 ghost use Rattle.call_change.specs.Answer.{Answers};
-ghost use Rattle.call_change.specs.Ran.{Takes, Went, Ran, Counts};
+ghost use Rattle.call_change.specs.Ran.{Takes, Went, Ran, Counts, told_some};
 
 use layout::{
     AddRoute4, AddV4, BASE_WORDS, DelRoute4, DelV4, EVENT_BUFFER, ROUTE_COUNT, TABLE_COUNT,
@@ -78,6 +78,12 @@ fn stepped<F: FnOnce(&mut Change<'_, '_>) -> Result<(), Refusal>>(
     ended.told
 }
 
+fn told_some(told: Result<usize, Refusal>) -> bool
+    ensures { result ≡ told_some told }
+{
+    told.is_ok_and(|n| 0 < n)
+}
+
 // The same on the words of a state, and what it changed counted: a step tells a row of whatever it changes but tables. `other` says that
 // the row told isn't the one that was there.
 fn changed<F: FnOnce(&mut Change<'_, '_>) -> Result<(), Refusal>>(
@@ -92,8 +98,7 @@ fn changed<F: FnOnce(&mut Change<'_, '_>) -> Result<(), Refusal>>(
 {
     let tables = state[TABLE_COUNT];
     let told = stepped(&mut state[..BASE_WORDS], events, step);
-    let told_some = told.is_ok_and(|n| 0 < n);
-    if (told_some & other) | (tables < state[TABLE_COUNT]) {
+    if (told_some(told) & other) | (tables < state[TABLE_COUNT]) {
         state_count::count(state);
     }
     told
@@ -191,12 +196,7 @@ pub fn del_v4(state: &mut [u32], q: &[u32], events: &mut [u32]) -> Result<usize,
     let q: &DelV4 = call_read::sized(q)?;
     let fit = request_fit::fit_del_v4(q);
     call_read::checked(state, EVENT_BUFFER <= events.len(), fit)?;
-    changed(
-        state,
-        events,
-        true,
-        |change| step_del_v4::del_v4(change, q),
-    )
+    changed(state, events, true, |change| step_del_v4::del_v4(change, q))
 }
 
 // A route is put in, or replaces one. A refusal by the reference may leave its table listed.

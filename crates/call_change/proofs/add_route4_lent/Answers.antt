@@ -42,5 +42,5 @@ returns c =
     passed (semantics (Call.add_route4 c.args.q.now c.args.room)).checks c.args.state.now
     (request-checked add_route4_size c.args.q.now c.args.state.now c.in_ok-q.ensures c.checked.result (events_fit c.args.room) (λ q. unless (fit_add_route4 q) 202) (c.checked.ensures.refuses _ (c.fit_add_route4-fit.ensures (long add_route4_size c.args.q.now c.args.state.now c.in_ok-q.ensures)))) c.in_ok-checked.was
     in
-    counts-answers (Call.add_route4 c.args.q.now c.args.room) (add_route4 c.args.q.now (state_of c.args.state.now)) p refl (λ x v. some-rule x) c.changed.ensures (added-number insert4 insert_number c.args.q.now (state_of c.args.state.now) (unless-passed (fit_add_route4 c.args.q.now) p.fit))
+    counts-answers (Call.add_route4 c.args.q.now c.args.room) (add_route4 c.args.q.now (state_of c.args.state.now)) p refl (some-rule c.args.state.now) c.changed.ensures (added-number insert4 insert_number c.args.q.now (state_of c.args.state.now) (unless-passed (fit_add_route4 c.args.q.now) p.fit))
     (λ a b d h m. taken (λ q. add_route4 q (state_of c.args.state.now)) c.in_ok-q.ensures.0 (search (rules, m, h, p.holds, p.good.fits)))

@@ -9,7 +9,7 @@ use Rattle.definition.specs.Words.{state_of}
 use Rattle.call_read.specs.Laws.{passed, lent}
 use Rattle.definition.specs.Step.{add_v4_refusal, events_fit, semantics, add_v4_call}
 use Rattle.call_change.specs.Laws.{unsized, request-checked, long, answers-unsized, answers-refused, room}
-use Rattle.call_change.specs.Steps.{counts-answers, some-rule, taken}
+use Rattle.call_change.specs.Steps.{counts-answers, row-rule, taken}
 use Rattle.call_change.proofs.add_v4.Goals as goal
 
 pub returns-in_err-q : goal.returns-in_err-q
@@ -49,5 +49,5 @@ returns c =
     passed (semantics (Call.add_v4 c.args.q.now (length c.args.events.now) c.args.clock)).checks c.args.state.now
     (request-checked add_v4_size c.args.q.now c.args.state.now c.in_ok-q.ensures c.checked.result (events_fit (length c.args.events.now)) add_v4_refusal (c.checked.ensures.refuses _ (c.fit_add_v4-fit.ensures (long add_v4_size c.args.q.now c.args.state.now c.in_ok-q.ensures)))) c.in_ok-checked.was
     in
-    counts-answers (Call.add_v4 c.args.q.now (length c.args.events.now) c.args.clock) (add_v4 c.args.q.now c.args.clock (state_of c.args.state.now)) p refl (λ x v. row-rule ?) c.changed.ensures (add_v4-number c.args.q.now c.args.clock (state_of c.args.state.now))
+    counts-answers (Call.add_v4 c.args.q.now (length c.args.events.now) c.args.clock) (add_v4 c.args.q.now c.args.clock (state_of c.args.state.now)) p refl (row-rule c.args.q.now c.args.clock c.args.state.now (rw c.in_ok-q.ensures.0 at (c.row_changes-other.ensures (state_of c.args.state.now) p.holds))) c.changed.ensures (add_v4-number c.args.q.now c.args.clock (state_of c.args.state.now))
     (λ a b d h m. taken (λ q. add_v4 q c.args.clock (state_of c.args.state.now)) c.in_ok-q.ensures.0 (search (rules, m, h, p.holds, p.good.fits)))

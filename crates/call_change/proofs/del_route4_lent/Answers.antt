@@ -41,5 +41,5 @@ returns c =
     passed (semantics (Call.del_route4 c.args.q.now c.args.room)).checks c.args.state.now
     (request-checked del_route4_size c.args.q.now c.args.state.now c.in_ok-q.ensures c.checked.result (events_fit c.args.room) (λ q. unless (fit_del_route4 q) 202) (c.checked.ensures.refuses _ (c.fit_del_route4-fit.ensures (long del_route4_size c.args.q.now c.args.state.now c.in_ok-q.ensures)))) c.in_ok-checked.was
     in
-    counts-answers (Call.del_route4 c.args.q.now c.args.room) (del_route4_request c.args.q.now (state_of c.args.state.now)) p refl (λ x v. some-rule x) c.changed.ensures (del_route4-number c.args.q.now (state_of c.args.state.now))
+    counts-answers (Call.del_route4 c.args.q.now c.args.room) (del_route4_request c.args.q.now (state_of c.args.state.now)) p refl (some-rule c.args.state.now) c.changed.ensures (del_route4-number c.args.q.now (state_of c.args.state.now))
     (λ a b d h m. taken (λ q. del_route4_request q (state_of c.args.state.now)) c.in_ok-q.ensures.0 (search (rules, m, h, p.holds, p.good.fits)))

@@ -1,5 +1,5 @@
 -- `call_change::del_v4` meets its contract.
-use Rattle.std.proofs.Common.{refl, rules, sym, length}
+use Rattle.std.proofs.Common.{refl, rules, length}
 use Rattle.layout.specs.Request.{del_v4_size, fit_del_v4}
 use Rattle.definition.specs.Reference.Removal.{del_v4}
 use Rattle.definition.specs.Preservation.Shrinking.{potential}
@@ -42,5 +42,5 @@ returns c =
     passed (semantics (Call.del_v4 c.args.q.now (length c.args.events.now))).checks c.args.state.now
     (request-checked del_v4_size c.args.q.now c.args.state.now c.in_ok-q.ensures c.checked.result (events_fit (length c.args.events.now)) (λ q. unless (fit_del_v4 q) 202) (c.checked.ensures.refuses _ (c.fit_del_v4-fit.ensures (long del_v4_size c.args.q.now c.args.state.now c.in_ok-q.ensures)))) c.in_ok-checked.was
     in
-    counts-answers (Call.del_v4 c.args.q.now (length c.args.events.now)) (del_v4 c.args.q.now (state_of c.args.state.now)) p refl (λ x v. some-rule x) c.changed.ensures (del_v4-number c.args.q.now (state_of c.args.state.now))
+    counts-answers (Call.del_v4 c.args.q.now (length c.args.events.now)) (del_v4 c.args.q.now (state_of c.args.state.now)) p refl (some-rule c.args.state.now) c.changed.ensures (del_v4-number c.args.q.now (state_of c.args.state.now))
     (λ a b d h m. taken (λ q. del_v4 q (state_of c.args.state.now)) c.in_ok-q.ensures.0 (search (rules, m, fitting p h (room del_v4_size c.args.q.now (length c.args.events.now) p.room))))

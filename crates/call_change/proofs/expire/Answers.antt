@@ -1,5 +1,5 @@
 -- `call_change::expire` meets its contract.
-use Rattle.std.proofs.Common.{refl, rules, sym, length, leb-true}
+use Rattle.std.proofs.Common.{refl, rules, length, leb-true}
 use Rattle.life.specs.Life.{allowance}
 use Rattle.definition.specs.Reference.Addresses.{goes}
 use Rattle.definition.specs.Reference.Removal.{expire}
@@ -29,5 +29,5 @@ pub returns : goal.returns
 unfolding expire_call
 returns c =
     let p = passed (semantics (Call.expire (length c.args.events.now) c.args.clock)).checks c.args.state.now (c.checked.ensures.refuses _ c.fit_expire.ensures) c.in_ok-checked.was in
-    counts-answers (Call.expire (length c.args.events.now) c.args.clock) (goes (expire allowance c.args.clock (state_of c.args.state.now))) p refl (λ x v. some-rule x) c.changed.ensures tt
+    counts-answers (Call.expire (length c.args.events.now) c.args.clock) (goes (expire allowance c.args.clock (state_of c.args.state.now))) p refl (some-rule c.args.state.now) c.changed.ensures tt
     (λ a b d h m. whole_goes (state_of c.args.state.now) (expire-roomy allowance c.args.clock (state_of c.args.state.now) p.good) (search (rules, m)) (search (rules, m, fitting p h (leb-true event_room (length c.args.events.now) p.room))))

@@ -1,5 +1,5 @@
 -- `call_change::up` meets its contract.
-use Rattle.std.proofs.Common.{rules, arith, sym, ap, refl, length, leb-true, ◌≤◌, ◌*◌, ◌+◌}
+use Rattle.std.proofs.Common.{rules, arith, ap, refl, length, leb-true, ◌≤◌, ◌*◌, ◌+◌}
 use Rattle.definition.specs.Reference.Addresses.{goes, up}
 use Rattle.definition.specs.Call as Call
 use Rattle.definition.specs.Words.{state_of}
@@ -24,4 +24,4 @@ pub returns : goal.returns
 unfolding up_call
 returns c =
     let p = passed (semantics (Call.up (length c.args.events.now) c.args.clock)).checks c.args.state.now (c.checked.ensures.refuses 0 refl) c.in_ok-checked.was in
-    counts-answers (Call.up (length c.args.events.now) c.args.clock) (goes (up c.args.clock (state_of c.args.state.now))) p refl (λ x v. some-rule x) c.changed.ensures tt (λ a b d h m. search (rules, m, h, p.holds, p.good.fits))
+    counts-answers (Call.up (length c.args.events.now) c.args.clock) (goes (up c.args.clock (state_of c.args.state.now))) p refl (some-rule c.args.state.now) c.changed.ensures tt (λ a b d h m. search (rules, m, h, p.holds, p.good.fits))
