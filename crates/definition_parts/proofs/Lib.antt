@@ -2,4 +2,5 @@ pub mod Laws
 pub mod Altered
 pub mod Changed
 pub mod Counting
+pub mod Theorem
 pub mod Examples
