@@ -1,153 +1,19 @@
--- The claims, proved: the count tells, and parts make up the listing.
+-- Parts make up the listing where nothing changed, and where no part has the mark: `saw-no-change`, `in-parts`, `mark-tells`; and each
+-- part has it exactly as the paper says, `parts-marked`.
 -- Assumes nothing.
-use Rattle.std.specs.Prelude.{ℕ, zero, suc, ◌+◌, ◌*◌, ◌<◌, ◌≤◌, ◌≡◌, refl, Bool, true, false, cond, not, ◌&&◌, List, [], ◌∷◌, ◌++◌, ◌≢◌, eqb, ltb, length, get_or, take, drop}
-use Rattle.std.proofs.Common.{sym, ap, ap₂, subst, ◌∙◌, arith, take-append-drop, drop_of_length-le, drop_at, drop-drop, get_or-take, eqb-true, eq-eqb, leb-true, lt-ltb}
+use Rattle.std.specs.Prelude.{ℕ, zero, suc, ◌+◌, ◌<◌, ◌≤◌, ◌≡◌, refl, true, List, [], ◌∷◌, ◌++◌, ◌≢◌, eqb, length, take, drop}
+use Rattle.std.proofs.Common.{sym, ap, ap₂, subst, ◌∙◌, arith, take-append-drop, drop_of_length-le, drop-drop, eqb-true, eq-eqb, leb-true}
 use Rattle.std.proofs.lemmas.Bool.{false≢true}
-use Rattle.lists.specs.Lists.{Row, eq_row, span}
-use Rattle.lists.specs.Bools.{cond_map, cond-case, test-case, and_both, and_left, and_right, fails}
-use Rattle.lists.specs.All.{eq_row-refl, eq_row-true}
-use Rattle.definition.specs.State.{State}
-use Rattle.definition.specs.Words.{base_size, count_size, encode, decode, base, state_of, largest_count, change_count, count_words, changed, counted, leaves}
-use Rattle.definition.specs.Call.{Call, Reply, refusal}
-use Rattle.definition.specs.Step.{Result, Checks, Action, changes, replies, lists, checked, result, roomy, semantics, step}
+use Rattle.lists.specs.Lists.{Row}
+use Rattle.lists.specs.Bools.{test-case, and_both, and_left, and_right}
+use Rattle.definition.specs.Words.{state_of, largest_count, change_count}
+use Rattle.definition.specs.Step.{step}
 use Rattle.definition.specs.Reference.Source.{dump4}
-use Rattle.definition.specs.Preservation.Encode.{Admissible, encodable, length-encode, decode-encode}
-use Rattle.definition.proofs.Preservation.Change.{Acts, lawful}
-use Rattle.definition.proofs.Preservation.Step.{Held, good-result, length-counted, base-leaves, leaves-decode, checked-held, checked-sound, acted, perform-case}
 use Rattle.definition_parts.specs.Parts.{cursor_place, cursor_count, begun, further, mark_of, part_rows, end_reached, PartResult, part, dump4_begin_call, dump4_next_call}
 use Rattle.definition_parts.specs.Laws.{part-case, part-passed, part-checked, part-past}
 use Rattle.definition_parts.proofs.Laws.{no-mark-exactly, begin-marked, next-marked}
-use Rattle.definition_parts.specs.Statement.{Act, words_after, cursor_after, Marked, PartsMarked, continued, listing, CountRises, CountTells, together, complete, unmarked, InParts, MarkTells}
-
--- ---- a call: the count doesn't fall, and stands below the largest only where every word stays
-record Tells (w v : List ℕ) : Type 0 where
-  rises : change_count w ≤ change_count v
-  same : change_count v ≡ change_count w → change_count w < largest_count → v ≡ w
-
-stays-tells : (w : List ℕ) → Tells w w
-stays-tells w = record { rises = omega arith; same = λ e h. refl }
-
--- the number in the words behind the lists
-abbrev number_in : List ℕ → ℕ
-number_in l = get_or l 0 0 + get_or l 1 0 * 4294967296
-
-back : (n : ℕ) → number_in (count_words n) ≡ n
-back n = omega arith
-
--- one more for a change below the largest
-abbrev Rises : List ℕ → List ℕ → Type 0
-Rises w v = change_count v ≡ cond (not (eq_row (base w) (base v)) && ltb (change_count w) largest_count) (suc (change_count w)) (change_count w)
-
-stays-rises : (w : List ℕ) → Rises w w
-stays-rises w = rw (eq_row-refl (base w))
-
--- in the words of a state
-held-number : (w : List ℕ) → number_in (span base_size count_size w) ≡ change_count w
-unfolding span
-held-number w =
-    ap₂ (λ (a b : ℕ). a + b * 4294967296) (get_or-take count_size (drop base_size w) 0 0 (omega arith)) (get_or-take count_size (drop base_size w) 1 0 (omega arith))
-
-left-number : (w : List ℕ) (st : State) → Admissible st → change_count (leaves w st) ≡ number_in (counted (changed w st) w)
-left-number w st g = ap number_in (drop_at (encode st) (counted (changed w st) w) base_size (length-encode st (encodable g)))
-
-counted-rises-by : (b : Bool) (w : List ℕ) → number_in (counted b w) ≡ cond (b && ltb (change_count w) largest_count) (suc (change_count w)) (change_count w)
-unfolding counted
-counted-rises-by b w =
-    cond_map number_in (b && ltb (change_count w) largest_count) (count_words (suc (change_count w))) (span base_size count_size w)
-    ∙ ap₂ (λ (m n : ℕ). cond (b && ltb (change_count w) largest_count) m n) (back (suc (change_count w))) (held-number w)
-
-leaves-rises : (w : List ℕ) (st : State) → Held w → Admissible st → Rises w (leaves w st)
-unfolding changed
-leaves-rises w st h g =
-    left-number w st g
-    ∙ counted-rises-by (changed w st) w
-    ∙ ap (λ (v : List ℕ). cond (not (eq_row (base w) v) && ltb (change_count w) largest_count) (suc (change_count w)) (change_count w))
-    (sym (base-leaves w st g))
-
--- a change below the largest is one more
-counted-one : (w : List ℕ) → change_count w < largest_count → number_in (counted true w) ≡ suc (change_count w)
-unfolding counted
-counted-one w h = rw (lt-ltb (change_count w) largest_count h) (back (suc (change_count w)))
-
-counted-rises : (b : Bool) (w : List ℕ) → change_count w ≤ number_in (counted b w)
-unfolding counted
-counted-rises b w =
-    cond-case (λ (l : List ℕ). change_count w ≤ number_in l) (b && ltb (change_count w) largest_count)
-    (λ e. omega (arith, back (suc (change_count w)))) (λ e. omega (arith, held-number w))
-
-unchanged : (w : List ℕ) (st : State) → changed w st ≡ false → base w ≡ encode st
-unfolding changed
-unchanged w st e = eq_row-true (base w) (encode st) (not-false (eq_row (base w) (encode st)) e)
-  where
-    not-false : (b : Bool) → not b ≡ false → b ≡ true
-    not-false true e = refl
-    not-false false e = sym e
-
-leaves-tells : (w : List ℕ) (st : State) → Held w → Admissible st → Tells w (leaves w st)
-leaves-tells w st h g =
-    record {
-      rises = omega (arith, left-number w st g, counted-rises (changed w st) w);
-      same = λ e k.
-          let idle : changed w st ≡ false =
-          fails (changed w st) (λ t. omega (arith, left-number w st g, counted-one w k, ap (λ (b : Bool). number_in (counted b w)) t))
-          in
-          let is : state_of w ≡ st = ap decode (unchanged w st idle) ∙ decode-encode st (encodable g) in
-          ap (leaves w) (sym is) ∙ leaves-decode w h;
-    }
-
--- what holds of the words that stay, and of those that a state leaves, holds of a call, whatever the words
-step-case : (P : List ℕ → Type 0) (c : Call) (w : List ℕ) → P w → ((st : State) → Held w → Admissible st → P (leaves w st)) → P (step c w).words
-step-case P c w same left =
-    perform-case (λ (r : Result). P r.words) w (semantics c) (λ z. go (semantics c).checks (semantics c).action (lawful c).acts z) (λ n e z. same)
-  where
-    go : (k : Checks) (a : Action) → Acts k a → checked k w ≡ 0 → P (acted a w).words
-    go k (changes listed f) l z =
-        let o = f (state_of w) in
-        cond-case (λ (r : Result). P r.words) (roomy o) (λ e. left (result o) (checked-held k w z) (good-result o (checked-sound k w z l).kept e)) (λ e. same)
-    go k (replies f) l z = same
-    go k (lists f) l z = same
-
-pub count-rises : CountRises
-count-rises c w = step-case (Rises w) c w (stays-rises w) (leaves-rises w)
-
-step-tells : (c : Call) (w : List ℕ) → Tells w (step c w).words
-step-tells c w = step-case (Tells w) c w (stays-tells w) (leaves-tells w)
-
--- one call after the other
-tells-through : (w v u : List ℕ) → Tells w v → Tells v u → Tells w u
-tells-through w v u t s =
-    record {
-      rises = omega (arith, t.rises, s.rises);
-      same = λ e h.
-          let one : change_count v ≡ change_count w = omega (arith, t.rises, s.rises, e) in
-          s.same (e ∙ sym one) (omega (arith, one, h)) ∙ t.same one h;
-    }
-
--- ---- a run
-acts-rise : (acts : List Act) (w : List ℕ) → change_count w ≤ change_count (words_after acts w)
-unfolding words_after
-acts-rise [] w = omega arith
-acts-rise (Act.call c ∷ acts) w = omega (arith, (step-tells c w).rises, acts-rise acts (step c w).words)
-acts-rise (Act.next room rows ∷ acts) w = acts-rise acts w
-
-module _ (w : List ℕ) (below : change_count w < largest_count) where
-  -- the first call of a run after which the count is the start's leaves every word
-  first-same : (c : Call) (acts : List Act) → change_count (words_after acts (step c w).words) ≡ change_count w → (step c w).words ≡ w
-  first-same c acts h =
-      let t = step-tells c w in
-      t.same (omega (arith, t.rises, acts-rise acts (step c w).words)) below
-
-  still : (c : Call) (acts : List Act) → change_count (words_after acts (step c w).words) ≡ change_count w → change_count (words_after acts w) ≡ change_count w
-  still c acts h = ap (λ (v : List ℕ). change_count (words_after acts v)) (sym (first-same c acts h)) ∙ h
-
-  run-same : (acts : List Act) → change_count (words_after acts w) ≡ change_count w → words_after acts w ≡ w
-  unfolding words_after
-  run-same [] h = refl
-  run-same (Act.call c ∷ acts) h = ap (words_after acts) (first-same c acts h) ∙ run-same acts (still c acts h)
-  run-same (Act.next room rows ∷ acts) h = run-same acts h
-
-pub count-tells : CountTells
-count-tells acts w h below = ap base (run-same w below acts h)
+use Rattle.definition_parts.specs.Statement.{Act, words_after, cursor_after, Marked, PartsMarked, continued, listing, together, complete, unmarked, SawNoChange, InParts, MarkTells}
+use Rattle.definition_parts.proofs.Run.{Tells, stays-tells, step-tells, tells-through, Still, still-unchanged, still-counted}
 
 -- ---- a part, and what is behind it
 take-length : (n : ℕ) (l : List Row) → take (length (take n l)) l ≡ take n l
@@ -160,18 +26,123 @@ given-rest place rows l =
     let m = length (part_rows place rows l) in
     ap₂ (λ (a b : List Row). a ++ b) (sym (take-length rows (drop place l))) (sym (drop-drop m place l)) ∙ take-append-drop m (drop place l)
 
--- what is shown of a part that is taken, and of a refusal, is shown of a call for a part and of what comes behind it
-taken : (P : List Reply → Type 0) (acts : List Act) (w k : List ℕ) (room rows : ℕ) → P ((part rows k w).reply ∷ continued acts w (part rows k w).cursor)
-    → ((n : ℕ) → P (refusal n ∷ continued acts w k)) → P (continued (Act.next room rows ∷ acts) w k)
-unfolding continued dump4_next_call
-taken P acts w k room rows x y = part-case k room k rows w (λ (r : PartResult). P (r.reply ∷ continued acts w r.cursor)) (λ z. x) (λ n h. y n)
-
--- ---- parts without a mark, of a listing that began on the words w
-module _ (w : List ℕ) (below : change_count w < largest_count) where
+-- ---- a listing that began on the words w
+module _ (w : List ℕ) where
   abbrev all-rows : List Row
   all-rows = dump4 (state_of w)
 
-  -- a part without it finds the words of the start
+  -- each part that isn't refused finds these words
+  abbrev Finds : List Act → List ℕ → List ℕ → Type 0
+  Finds [] v k = Unit {0}
+  Finds (Act.call c ∷ acts) v k = Finds acts (step c v).words k
+  Finds (Act.next room rows ∷ acts) v k =
+      ((dump4_next_call room k rows v).reply.number ≡ 0 → v ≡ w) × Finds acts v (dump4_next_call room k rows v).cursor
+
+  -- then there is no row from a place past the end
+  none-past : (acts : List Act) (v k : List ℕ) → Finds acts v k → length all-rows ≤ cursor_place k → together (continued acts v k) ≡ []
+  unfolding continued dump4_next_call part
+  none-past [] v k f z = refl
+  none-past (Act.call c ∷ acts) v k f z = none-past acts (step c v).words k f z
+  none-past (Act.next room rows ∷ acts) v k f z =
+      part-case k room k rows v
+      (λ (r : PartResult). (r.reply.number ≡ 0 → v ≡ w) × Finds acts v r.cursor → r.reply.rows ++ together (continued acts v r.cursor) ≡ [])
+      (λ p g.
+      let none : part_rows (cursor_place k) rows (dump4 (state_of v)) ≡ [] =
+      ap (λ (x : List ℕ). part_rows (cursor_place k) rows (dump4 (state_of x))) (g.0 refl) ∙ part-past (cursor_place k) rows all-rows z
+      in
+      rw none (none-past acts v (further 0 k) (rw none at g.1) (omega arith)))
+      (λ n h g. none-past acts v k g.1 z) f
+
+  -- and the rows from a part on are those from its place on, where it reaches the end or those behind it do
+  part-from : (acts : List Act) (v k : List ℕ) (rows : ℕ) → v ≡ w → Finds acts v (part rows k v).cursor
+      → (complete (continued acts v (part rows k v).cursor) ≡ true
+      → together (continued acts v (part rows k v).cursor) ≡ drop (cursor_place (part rows k v).cursor) all-rows)
+      → complete ((part rows k v).reply ∷ continued acts v (part rows k v).cursor) ≡ true
+      → (part rows k v).reply.rows ++ together (continued acts v (part rows k v).cursor) ≡ drop (cursor_place k) all-rows
+  unfolding part
+  part-from acts v k rows s f later d =
+      let l = dump4 (state_of v) in
+      let same : l ≡ all-rows = ap (λ (x : List ℕ). dump4 (state_of x)) s in
+      let given = part_rows (cursor_place k) rows l in
+      let next = cursor_place k + length given in
+      let behind : together (continued acts v (further (length given) k)) ≡ drop next l =
+      test-case (end_reached next l)
+      (λ e.
+      let z = leb-true (length l) next e in
+      none-past acts v (further (length given) k) f (omega (arith, z, ap length same)) ∙ sym (drop_of_length-le l z))
+      (λ e. later (rw e at d) ∙ ap (drop next) (sym same))
+      in
+      ap (λ (m : List Row). given ++ m) behind ∙ given-rest (cursor_place k) rows l ∙ ap (drop (cursor_place k)) same
+
+  rows-from : (acts : List Act) (v k : List ℕ) → Finds acts v k → complete (continued acts v k) ≡ true
+      → together (continued acts v k) ≡ drop (cursor_place k) all-rows
+  unfolding continued dump4_next_call part
+  rows-from [] v k f d = absurd (false≢true d)
+  rows-from (Act.call c ∷ acts) v k f d = rows-from acts (step c v).words k f d
+  rows-from (Act.next room rows ∷ acts) v k f d =
+      part-case k room k rows v
+      (λ (r : PartResult). (r.reply.number ≡ 0 → v ≡ w) × Finds acts v r.cursor → complete (r.reply ∷ continued acts v r.cursor) ≡ true
+      → r.reply.rows ++ together (continued acts v r.cursor) ≡ drop (cursor_place k) all-rows)
+      (λ z g e. part-from acts v k rows (g.0 refl) g.1 (rows-from acts v (part rows k v).cursor g.1) e)
+      (λ n h g e. rows-from acts v k g.1 e) f d
+
+  -- one that wasn't refused as it began is a part from the first place on, and what continues it
+  begins : (room : ℕ) (cursor : List ℕ) (rows : ℕ) (acts : List Act) → (dump4_begin_call room cursor rows w).reply.number ≡ 0
+      → listing room cursor rows acts w ≡ (part rows (begun w) w).reply ∷ continued acts w (part rows (begun w) w).cursor
+  unfolding listing dump4_begin_call
+  begins room cursor rows acts h =
+      ap (λ (r : PartResult). r.reply ∷ continued acts w r.cursor)
+      (part-passed (begun w) room cursor rows w (part-checked (begun w) room cursor rows w h))
+
+  whole : (room : ℕ) (cursor : List ℕ) (rows : ℕ) (acts : List Act) → (dump4_begin_call room cursor rows w).reply.number ≡ 0
+      → Finds acts w (part rows (begun w) w).cursor → complete (listing room cursor rows acts w) ≡ true
+      → together (listing room cursor rows acts w) ≡ all-rows
+  whole room cursor rows acts h f d =
+      let e = begins room cursor rows acts h in
+      ap together e
+      ∙ part-from acts w (begun w) rows refl f (rows-from acts w (part rows (begun w) w).cursor f) (ap complete (sym e) ∙ d)
+
+-- ---- no change
+finds-still : (w : List ℕ) (acts : List Act) (k : List ℕ) → Still w acts → Finds w acts w k
+finds-still w [] k s = tt
+finds-still w (Act.call c ∷ acts) k s = subst (λ (v : List ℕ). Finds w acts v k) (sym s.0) (finds-still w acts k s.1)
+finds-still w (Act.next room rows ∷ acts) k s = ((λ e. refl), finds-still w acts (dump4_next_call room k rows w).cursor s)
+
+pub saw-no-change : SawNoChange
+saw-no-change room cursor rows acts w n u d =
+    whole w room cursor rows acts n (finds-still w acts (part rows (begun w) w).cursor (still-unchanged w acts u)) d
+
+-- ---- by the count: and no part has the mark
+module _ (w : List ℕ) (below : change_count w < largest_count) where
+  part-clean : (acts : List Act) (k : List ℕ) (rows : ℕ) → cursor_count k ≡ change_count w → unmarked (continued acts w (part rows k w).cursor) ≡ true
+      → unmarked ((part rows k w).reply ∷ continued acts w (part rows k w).cursor) ≡ true
+  unfolding part
+  part-clean acts k rows e later =
+      let none = (no-mark-exactly (change_count w) (cursor_count k)).1 (sym e, (λ d. omega (arith, d))) in
+      and_both (eqb (mark_of (change_count w) (cursor_count k)) 0) (unmarked (continued acts w (part rows k w).cursor))
+      (eq-eqb (mark_of (change_count w) (cursor_count k)) 0 none) later
+
+  clean-from : (acts : List Act) (k : List ℕ) → Still w acts → cursor_count k ≡ change_count w → unmarked (continued acts w k) ≡ true
+  unfolding continued dump4_next_call part
+  clean-from [] k s e = refl
+  clean-from (Act.call c ∷ acts) k s e = ap (λ (v : List ℕ). unmarked (continued acts v k)) s.0 ∙ clean-from acts k s.1 e
+  clean-from (Act.next room rows ∷ acts) k s e =
+      part-case k room k rows w (λ (r : PartResult). unmarked (r.reply ∷ continued acts w r.cursor) ≡ true)
+      (λ z. part-clean acts k rows e (clean-from acts (part rows k w).cursor s e)) (λ n h. clean-from acts k s e)
+
+pub in-parts : InParts
+unfolding part
+in-parts room cursor rows acts w n h below d =
+    let s = still-counted w below acts h in
+    let k = (part rows (begun w) w).cursor in
+    record {
+      rows = whole w room cursor rows acts n (finds-still w acts k s) d;
+      clean = ap unmarked (begins w room cursor rows acts n) ∙ part-clean w below acts (begun w) rows refl (clean-from w below acts k s refl);
+    }
+
+-- ---- by the marks
+-- a part without it finds the words of the start
+module _ (w : List ℕ) (below : change_count w < largest_count) where
   part-same : (acts : List Act) (v k : List ℕ) (rows : ℕ) → Tells w v → cursor_count k ≡ change_count w
       → unmarked ((part rows k v).reply ∷ continued acts v (part rows k v).cursor) ≡ true → v ≡ w
   unfolding part
@@ -179,72 +150,20 @@ module _ (w : List ℕ) (below : change_count w < largest_count) where
       let none = eqb-true (mark_of (change_count v) (cursor_count k)) 0 (and_left (eqb (mark_of (change_count v) (cursor_count k)) 0) _ u) in
       t.same (((no-mark-exactly (change_count v) (cursor_count k)).0 none).0 ∙ e) below
 
-  behind-unmarked : (acts : List Act) (k : List ℕ) (rows : ℕ) → unmarked ((part rows k w).reply ∷ continued acts w (part rows k w).cursor) ≡ true
-      → unmarked (continued acts w (part rows k w).cursor) ≡ true
+  behind-unmarked : (acts : List Act) (v k : List ℕ) (rows : ℕ) → unmarked ((part rows k v).reply ∷ continued acts v (part rows k v).cursor) ≡ true
+      → unmarked (continued acts v (part rows k v).cursor) ≡ true
   unfolding part
-  behind-unmarked acts k rows u = and_right (eqb (mark_of (change_count w) (cursor_count k)) 0) _ u
+  behind-unmarked acts v k rows u = and_right (eqb (mark_of (change_count v) (cursor_count k)) 0) _ u
 
-  -- from a place past the end there is no row
-  none-past : (acts : List Act) (v k : List ℕ) → Tells w v → cursor_count k ≡ change_count w → length all-rows ≤ cursor_place k
-      → unmarked (continued acts v k) ≡ true
-      → together (continued acts v k) ≡ []
-  unfolding continued part
-  none-past [] v k t e z u = refl
-  none-past (Act.call c ∷ acts) v k t e z u =
-      none-past acts (step c v).words k (tells-through w v (step c v).words t (step-tells c v)) e z u
-  none-past (Act.next room rows ∷ acts) v k t e z u =
-      taken (λ (l : List Reply). unmarked l ≡ true → together l ≡ []) acts v k room rows
-      (λ m.
-      let s = part-same acts v k rows t e m in
-      subst (λ (x : List ℕ). together ((part rows k x).reply ∷ continued acts x (part rows k x).cursor) ≡ []) (sym s)
-      (rw (part-past (cursor_place k) rows all-rows z)
-      (none-past acts w (further 0 k) (stays-tells w) e (omega arith)
-      (rw (part-past (cursor_place k) rows all-rows z) at (behind-unmarked acts k rows (rw s at m))))))
-      (λ n m. none-past acts v k t e z m) u
-
-  -- the rows from a part on, where it reaches the end or those behind it do
-  part-from : (acts : List Act) (k : List ℕ) (rows : ℕ) → cursor_count k ≡ change_count w
-      → ((next : List ℕ) → cursor_count next ≡ change_count w → complete (continued acts w next) ≡ true → unmarked (continued acts w next) ≡ true
-      → together (continued acts w next) ≡ drop (cursor_place next) all-rows)
-      → complete ((part rows k w).reply ∷ continued acts w (part rows k w).cursor) ≡ true
-      → unmarked ((part rows k w).reply ∷ continued acts w (part rows k w).cursor) ≡ true
-      → together ((part rows k w).reply ∷ continued acts w (part rows k w).cursor) ≡ drop (cursor_place k) all-rows
-  unfolding part
-  part-from acts k rows c later d u =
-      let given = part_rows (cursor_place k) rows all-rows in
-      let next = cursor_place k + length given in
-      let on = behind-unmarked acts k rows u in
-      test-case (end_reached next all-rows)
-      (λ e.
-      let z = leb-true (length all-rows) next e in
-      ap (λ (l : List Row). given ++ l) (none-past acts w (further (length given) k) (stays-tells w) c z on ∙ sym (drop_of_length-le all-rows z))
-      ∙ given-rest (cursor_place k) rows all-rows)
-      (λ e.
-      ap (λ (l : List Row). given ++ l) (later (further (length given) k) c (rw e at d) on)
-      ∙ given-rest (cursor_place k) rows all-rows)
-
-  rows-from : (acts : List Act) (v k : List ℕ) → Tells w v → cursor_count k ≡ change_count w → complete (continued acts v k) ≡ true
-      → unmarked (continued acts v k) ≡ true
-      → together (continued acts v k) ≡ drop (cursor_place k) all-rows
-  unfolding continued
-  rows-from [] v k t e d u = absurd (false≢true d)
-  rows-from (Act.call c ∷ acts) v k t e d u =
-      rows-from acts (step c v).words k (tells-through w v (step c v).words t (step-tells c v)) e d u
-  rows-from (Act.next room rows ∷ acts) v k t e d u =
-      taken (λ (l : List Reply). complete l ≡ true → unmarked l ≡ true → together l ≡ drop (cursor_place k) all-rows) acts v k room rows
-      (λ f m.
-      let s = part-same acts v k rows t e m in
-      subst (λ (x : List ℕ). together ((part rows k x).reply ∷ continued acts x (part rows k x).cursor) ≡ drop (cursor_place k) all-rows) (sym s)
-      (part-from acts k rows e (λ next. rows-from acts w next (stays-tells w)) (rw s at f) (rw s at m)))
-      (λ n f m. rows-from acts v k t e f m) d u
-
--- a listing that begins is a part from the first place on, and what continues it
-begins : (room : ℕ) (cursor : List ℕ) (rows : ℕ) (acts : List Act) (w : List ℕ) → (dump4_begin_call room cursor rows w).reply.number ≡ 0
-    → listing room cursor rows acts w ≡ (part rows (begun w) w).reply ∷ continued acts w (part rows (begun w) w).cursor
-unfolding listing dump4_begin_call
-begins room cursor rows acts w h =
-    ap (λ (r : PartResult). r.reply ∷ continued acts w r.cursor)
-    (part-passed (begun w) room cursor rows w (part-checked (begun w) room cursor rows w h))
+  finds-unmarked : (acts : List Act) (v k : List ℕ) → Tells w v → cursor_count k ≡ change_count w → unmarked (continued acts v k) ≡ true → Finds w acts v k
+  unfolding continued dump4_next_call part
+  finds-unmarked [] v k t e u = tt
+  finds-unmarked (Act.call c ∷ acts) v k t e u = finds-unmarked acts (step c v).words k (tells-through w v (step c v).words t (step-tells c v)) e u
+  finds-unmarked (Act.next room rows ∷ acts) v k t e u =
+      part-case k room k rows v
+      (λ (r : PartResult). unmarked (r.reply ∷ continued acts v r.cursor) ≡ true → (r.reply.number ≡ 0 → v ≡ w) × Finds w acts v r.cursor)
+      (λ z m. ((λ i. part-same acts v k rows t e m), finds-unmarked acts v (part rows k v).cursor t e (behind-unmarked acts v k rows m)))
+      (λ n h m. ((λ i. absurd (h i)), finds-unmarked acts v k t e m)) u
 
 -- the first part is marked at the largest count
 first-below : (acts : List Act) (rows : ℕ) (w : List ℕ) → change_count w ≤ largest_count
@@ -256,36 +175,12 @@ first-below acts rows w h u =
     omega arith
 
 pub mark-tells : MarkTells
+unfolding part
 mark-tells room cursor rows acts w n h d u =
-    let e = begins room cursor rows acts w n in
-    let clean = ap unmarked (sym e) ∙ u in
+    let clean = ap unmarked (sym (begins w room cursor rows acts n)) ∙ u in
     let below = first-below acts rows w h clean in
-    ap together e ∙ part-from w below acts (begun w) rows refl (λ next. rows-from w below acts w next (stays-tells w)) (ap complete (sym e) ∙ d) clean
-
--- ---- where the count is the start's at the end, no part has the mark
-module _ (w : List ℕ) (below : change_count w < largest_count) where
-  part-clean : (acts : List Act) (k : List ℕ) (rows : ℕ) → cursor_count k ≡ change_count w
-      → ((next : List ℕ) → cursor_count next ≡ change_count w → unmarked (continued acts w next) ≡ true)
-      → unmarked ((part rows k w).reply ∷ continued acts w (part rows k w).cursor) ≡ true
-  unfolding part
-  part-clean acts k rows e later =
-      let none = (no-mark-exactly (change_count w) (cursor_count k)).1 (sym e, (λ d. omega (arith, d))) in
-      and_both (eqb (mark_of (change_count w) (cursor_count k)) 0) (unmarked (continued acts w (part rows k w).cursor))
-      (eq-eqb (mark_of (change_count w) (cursor_count k)) 0 none) (later (part rows k w).cursor e)
-
-  clean-from : (acts : List Act) (k : List ℕ) → change_count (words_after acts w) ≡ change_count w → cursor_count k ≡ change_count w
-      → unmarked (continued acts w k) ≡ true
-  unfolding words_after continued
-  clean-from [] k h e = refl
-  clean-from (Act.call c ∷ acts) k h e =
-      ap (λ (v : List ℕ). unmarked (continued acts v k)) (first-same w below c acts h) ∙ clean-from acts k (still w below c acts h) e
-  clean-from (Act.next room rows ∷ acts) k h e =
-      taken (λ (l : List Reply). unmarked l ≡ true) acts w k room rows (part-clean acts k rows e (λ next. clean-from acts next h)) (λ n. clean-from acts k h e)
-
-pub in-parts : InParts
-in-parts room cursor rows acts w n h below d =
-    let clean = ap unmarked (begins room cursor rows acts w n) ∙ part-clean w below acts (begun w) rows refl (λ next. clean-from w below acts next h) in
-    record { rows = mark-tells room cursor rows acts w n (omega arith) d clean; clean = clean }
+    let k = (part rows (begun w) w).cursor in
+    whole w room cursor rows acts n (finds-unmarked w below acts w k (stays-tells w) refl (behind-unmarked w below acts w (begun w) rows clean)) d
 
 -- ---- the mark of each part
 -- a part leaves the count that the cursor has, refused or not

@@ -88,8 +88,23 @@ complete parts = any (λ r. eqb r.second 1) parts
 abbrev pub unmarked : List Reply → Bool
 unmarked parts = all (λ r. eqb r.present 0) parts
 
--- "A listing that saw no change gives what `dump4` gave at its start": one that wasn't refused as it began, was continued until a part
--- reached the end (or further), and after all that happened finds the count to be the start's and not the largest
+-- no call of the run changes an address, a row or a table
+abbrev pub Unchanged : List Act → List ℕ → Type 0
+Unchanged [] w = Unit {0}
+Unchanged (Act.call c ∷ acts) w = (base (step c w).words ≡ base w) × Unchanged acts (step c w).words
+Unchanged (Act.next room rows ∷ acts) w = Unchanged acts w
+
+-- "A listing that saw no change gives what `dump4` gave at its start": one that wasn't refused as it began and was continued, by parts of
+-- any sizes at any moments, until one reached the end (or further), be the count at its largest or not
+abbrev pub SawNoChange : Type 0
+SawNoChange =
+    (room : ℕ) (cursor : List ℕ) (rows : ℕ) (acts : List Act) (w : List ℕ) →
+    (dump4_begin_call room cursor rows w).reply.number ≡ 0 →
+    Unchanged acts w →
+    complete (listing room cursor rows acts w) ≡ true →
+    together (listing room cursor rows acts w) ≡ dump4 (state_of w)
+
+-- The count says that there was none, where after all that happened it is the start's and not the largest; then no part has the mark.
 pub record Whole (parts : List Reply) (w : List ℕ) : Type 0 where
   pub rows : together parts ≡ dump4 (state_of w)
   pub clean : unmarked parts ≡ true
