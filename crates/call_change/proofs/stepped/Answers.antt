@@ -1,6 +1,6 @@
--- `call_change::changed` meets its contract: what is handed back is what was lent.
+-- `call_change::stepped` meets its contract: what is handed back is what was lent.
 use Rattle.std.proofs.Common.{rules, sym, ◌∙◌}
-use Rattle.call_change.proofs.changed.Goals as goal
+use Rattle.call_change.proofs.stepped.Goals as goal
 
 pub returns : goal.returns
 returns g c =

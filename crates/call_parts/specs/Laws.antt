@@ -1,0 +1,2 @@
+-- The answers of a part, by its checks.
+-- Assumes nothing.

@@ -1,0 +1,2 @@
+-- Whether a request makes another row, by the place of the address that it asks for.
+-- Assumes nothing.
