@@ -1,7 +1,7 @@
--- One part: the mark, and the next place.
+-- One part: the mark, the next place, the end, and what the first part looks at.
 -- Assumes nothing.
-use Rattle.std.specs.Prelude.{ℕ, ◌+◌, ◌*◌, ◌<◌, ◌≤◌, min, ◌≡◌, refl, Bool, true, false, cond, not, ◌&&◌, ◌||◌, List, ◌↔◌, ◌≢◌, eqb, leb, length}
-use Rattle.std.proofs.Common.{sym, ap, ◌∙◌, arith, length-take, length-drop, eqb-true, eq-eqb, ne_eqb}
+use Rattle.std.specs.Prelude.{ℕ, ◌+◌, ◌*◌, ◌<◌, ◌≤◌, min, ◌≡◌, refl, Bool, true, false, cond, not, ◌&&◌, ◌||◌, List, [], ◌↔◌, ◌≢◌, eqb, leb, length}
+use Rattle.std.proofs.Common.{sym, ap, ◌∙◌, arith, length-take, length-drop, eqb-true, eq-eqb, ne_eqb, le-leb}
 use Rattle.std.proofs.lemmas.Bool.{eqb-false, not-true, false≢true}
 use mathlib.Core.Logic.{◌⊎◌, inl, inr, ⊎_elim}
 use Rattle.lists.specs.Lists.{Row}
@@ -13,7 +13,7 @@ use Rattle.definition.proofs.Preservation.Step.{good-held}
 use Rattle.definition.proofs.Preservation.Reading.{dump4-listing}
 use Rattle.definition_parts.specs.Parts.{cursor_place, cursor_count, begun, interrupted_mark, mark_of, part_rows, part, part_checks, part_from, dump4_begin_call, dump4_next_call}
 use Rattle.definition_parts.specs.Statement.{Marked}
-use Rattle.definition_parts.specs.Laws.{part-passed, part-checked, passed}
+use Rattle.definition_parts.specs.Laws.{part-passed, part-checked, part-past, passed}
 
 -- ---- the mark
 marked : (b : Bool) → (cond b interrupted_mark 0 ≡ interrupted_mark) ↔ (b ≡ true)
@@ -77,6 +77,15 @@ pub next-word : (k : List ℕ) (room : ℕ) (cursor : List ℕ) (rows : ℕ) (w 
 unfolding part
 next-word k room cursor rows w z h =
     next-place (cursor_place k) rows (dump4 (state_of w)) (dump4-listing (state_of w) (good-held w (passed room cursor rows w z).held)).0 h
+
+-- "A place past the end gives no row and finishes it"
+pub past-end : (room : ℕ) (k : List ℕ) (rows : ℕ) (w : List ℕ) → (dump4_next_call room k rows w).reply.number ≡ 0 → length (dump4 (state_of w)) ≤ cursor_place k
+    → ((dump4_next_call room k rows w).reply.rows ≡ []) × ((dump4_next_call room k rows w).reply.second ≡ 1)
+unfolding dump4_next_call part
+past-end room k rows w h z =
+    let l = dump4 (state_of w) in
+    rw (part-passed k room k rows w (part-checked k room k rows w h), part-past (cursor_place k) rows l z)
+    (refl, (rw (le-leb (length l) (cursor_place k + 0) (omega (arith, z))) refl))
 
 -- dump4_begin looks at nothing in the cursor but its length, and writes all of it
 pub begin-whatever : (room : ℕ) (k j : List ℕ) (rows : ℕ) (w : List ℕ) → length k ≡ length j → (dump4_begin_call room k rows w).reply.number ≡ 0
