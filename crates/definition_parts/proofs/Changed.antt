@@ -19,7 +19,11 @@ use Rattle.definition.specs.Preservation.Encode.{Admissible, encodable, decode-e
 use Rattle.definition.proofs.Preservation.Change.{Acts, lawful}
 use Rattle.definition.proofs.Preservation.Step.{Held, base-long, good-held, good-result, base-leaves, checked-sound, acted, perform-case}
 use Rattle.definition_parts.specs.Rule.{has_events, more_tables, fewer_routes, row_changes, Rule, never, by_routes, by_events, by_row, rule_of, tells, altered}
-use Rattle.definition_parts.proofs.Altered.{Says, up-says, down-says, add_v4-says, del_v4-says, expire-says, add_route4-says, del_route4-says}
+use Rattle.definition_parts.proofs.Altered.Says.{Says}
+use Rattle.definition_parts.proofs.Altered.Up.{up-says, down-says}
+use Rattle.definition_parts.proofs.Altered.Removal.{del_route4-says, del_v4-says, expire-says}
+use Rattle.definition_parts.proofs.Altered.Routes.{add_route4-says}
+use Rattle.definition_parts.proofs.Altered.Addresses.{add_v4-says}
 
 -- ---- well-formed words and their state
 module _ (w : List ℕ) (h : Held w) where

@@ -81,6 +81,16 @@ countings =
       lists = 1 ∷ 2 ∷ 2 ∷ [];
       count = 2 ∷ 0 ∷ [];
     }
+    -- an `expire` before anything is due doesn't count; one that marks an address does, and one that takes it
+    ∷ record {
+      low = 0;
+      high = 0;
+      calls = ask_v4 (ip 10 1 0 5) 24 9 8 0 ∷ Call.expire event_room 0 ∷ Call.expire event_room 8000000000 ∷ Call.expire event_room 9000000000 ∷ [];
+      numbers = 0 ∷ 0 ∷ 0 ∷ 0 ∷ [];
+      values = 4 ∷ 0 ∷ 1 ∷ 4 ∷ [];
+      lists = 0 ∷ 0 ∷ 2 ∷ [];
+      count = 3 ∷ 0 ∷ [];
+    }
     -- into the high word; and no further than the largest
     ∷ record { low = 4294967295; high = 6; calls = up ∷ []; numbers = 0 ∷ []; values = 4 ∷ []; lists = 1 ∷ 3 ∷ 2 ∷ []; count = 0 ∷ 7 ∷ [] }
     ∷ record {

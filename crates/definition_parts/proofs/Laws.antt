@@ -1,7 +1,7 @@
--- One part: the mark, and the next place.
+-- One part: the mark, the next place, the end, and what the first part looks at.
 -- Assumes nothing.
-use Rattle.std.specs.Prelude.{ℕ, ◌+◌, ◌*◌, ◌<◌, ◌≤◌, min, ◌≡◌, refl, Bool, true, false, cond, not, ◌&&◌, ◌||◌, List, ◌↔◌, ◌≢◌, eqb, leb, length}
-use Rattle.std.proofs.Common.{sym, ap, ◌∙◌, arith, length-take, length-drop, eqb-true, eq-eqb, ne_eqb}
+use Rattle.std.specs.Prelude.{ℕ, ◌+◌, ◌*◌, ◌<◌, ◌≤◌, min, ◌≡◌, refl, Bool, true, false, cond, not, ◌&&◌, ◌||◌, List, [], ◌↔◌, ◌≢◌, eqb, leb, length}
+use Rattle.std.proofs.Common.{sym, ap, ◌∙◌, arith, length-take, length-drop, eqb-true, eq-eqb, ne_eqb, le-leb}
 use Rattle.std.proofs.lemmas.Bool.{eqb-false, not-true, false≢true}
 use mathlib.Core.Logic.{◌⊎◌, inl, inr, ⊎_elim}
 use Rattle.lists.specs.Lists.{Row}
@@ -11,8 +11,9 @@ use Rattle.definition.specs.Step.{checked, unless}
 use Rattle.definition.specs.Reference.Source.{dump4}
 use Rattle.definition.proofs.Preservation.Step.{good-held}
 use Rattle.definition.proofs.Preservation.Reading.{dump4-listing}
-use Rattle.definition_parts.specs.Parts.{cursor_place, cursor_count, begun, interrupted_mark, mark_of, part_rows, part, part_checks, dump4_begin_call, dump4_next_call}
-use Rattle.definition_parts.specs.Laws.{part-passed, part-checked, passed}
+use Rattle.definition_parts.specs.Parts.{cursor_place, cursor_count, begun, interrupted_mark, mark_of, part_rows, part, part_checks, part_from, dump4_begin_call, dump4_next_call}
+use Rattle.definition_parts.specs.Statement.{Marked}
+use Rattle.definition_parts.specs.Laws.{part-passed, part-checked, part-past, passed}
 
 -- ---- the mark
 marked : (b : Bool) → (cond b interrupted_mark 0 ≡ interrupted_mark) ↔ (b ≡ true)
@@ -46,20 +47,24 @@ no-mark-exactly count start = (
     not-false true e = refl
     not-false false e = sym e
 
--- of the calls, where they aren't refused: dump4_next by the cursor that it is lent, dump4_begin by the largest count alone
+-- of a part from the cursor k on: by its count
 module _ (room : ℕ) (k : List ℕ) (rows : ℕ) (w : List ℕ) where
-  pub next-mark : (dump4_next_call room k rows w).reply.number ≡ 0
-      → ((dump4_next_call room k rows w).reply.present ≡ 0x10) ↔ ((change_count w ≢ cursor_count k) ⊎ (change_count w ≡ largest_count))
-  unfolding dump4_next_call part
-  next-mark h = rw (part-passed k room k rows w (part-checked k room k rows w h)) (mark-exactly (change_count w) (cursor_count k))
+  from-marked : (j : List ℕ) → Marked (part_from j room k rows w).reply (change_count w) (cursor_count j)
+  unfolding part
+  from-marked j =
+      record {
+        mark = λ h. rw (part-passed j room k rows w (part-checked j room k rows w h)) (mark-exactly (change_count w) (cursor_count j));
+        none = λ h. rw (part-passed j room k rows w (part-checked j room k rows w h)) (no-mark-exactly (change_count w) (cursor_count j));
+      }
 
-  pub begin-mark : (dump4_begin_call room k rows w).reply.number ≡ 0
-      → ((dump4_begin_call room k rows w).reply.present ≡ 0x10) ↔ (change_count w ≡ largest_count)
-  unfolding dump4_begin_call part
-  begin-mark h =
-      rw (part-passed (begun w) room k rows w (part-checked (begun w) room k rows w h)) (
-      let m = mark-exactly (change_count w) (change_count w) in
-      ((λ e. ⊎_elim (λ d. absurd (d refl)) (λ d. d) (m.0 e)), (λ d. m.1 (inr d))))
+  -- dump4_next by the cursor that it is lent, dump4_begin by the largest count alone
+  pub next-marked : Marked (dump4_next_call room k rows w).reply (change_count w) (cursor_count k)
+  unfolding dump4_next_call
+  next-marked = from-marked k
+
+  pub begin-marked : Marked (dump4_begin_call room k rows w).reply (change_count w) (change_count w)
+  unfolding dump4_begin_call
+  begin-marked = from-marked (begun w)
 
 -- ---- the next place
 -- of a list of at most 256 rows it is a word where the place is one, past the end too
@@ -72,6 +77,15 @@ pub next-word : (k : List ℕ) (room : ℕ) (cursor : List ℕ) (rows : ℕ) (w 
 unfolding part
 next-word k room cursor rows w z h =
     next-place (cursor_place k) rows (dump4 (state_of w)) (dump4-listing (state_of w) (good-held w (passed room cursor rows w z).held)).0 h
+
+-- "A place past the end gives no row and finishes it"
+pub past-end : (room : ℕ) (k : List ℕ) (rows : ℕ) (w : List ℕ) → (dump4_next_call room k rows w).reply.number ≡ 0 → length (dump4 (state_of w)) ≤ cursor_place k
+    → ((dump4_next_call room k rows w).reply.rows ≡ []) × ((dump4_next_call room k rows w).reply.second ≡ 1)
+unfolding dump4_next_call part
+past-end room k rows w h z =
+    let l = dump4 (state_of w) in
+    rw (part-passed k room k rows w (part-checked k room k rows w h), part-past (cursor_place k) rows l z)
+    (refl, (rw (le-leb (length l) (cursor_place k + 0) (omega (arith, z))) refl))
 
 -- dump4_begin looks at nothing in the cursor but its length, and writes all of it
 pub begin-whatever : (room : ℕ) (k j : List ℕ) (rows : ℕ) (w : List ℕ) → length k ≡ length j → (dump4_begin_call room k rows w).reply.number ≡ 0
