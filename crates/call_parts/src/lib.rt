@@ -5,6 +5,7 @@
 ghost use Rattle.std.specs.Prelude.{◌≡◌, ◌*◌, ◌+◌, ◌≤◌, ◌<◌, ◌&&◌, true, false, cond, min, leb, length, get_or};
 ghost use Rattle.refusal.specs.Refusal.{Refuses};
 ghost use Rattle.lists.specs.Lists.{flat, put};
+ghost use Rattle.lists.specs.Rows.{sized};
 ghost use Rattle.layout.specs.Route as Route;
 ghost use Rattle.definition.specs.Words.{state_size, decode, none_twice};
 ghost use Rattle.definition.specs.Step.{unless};
@@ -72,9 +73,10 @@ struct Taken {
 // The rows of the listing from a place on, at most so many, at the start of the buffer.
 fn take(s: Stored<'_>, listing: &mut [u32], place: u32, rows: u32) -> Taken
     requires distinct { none_twice (decode s.words.now).tables ≡ true }
+    requires few { (length (dump4 (decode s.words.now)) ≤ 256) × (sized 32 (dump4 (decode s.words.now)) ≡ true) }
     requires room { (rows ≤ 256) × (32 * rows ≤ length listing.old) }
     ensures rows { result.rows ≡ length (part_rows place rows (dump4 (decode s.entry.words.now))) }
-    ensures few { result.rows + place < 4294967296 }
+    ensures next { result.rows + place < 4294967296 }
     ensures complete { result.complete ≡ end_reached (place + result.rows) (dump4 (decode s.entry.words.now)) }
     ensures listing_after { listing.new ≡ put 0 (flat (part_rows place rows (dump4 (decode s.entry.words.now)))) listing.old }
 {
@@ -90,7 +92,7 @@ fn take(s: Stored<'_>, listing: &mut [u32], place: u32, rows: u32) -> Taken
 }
 
 // A part of a listing, and where the next one goes on. At the start nothing in the cursor is looked at.
-pub fn part(
+pub fn dump4_part(
     place: Place,
     state: &[u32],
     listing: &mut [u32],
