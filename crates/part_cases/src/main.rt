@@ -2,7 +2,7 @@
 // the answer and the checks of all words of the listing's buffer and of the cursor.
 #![tactic(auto)]
 
-ghost use Rattle.std.specs.Prelude.{◌×◌, ◌≤◌, length};
+ghost use Rattle.std.specs.Prelude.{◌≤◌};
 
 use call_parts::Part;
 use layout::STATE_WORDS;
@@ -52,8 +52,18 @@ fn replay_part(rt: &impl Print, i: u32, head: Head, state: &[u32], room: usize, 
     let [_, begins, rows, _, _, _, place, low, high, behind] = head;
     let mut listing = [PATTERN; ROOM];
     let mut cursor = [place, low, high, behind];
-    let answer = take(begins == 1, state, &mut listing[..room], &mut cursor[..lent], rows);
-    let _ = println!(rt; "{i}: {answer}, checks {} {}", recorded::check(&listing), recorded::check(&cursor));
+    let answer = take(
+        begins == 1,
+        state,
+        &mut listing[..room],
+        &mut cursor[..lent],
+        rows,
+    );
+    let _ = println!(rt;
+        "{i}: {answer}, checks {} {}",
+        recorded::check(&listing),
+        recorded::check(&cursor)
+    );
 }
 
 // A word of the state and what it becomes. None where the input ends sooner, or there is no such word.
@@ -73,7 +83,12 @@ fn read_changes(input: &mut impl Read, state: &mut [u32; HELD], changes: u32) ->
 }
 
 // The next record. None where there is no whole one.
-fn replay_record(rt: &impl Print, input: &mut impl Read, i: u32, state: &mut [u32; HELD]) -> Option<()> {
+fn replay_record(
+    rt: &impl Print,
+    input: &mut impl Read,
+    i: u32,
+    state: &mut [u32; HELD],
+) -> Option<()> {
     let mut head = [0u32; 10];
     streams::read_words(input, &mut head).ok()?;
     read_changes(input, state, head[0])?;

@@ -90,7 +90,8 @@ impl Addresses {
         &self.state
     }
 
-    /// [`Self::from_words`] of little-endian bytes.
+    /// [`Self::from_words`] of little-endian bytes. Those that an older
+    /// library left, 38,028, are taken with eight bytes of 0 behind them.
     ///
     /// # Errors
     /// As there.

@@ -237,6 +237,8 @@ fn states_without_a_count() {
     assert_eq!(Addresses::from_words(kept), Err(Refused::UNFIT_BUFFER));
     let bytes = &lo.to_bytes()[..4 * COUNT.start];
     assert_eq!(Addresses::from_bytes(bytes), Err(Refused::UNFIT_BUFFER));
+    let taken = Addresses::from_bytes(&[bytes, &[0; 8]].concat()).unwrap();
+    assert_eq!((&taken, taken.changes()), (&lo, 0));
     for words in [0, 9_506, 9_508, STATE_WORDS + 1] {
         let refused = Addresses::from_older_words(&vec![0; words]);
         assert_eq!(refused, Err(Refused::UNFIT_BUFFER));
