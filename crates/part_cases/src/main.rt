@@ -4,7 +4,7 @@
 
 ghost use Rattle.std.specs.Prelude.{◌≤◌};
 
-use call_parts::Part;
+use call_parts::{Part, Place};
 use layout::STATE_WORDS;
 use refusal::Refusal;
 use std::fmt;
@@ -27,7 +27,16 @@ struct Answer(Result<Part, Refusal>);
 impl fmt::Display for Answer {
     fn fmt<W: fmt::Write>(&self, f: &mut fmt::Formatter<W>) -> fmt::Result {
         match self.0 {
-            Ok(Part { rows, mark, end }) => write!(f, "{rows} rows, mark {mark}, end {end}"),
+            Ok(
+                Part {
+                    rows,
+                    interrupted,
+                    complete,
+                },
+            ) => {
+                let mark = if interrupted { 16 } else { 0 };
+                write!(f, "{rows} rows, mark {mark}, end {}", complete as u32)
+            }
             Err(refusal) => write!(f, "{}", refusal.number()),
         }
     }
@@ -37,28 +46,25 @@ impl fmt::Display for Answer {
 // part, the rows asked for, the words lent of the state, of the buffer and of the cursor, and the cursor's four words.
 type Head = [u32; 10];
 
-fn take(begins: bool, state: &[u32], listing: &mut [u32], cursor: &mut [u32], rows: u32) -> Answer {
-    Answer(if begins {
-        call_parts::begin(state, listing, cursor, rows)
-    } else {
-        call_parts::next(state, listing, cursor, rows)
-    })
-}
-
 // A part of the state's words, with so many words of the buffer and of the cursor lent.
 fn replay_part(rt: &impl Print, i: u32, head: Head, state: &[u32], room: usize, lent: usize)
     requires { (room ≤ 8300) × (lent ≤ 4) }
 {
-    let [_, begins, rows, _, _, _, place, low, high, behind] = head;
+    let [_, begins, rows, _, _, _, at, low, high, behind] = head;
     let mut listing = [PATTERN; ROOM];
-    let mut cursor = [place, low, high, behind];
-    let answer = take(
-        begins == 1,
+    let mut cursor = [at, low, high, behind];
+    let place = if begins == 1 {
+        Place::Start
+    } else {
+        Place::Cursor
+    };
+    let answer = Answer(call_parts::part(
+        place,
         state,
         &mut listing[..room],
         &mut cursor[..lent],
         rows,
-    );
+    ));
     let _ = println!(rt;
         "{i}: {answer}, checks {} {}",
         recorded::check(&listing),
