@@ -35,7 +35,7 @@ impl fmt::Display for Answer {
                 },
             ) => {
                 let mark = if interrupted { 16 } else { 0 };
-                write!(f, "{rows} rows, mark {mark}, end {}", complete as u32)
+                write!(f, "{rows} rows, mark {mark}, end {}", u32::from(complete))
             }
             Err(refusal) => write!(f, "{}", refusal.number()),
         }
