@@ -289,6 +289,7 @@ fn part<E: Element>(mut ask: Ask, state: &mut [E], listing: &mut [E], cursor: &m
         "next for begin" => ask.take = Take::Next,
         _ => {}
     }
+    let before = cursor.to_vec();
     let mut reply = Reply::from(E::part(ask, state, listing, cursor));
     match fault.as_str() {
         "swapped mark and end" => (reply.present, reply.second) = (reply.second, reply.present),
@@ -299,6 +300,10 @@ fn part<E: Element>(mut ask: Ask, state: &mut [E], listing: &mut [E], cursor: &m
         "past the listing" => unsafe {
             listing.as_mut_ptr_range().end.write(E::default());
         },
+        "the cursor's last word not written back" if !E::ALIGNED => {
+            let last = before.len().saturating_sub(4);
+            cursor[last..].copy_from_slice(&before[last..]);
+        }
         "a part clears what it reads" => state.fill(E::default()),
         "the listing cleared behind" if reply.number == 0 => {
             if let Some(last) = listing.last_mut() {

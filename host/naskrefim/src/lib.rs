@@ -8,8 +8,8 @@
 //! slices, for hosts that keep the state elsewhere. [`Request`] is what an
 //! rtnetlink message asks for, as it comes off the socket, and
 //! [`Addresses::perform`] does it; [`Event::message`] is what those who
-//! listen are told. No function of this crate is unsafe, whatever it is
-//! given.
+//! listen are told. [`Parts`] lists the routes a few at a time while other
+//! calls go on. No function of this crate is unsafe, whatever it is given.
 //!
 //! ```
 //! use core::net::Ipv4Addr;
