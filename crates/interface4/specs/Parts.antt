@@ -1,23 +1,22 @@
 -- Parts of a listing on words and on bytes: where there are as many bytes as there must be, the part on their words, given back as bytes.
 -- Assumes nothing.
-use Rattle.std.specs.Prelude.{ℕ, ◌+◌, ◌*◌, ◌≤◌, min, ◌≡◌, refl, Bool, true, false, cond, ◌&&◌, List, eqb, leb, length, take, Ok, Err}
+use Rattle.std.specs.Prelude.{ℕ, ◌*◌, ◌≤◌, min, ◌≡◌, refl, true, false, ◌&&◌, List, eqb, leb, length, take}
 use Rattle.std.specs.Prelude.{Result as Answer}
-use Rattle.std.proofs.Common.{arith, sym, ap, subst, ◌∙◌, take_all, eqb-true, leb-true}
+use Rattle.std.proofs.Common.{arith, sym, ap, ◌∙◌, take_all, eqb-true, leb-true}
 use Rattle.lists.specs.Lists.{flat, put}
 use Rattle.lists.specs.Rows.{length-flat}
 use Rattle.lists.specs.Put.{put_whole}
-use Rattle.lists.specs.Bools.{and_left, and_right, cond-true, cond-false}
+use Rattle.lists.specs.Bools.{and_left, and_right}
 use Rattle.refusal.specs.declared.Refusal.{Refusal}
 use Rattle.endian.specs.Endian.{words_of, bytes_of}
 use Rattle.endian.specs.Laws.{length-words_of, length-bytes_of}
-use Rattle.definition.specs.Call as Call
 use Rattle.definition.specs.Call.{refusal}
 use Rattle.definition.specs.Words.{state_size, state_of}
 use Rattle.definition.specs.Step.{listing_room}
 use Rattle.definition.specs.Reference.Source.{dump4}
-use Rattle.definition_bytes.specs.Bytes.{on_bytes, state_fits}
+use Rattle.definition_bytes.specs.Bytes.{state_fits}
 use Rattle.definition_bytes.specs.Parts.{part_suffices, part_on_bytes}
-use Rattle.definition_parts.specs.Parts.{cursor_place, begun, PartResult, part, part_limit, part_from}
+use Rattle.definition_parts.specs.Parts.{cursor_place, PartResult, part}
 use Rattle.definition_parts.specs.Laws.{PartShape, part-case, part-few, part-shaped}
 use Rattle.call_read.specs.Answer.{Writes, answer_by}
 use Rattle.call_parts.specs.declared.Part.{Part}

@@ -13,18 +13,10 @@ use refusal::Refusal;
 
 const CURSOR_BYTES: usize = 4 * CURSOR_WORDS;
 
-fn part(
-    place: Place,
-    state: &[u32],
-    listing: &mut [u32],
-    cursor: &mut [u32],
-    rows: u32,
-) -> Reply
+fn part(place: Place, state: &[u32], listing: &mut [u32], cursor: &mut [u32], rows: u32) -> Reply
     ensures { PartMade (part_call place (length listing.old) cursor.old rows state.now) listing.old result listing.new cursor.new }
 {
-    Reply::of(call_parts::dump4_part(
-        place, state, listing, cursor, rows,
-    ))
+    Reply::of(call_parts::dump4_part(place, state, listing, cursor, rows))
 }
 
 #[unsafe(no_mangle)]
@@ -61,7 +53,9 @@ fn part_on_bytes(
     ensures { PartMadeOn (part_call_on_bytes place (length listing.old) cursor.old rows state.now) listing.old result listing.new cursor.new }
 {
     let room = 4 * call_parts::room_for(rows);
-    if !((state.len() == STATE_BYTES) & ((cursor.len() == CURSOR_BYTES) & (room <= listing.len()))) {
+    if !((state.len() == STATE_BYTES)
+        & ((cursor.len() == CURSOR_BYTES) & (room <= listing.len())))
+    {
         return Reply::from(Refusal::WrongLength);
     }
     let mut s = [0u32; STATE_WORDS];

@@ -58,7 +58,7 @@ fn replay_part(rt: &impl Print, i: u32, head: Head, state: &[u32], room: usize, 
     } else {
         Place::Cursor
     };
-    let answer = Answer(call_parts::part(
+    let answer = Answer(call_parts::dump4_part(
         place,
         state,
         &mut listing[..room],
