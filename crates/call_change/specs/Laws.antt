@@ -1,23 +1,29 @@
 -- A changing call's answer and what it leaves, by its checks and by what the step below it left of the words that it was lent.
 -- Assumes nothing.
-use Rattle.std.specs.Prelude.{ℕ, ◌≤◌, ◌≡◌, ◌≢◌, refl, Bool, true, false, ◌&&◌, List, [], ◌++◌, eqb, length, drop, Err, IsErrAnd}
+use Rattle.std.specs.Prelude.{ℕ, ◌≤◌, ◌≡◌, ◌≢◌, refl, Bool, true, false, ◌&&◌, ◌||◌, List, [], ◌++◌, eqb, ltb, length, Ok, Err, IsErrAnd}
 use Rattle.std.specs.Prelude.{Result as Answer}
-use Rattle.std.proofs.Common.{arith, sym, ap, subst, ◌∙◌, take-append-drop, ne_eqb, eq-eqb, leb-true}
+use Rattle.std.proofs.Common.{arith, sym, ap, subst, ◌∙◌, take_at, ne_eqb, eq-eqb, leb-true}
 use Rattle.std.proofs.Math.Bool.{and-false}
 use Rattle.lists.specs.Lists.{Row, flat, put}
 use Rattle.lists.specs.Put.{put-no-rows}
-use Rattle.lists.specs.Bools.{and_right, cond-true, cond-false}
-use Rattle.definition.specs.Words.{base_size, state_size, encode, base, leaves}
-use Rattle.definition.specs.Call.{numbers}
-use Rattle.definition.specs.Step.{Result, refuses, Semantics, checked, answered, result, roomy, outcome, perform, request_is, events_fit, event_room}
+use Rattle.lists.specs.Bools.{and_right}
+use Rattle.definition.specs.State.{State}
+use Rattle.definition.specs.Words.{base_size, state_size, encode, base, table_count, changed, counted, leaves}
+use Rattle.definition.specs.Call.{Call, Reply, Numbers, numbers}
+use Rattle.definition.specs.Step.{Result, Semantics, checked, answered, result, roomy, outcome, perform, request_is, events_fit, event_room, step}
 use Rattle.definition.specs.Reference.Addresses.{Outcome}
-use Rattle.definition.proofs.Preservation.Step.{acted}
+use Rattle.definition.specs.Preservation.Encode.{length-encode}
+use Rattle.definition.proofs.Preservation.Step.{Held, acted}
+use Rattle.definition_parts.specs.Rule.{has_events, altered}
+use Rattle.definition_parts.proofs.Counting.{step-words}
+use Rattle.state.specs.Represents.{Represents, holds-encodable}
 use Rattle.call_read.specs.Laws.{Passed, call-refused, call-passed, exit, refuses_some}
 use Rattle.call_read.specs.Answer.{answer_by, valuing, refused_by}
 use Rattle.refusal.specs.declared.Refusal.{Refusal}
 use Rattle.refusal.specs.declared.Refusal.TheVariants.{WrongLength, Full}
 use Rattle.refusal.specs.Refusal.{number_of, Refuses}
 use Rattle.call_change.specs.Answer.{Answers}
+use Rattle.call_change.specs.Ran.{told_some}
 
 -- ---- the checks of a call by a request of so many words
 module _ (size : ℕ) (q : Row) (w : List ℕ) where
@@ -59,16 +65,40 @@ module _ (s : Semantics) (w : List ℕ) where
   pub answers-passed : {w' ev ev' : List ℕ} {r : Answer ℕ Refusal} → Passed s.checks w → Answers (acted s.action w) w' ev ev' r → Answers (perform s w) w' ev ev' r
   answers-passed p a = answers_as (call-passed s w p) a
 
--- ---- a step that left v of the words that it was lent: behind them stands what stood there
-module _ (o : Outcome) (w : List ℕ) {v ev ev' : List ℕ} {r : Answer ℕ Refusal} where
-  pub answers-made : roomy o ≡ true → v ≡ encode (result o) → Refuses r (answered o).number → answer_by valuing r ≡ numbers (answered o) → ev' ≡ put 0 (flat (answered o).rows) ev
-      → Answers (outcome o w) (v ++ drop base_size w) ev ev' r
-  answers-made h e a b d =
-      answers_as (cond-true (roomy o) (record { reply = answered o; words = leaves w (result o) }) (refuses 203 w) h)
-      (record { refuses = a; says = b; words = ap (λ (l : List ℕ). l ++ drop base_size w) e; events = d })
+-- ---- a step's answer, and what it left of the words of the lists and of the event buffer, by the result that the definition gives
+pub record Left (x : Result) (v ev ev' : List ℕ) (r : Answer ℕ Refusal) : Type 0 where
+  pub refuses : Refuses r x.reply.number
+  pub says : answer_by valuing r ≡ numbers x.reply
+  pub lists : v ≡ base x.words
+  pub events : ev' ≡ put 0 (flat x.reply.rows) ev
 
-  pub answers-full : roomy o ≡ false → v ≡ base w → r ≡ Err Full → ev' ≡ put 0 (flat []) ev → Answers (outcome o w) (v ++ drop base_size w) ev ev' r
-  answers-full h e a d =
-      answers_as (cond-false (roomy o) (record { reply = answered o; words = leaves w (result o) }) (refuses 203 w) h)
-      (subst (λ (x : Answer ℕ Refusal). Answers (refuses 203 w) (v ++ drop base_size w) ev ev' x) (sym a)
-      (record { refuses = (refl, λ z. omega (arith, z)); says = refl; words = ap (λ (l : List ℕ). l ++ drop base_size w) e ∙ take-append-drop base_size w; events = d }))
+left-lists : {v : List ℕ} {st : State} (w : List ℕ) → Represents v st → v ≡ base (leaves w st)
+left-lists {st = st} w h = h.words ∙ sym (take_at (encode st) (counted (changed w st) w) base_size (length-encode st (holds-encodable h)))
+
+module _ (o : Outcome) (w : List ℕ) {v ev ev' : List ℕ} {r : Answer ℕ Refusal} where
+  pub left-made : roomy o ≡ true → Represents v (result o) → Refuses r (answered o).number → answer_by valuing r ≡ numbers (answered o) → ev' ≡ put 0 (flat (answered o).rows) ev
+      → Left (outcome o w) v ev ev' r
+  left-made h e a b d = rw h (record { refuses = a; says = b; lists = left-lists w e; events = d })
+
+  pub left-full : roomy o ≡ false → v ≡ base w → r ≡ Err Full → ev' ≡ put 0 (flat []) ev → Left (outcome o w) v ev ev' r
+  left-full h e a d = rw (h, a) (record { refuses = (refl, λ z. omega (arith, z)); says = refl; lists = e; events = d })
+
+-- it told a row exactly where the reply has one
+some-told : (r : Answer ℕ Refusal) (x : Reply) → answer_by valuing r ≡ numbers x → told_some r ≡ has_events x
+some-told (Ok n) x e = ap (λ (m : Numbers). ltb 0 m.value) e
+some-told (Err d) x e = ap (λ (m : Numbers). ltb 0 m.value) e
+
+-- behind the lists the change is counted, as the rule for the call says
+pub counts : (c : Call) {w v w' ev ev' : List ℕ} {r : Answer ℕ Refusal} (other : Bool) → Held w → Left (step c w) v ev ev' r
+    → ((x : Reply) → altered c w x v ≡ (has_events x && other) || ltb (table_count w) (table_count v))
+    → w' ≡ v ++ counted ((told_some r && other) || ltb (table_count w) (table_count v)) w
+    → Answers (step c w) w' ev ev' r
+counts c {w} {v} {r = r} other h t rule e =
+    record {
+      refuses = t.refuses;
+      says = t.says;
+      words =
+          e ∙ ap (λ (b : Bool). v ++ counted ((b && other) || ltb (table_count w) (table_count v)) w) (some-told r (step c w).reply t.says)
+          ∙ ap (λ (b : Bool). v ++ counted b w) (sym (rule (step c w).reply)) ∙ sym (step-words c w v h t.lists);
+      events = t.events;
+    }

@@ -3,3 +3,4 @@ pub mod Ran
 pub mod Laws
 pub mod Steps
 pub mod Emitted
+pub mod Count

@@ -1,8 +1,9 @@
 -- What a step on a change that had told nothing was, by what it left in the places that it was lent.
-use Rattle.std.specs.Prelude.{ℕ, ◌≡◌, List, Ok, Err}
+use Rattle.std.specs.Prelude.{ℕ, ◌≡◌, Bool, false, ◌&&◌, ◌||◌, List, ◌++◌, Ok, Err, ltb, length}
 use Rattle.std.specs.Prelude.{Result as Answer}
 use denote.Ref.{MutBor}
 use Rattle.std.specs.Fn.{Once, FnOnceTakesAtMut, FnOnceReturnsAtMut}
+use Rattle.definition.specs.Words.{base_size, base, table_count, counted}
 use Rattle.refusal.specs.declared.Refusal.{Refusal}
 use Rattle.step_events.specs.declared.change.Change.{Change}
 use Rattle.call_change.specs.declared.Ended.{Ended}
@@ -13,10 +14,14 @@ pub record Begins (w ev : List ℕ) (a : Change) : Type 0 where
   pub buffer : a.events.now ≡ ev
   pub none : a.told ≡ 0
 
--- what a step answers, with how many rows it told
-abbrev pub counted : Change → Answer (Unit {0}) Refusal → Answer ℕ Refusal
-counted b (Ok u) = Ok b.told
-counted b (Err e) = Err e
+-- what a step answers, with how many rows it told; whether it told one
+abbrev pub telling : Change → Answer (Unit {0}) Refusal → Answer ℕ Refusal
+telling b (Ok u) = Ok b.told
+telling b (Err e) = Err e
+
+abbrev pub told_some : Answer ℕ Refusal → Bool
+told_some (Ok n) = ltb 0 n
+told_some (Err e) = false
 
 -- the predicates of a step
 abbrev pub Step : Type 0 → Type 1
@@ -39,7 +44,7 @@ module _ {F : Type 0} (g : Step F) (f : F) where
     pub events_from : from.events.ghost_name ≡ ev.ghost_name
     pub events_to : l.events.ghost_name ≡ to.events.ghost_name
     pub rows : l.events.now ≡ to.events.now
-    pub answer : l.told ≡ counted to gave
+    pub answer : l.told ≡ telling to gave
 
   -- it went from one change to another; where that still is on the places of the first, they hold what it left
   pub record Ran (w w' ev ev' : List ℕ) (r : Answer ℕ Refusal) : Type 0 where
@@ -50,4 +55,11 @@ module _ {F : Type 0} (g : Step F) (f : F) where
     pub ran : FnOnceReturnsAtMut g f from gave to
     pub left : from.state.words.ghost_name ≡ to.state.words.ghost_name → w' ≡ to.state.words.now
     pub rows : from.events.ghost_name ≡ to.events.ghost_name → ev' ≡ to.events.now
-    pub answer : r ≡ counted to gave
+    pub answer : r ≡ telling to gave
+
+  -- the same on the words of a state: what was lent are those of the lists, which become `lists`; behind them a change is counted
+  pub record Counts (other : Bool) (w w' ev ev' : List ℕ) (r : Answer ℕ Refusal) : Type 0 where
+    pub lists : List ℕ
+    pub long : length lists ≡ base_size
+    pub ran : Ran (base w) lists ev ev' r
+    pub words : w' ≡ lists ++ counted ((told_some r && other) || ltb (table_count w) (table_count lists)) w

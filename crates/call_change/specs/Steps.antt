@@ -1,33 +1,38 @@
 -- The answers of calls, by what the step below each comes to.
 -- Assumes nothing.
-use Rattle.std.specs.Prelude.{ℕ, ◌≤◌, ◌≡◌, refl, true, List, ◌++◌, length, drop, Ok, Err}
+use Rattle.std.specs.Prelude.{ℕ, ◌≤◌, ◌≡◌, refl, Bool, true, ◌&&◌, ◌||◌, List, ◌++◌, length, Ok, Err}
 use denote.Ref.{MutBor}
 use Rattle.std.specs.Prelude.{Result as Answer}
 use Rattle.std.proofs.Common.{arith, sym, ap, subst, ◌∙◌, leb-true}
-use Rattle.lists.specs.Lists.{Row, flat, put}
+use Rattle.std.proofs.Math.Bool.{and-true}
+use Rattle.lists.specs.Lists.{Row, first, flat, put}
 use Rattle.lists.specs.Count.{count_most}
 use Rattle.lists.specs.Bools.{and_iff, test-case, cond-true, cond-false}
 use Rattle.lists.specs.Put.{put-no-rows}
 use Rattle.definition.specs.State.{State, Out, sizes}
-use Rattle.definition.specs.Words.{within, base_size, base, state_of, encode}
-use Rattle.definition.specs.Step.{Checks, outcome, roomy, event_room}
-use Rattle.definition.specs.Reference.Addresses.{Outcome, goes, refused, down}
+use Rattle.definition.specs.Words.{within, base_size, base, state_of, counted}
+use Rattle.definition.specs.Call.{Call, Reply}
+use Rattle.definition.specs.Step.{Result, Checks, semantics, outcome, roomy, event_room, step}
+use Rattle.definition.proofs.Preservation.Step.{acted}
+use Rattle.definition_parts.specs.Rule.{has_events, more_tables, fewer_routes, row_changes, altered}
+use Rattle.definition_parts.proofs.Counting.{step-words}
+use Rattle.definition.specs.Reference.Addresses.{Outcome, goes, refused, down, same_address}
 use Rattle.definition.specs.Preservation.Shrinking.{potential, live}
 use Rattle.definition.proofs.Preservation.Peaks.{down-roomy}
-use Rattle.definition.specs.Preservation.Encode.{Admissible}
+use Rattle.definition.specs.Preservation.Encode.{Admissible, length-encode}
 use Rattle.definition.proofs.Preservation.Numbers.{Numbered}
-use Rattle.state.specs.Represents.{Represents}
+use Rattle.state.specs.Represents.{Represents, holds-encodable}
 use Rattle.step_events.specs.Emits.{Emits}
 use Rattle.step_events.specs.EmitsWithin.{RoomFor}
 use Rattle.step_events.specs.Comes.{Comes, ComesWhole, made, goes-made, whole-made}
 use Rattle.step_events.specs.declared.change.Change.{Change}
-use Rattle.call_read.specs.Laws.{Passed}
+use Rattle.call_read.specs.Laws.{Passed, call-passed}
 use Rattle.refusal.specs.declared.Refusal.{Refusal}
 use Rattle.refusal.specs.declared.Refusal.TheVariants.{Errno, Full}
 use Rattle.call_read.specs.Answer.{valuing}
 use Rattle.call_change.specs.Answer.{Answers}
-use Rattle.call_change.specs.Laws.{answers-made, answers-full}
-use Rattle.call_change.specs.Ran.{Step, Begins, Ran, counted}
+use Rattle.call_change.specs.Laws.{Left, left-made, left-full, counts}
+use Rattle.call_change.specs.Ran.{Step, Begins, Ran, Counts, telling}
 
 -- ---- room for what a step may emit: 384 rows suffice
 potential-few : (st : State) → Admissible st → potential st ≤ 384
@@ -38,17 +43,17 @@ potential-few st g =
 pub fitting : {k : Checks} {w ev : List ℕ} {a : Change} → Passed k w → Begins (base w) ev a → event_room ≤ length ev → RoomFor potential (state_of w) a
 fitting {w = w} p begins room = record { holds = rw begins.words p.holds; room = omega (arith, potential-few (state_of w) p.good, begins.none, ap length begins.buffer, room) }
 
-pub down_answers : {k : Checks} (w : List ℕ) {v : List ℕ} (ev : List ℕ) → Passed k w → Represents v (down (state_of w)).state
-    → Answers (outcome (goes (down (state_of w))) w) (v ++ drop base_size w) ev ev (Ok 0)
+pub down-left : {k : Checks} (w : List ℕ) {v : List ℕ} (ev : List ℕ) → Passed k w → Represents v (down (state_of w)).state
+    → Left (outcome (goes (down (state_of w))) w) v ev ev (Ok 0)
 unfolding down
-down_answers w ev p h = answers-made (goes (down (state_of w))) w (down-roomy (state_of w) p.good) h.words refl refl (put-no-rows ev)
+down-left w ev p h = left-made (goes (down (state_of w))) w (down-roomy (state_of w) p.good) h refl refl (put-no-rows ev)
 
 -- ---- a step on a change that had told nothing
 module _ {u v ev ev' : List ℕ} {a b : Change} (begins : Begins u ev a)
     (words : a.state.words.ghost_name ≡ b.state.words.ghost_name → v ≡ b.state.words.now) (rows : a.events.ghost_name ≡ b.events.ghost_name → ev' ≡ b.events.now) where
   module _ {o : Out} (s : Emits o a b) where
-    left : v ≡ encode o.state
-    left = words (sym s.tells.places.state) ∙ s.holds.words
+    left : Represents v o.state
+    left = rw (words (sym s.tells.places.state)) s.holds
 
     written : ev' ≡ put 0 (flat o.emitted) ev
     written = rows (sym s.tells.places.events) ∙ (rw (begins.none, begins.buffer) at s.tells.words)
@@ -57,35 +62,45 @@ module _ {u v ev ev' : List ℕ} {a b : Change} (begins : Begins u ev a)
     count = omega (arith, s.tells.told, begins.none)
 
   module _ {k : Checks} {w : List ℕ} {d : Answer (Unit {0}) Refusal} (p : Passed k w) where
-    made-answers : (o : Outcome) → Numbered o → Comes o a b d → roomy o ≡ true → Answers (outcome o w) (v ++ drop base_size w) ev ev' (counted b d)
-    made-answers (goes o) m c h =
+    made-left : (o : Outcome) → Numbered o → Comes o a b d → roomy o ≡ true → Left (outcome o w) v ev ev' (telling b d)
+    made-left (goes o) m c h =
         let s = c.does h in
         let says : d ≡ Ok tt = c.answer ∙ cond-true (within o.peak) (made (goes o)) (Err Full) h in
-        rw says (answers-made (goes o) w h (left s) refl (ap valuing (count s)) (written s))
-    made-answers (refused n st) m c h =
+        rw says (left-made (goes o) w h (left s) refl (ap valuing (count s)) (written s))
+    made-left (refused n st) m c h =
         let s = c.does h in
         let says : d ≡ Err (Errno n) = c.answer ∙ cond-true (within (sizes st)) (made (refused n st)) (Err Full) h in
-        rw says (answers-made (refused n st) w h (left s) (refl, λ z. omega (arith, m.positive)) refl (written s))
+        rw says (left-made (refused n st) w h (left s) (refl, λ z. omega (arith, m.positive)) refl (written s))
 
     -- one that may be refused, or find a list full: then it has left the words and the buffer
-    whole-answers : (o : Outcome) → Numbered o → ComesWhole (state_of w) o a b d → Answers (outcome o w) (v ++ drop base_size w) ev ev' (counted b d)
-    whole-answers o m t =
-        test-case (roomy o) (made-answers o m t.comes)
+    whole-left : (o : Outcome) → Numbered o → ComesWhole (state_of w) o a b d → Left (outcome o w) v ev ev' (telling b d)
+    whole-left o m t =
+        test-case (roomy o) (made-left o m t.comes)
         (λ h.
         let s = t.kept h in
         let says : d ≡ Err Full = t.comes.answer ∙ cond-false (roomy o) (made o) (Err Full) h in
-        rw says (answers-full o w h (left s ∙ sym p.holds.words) refl (written s)))
+        rw says (left-full o w h ((left s).words ∙ sym p.holds.words) refl (written s)))
 
 -- what a call's step answers and leaves, by what it comes to
-pub ran-answers : {k : Checks} {w v ev ev' : List ℕ} {r : Answer ℕ Refusal} {F : Type 0} {g : Step F} {f : F} (o : Outcome) → Passed k w → Ran g f (base w) v ev ev' r → Numbered o
+ran-left : {k : Checks} {w v ev ev' : List ℕ} {r : Answer ℕ Refusal} {F : Type 0} {g : Step F} {f : F} (o : Outcome) → Passed k w → Ran g f (base w) v ev ev' r → Numbered o
     → ((a b : MutBor Change) (d : Answer (Unit {0}) Refusal) → Begins (base w) ev a.now → g.post f (a, tt) (d, (b, tt)) → ComesWhole (state_of w) o a.now b.now d)
-    → Answers (outcome o w) (v ++ drop base_size w) ev ev' r
-ran-answers {w = w} {v} {ev} {ev'} {r} o p t m comes =
+    → Left (outcome o w) v ev ev' r
+ran-left {w = w} {v} {ev} {ev'} {r} o p t m comes =
     let h = t.ran in
     let began = subst (λ (x : Change). Begins (base w) ev x) (sym h.shows) t.begins in
     let came = subst (λ (y : Change). ComesWhole (state_of w) o h.shown.now y t.gave) h.leaves (comes h.shown h.left t.gave began h.met) in
     let whole = subst (λ (x : Change). ComesWhole (state_of w) o x t.to t.gave) h.shows came in
-    rw t.answer (whole-answers t.begins t.left t.rows p o m whole)
+    rw t.answer (whole-left t.begins t.left t.rows p o m whole)
+
+-- and the call, its change counted
+pub counts-answers : (c : Call) {w w' ev ev' : List ℕ} {r : Answer ℕ Refusal} {F : Type 0} {g : Step F} {f : F} {other : Bool} (o : Outcome) → Passed (semantics c).checks w
+    → acted (semantics c).action w ≡ outcome o w → ((x : Reply) (v : List ℕ) → altered c w x v ≡ (has_events x && other) || more_tables w v)
+    → Counts g f other w w' ev ev' r → Numbered o
+    → ((a b : MutBor Change) (d : Answer (Unit {0}) Refusal) → Begins (base w) ev a.now → g.post f (a, tt) (d, (b, tt)) → ComesWhole (state_of w) o a.now b.now d)
+    → Answers (step c w) w' ev ev' r
+counts-answers c {w} {ev = ev} {ev'} {r} {other = other} o p e rule t m comes =
+    let left = subst (λ (x : Result). Left x t.lists ev ev' r) (sym (call-passed (semantics c) w p ∙ e)) (ran-left o p t.ran m comes) in
+    counts c other (record { long = p.long; well = p.well }) left (λ x. rule x t.lists) t.words
 
 -- a step that no rule refuses, and that keeps to the limits, comes to what it emits
 pub whole_goes : (st : State) {o : Out} {a b : Change} {d : Answer (Unit {0}) Refusal} → within o.peak ≡ true → d ≡ Ok tt → Emits o a b → ComesWhole st (goes o) a b d
@@ -94,3 +109,24 @@ whole_goes st h e s = rw e (whole-made st h (goes-made h s))
 -- the same of a request that was taken by its words
 pub taken : {st : State} {a b : Change} {d : Answer (Unit {0}) Refusal} {q l : Row} (o : Row → Outcome) → l ≡ q → ComesWhole st (o l) a b d → ComesWhole st (o q) a b d
 taken {st} {a} {b} {d} o same t = subst (λ (x : Row). ComesWhole st (o x) a b d) same t
+
+-- ---- the rule by which a call's change is counted: a row was told, of another address or route, or a table listed
+pub some-rule : (w : List ℕ) (x : Reply) (v : List ℕ) → has_events x || more_tables w v ≡ (has_events x && true) || more_tables w v
+some-rule w x v = ap (λ (b : Bool). b || more_tables w v) (sym (and-true (has_events x)))
+
+pub row-rule : (q : Row) (now : ℕ) (w : List ℕ) {other : Bool} → other ≡ row_changes q now (first (same_address q) (state_of w).addresses) → (x : Reply) (v : List ℕ)
+    → (has_events x && row_changes q now (first (same_address q) (state_of w).addresses)) || more_tables w v ≡ (has_events x && other) || more_tables w v
+row-rule q now w e x v = ap (λ (b : Bool). (has_events x && b) || more_tables w v) (sym e)
+
+-- down, whose change is told by fewer routes
+pub down-answers : (w ev : List ℕ) (room : ℕ) {v w' : List ℕ} → Passed (semantics (Call.down room)).checks w → Represents v (down (state_of w)).state
+    → (length v ≡ base_size → w' ≡ v ++ counted (fewer_routes w v) w) → Answers (step (Call.down room) w) w' ev ev (Ok 0)
+down-answers w ev room {v} p h e =
+    let left = subst (λ (x : Result). Left x v ev ev (Ok 0)) (sym (call-passed (semantics (Call.down room)) w p)) (down-left w ev p h) in
+    let long : length v ≡ base_size = ap length h.words ∙ length-encode (down (state_of w)).state (holds-encodable h) in
+    record {
+      refuses = left.refuses;
+      says = left.says;
+      words = e long ∙ sym (step-words (Call.down room) w v (record { long = p.long; well = p.well }) left.lists);
+      events = left.events;
+    }

@@ -7,15 +7,20 @@ ghost use Rattle.std.specs.Prelude.{◌≡◌, ◌≤◌, true, length};
 ghost use Rattle.layout.specs.Event as Event;
 ghost use Rattle.definition.specs.Step.{event_room, up_call, down_call, add_v4_call, del_v4_call, expire_call, add_route4_call, del_route4_call};
 ghost use Rattle.definition.specs.State.{State};
-ghost use Rattle.definition.specs.Reference.Addresses.{down};
+ghost use Rattle.definition.specs.Words.{state_size, base};
+ghost use Rattle.lists.specs.Lists.{first};
+ghost use Rattle.definition.specs.Reference.Addresses.{down, same_address};
+ghost use Rattle.definition_parts.specs.Rule.{row_changes};
 ghost use Rattle.state.specs.Represents.{Represents, represents};
 ghost use Rattle.call_change.specs.Answer.{Answers};
-ghost use Rattle.call_change.specs.Ran.{Takes, Went, Ran};
+ghost use Rattle.call_change.specs.Ran.{Takes, Went, Ran, Counts, told_some};
 
-use layout::{AddRoute4, AddV4, BASE_WORDS, DelRoute4, DelV4, EVENT_BUFFER};
+use layout::{
+    AddRoute4, AddV4, BASE_WORDS, DelRoute4, DelV4, EVENT_BUFFER, ROUTE_COUNT, TABLE_COUNT,
+};
 use life::Nanoseconds;
 use refusal::Refusal;
-use state::StoredMut;
+use state::{Stored, StoredMut};
 use step_events::Change;
 
 // What a step left in the words that it was lent, and how many rows it told.
@@ -60,7 +65,7 @@ fn on_change<'a, 'b, F: FnOnce(&mut Change<'_, '_>) -> Result<(), Refusal>>(
 
 // A step on the words that hold the state and the event buffer, and how many rows it told.
 // On words and no `StoredMut`, for the reason that `on_change` gives.
-fn changed<F: FnOnce(&mut Change<'_, '_>) -> Result<(), Refusal>>(
+fn stepped<F: FnOnce(&mut Change<'_, '_>) -> Result<(), Refusal>>(
     words: &mut [u32],
     events: &mut [u32],
     step: F,
@@ -73,14 +78,41 @@ fn changed<F: FnOnce(&mut Change<'_, '_>) -> Result<(), Refusal>>(
     ended.told
 }
 
+fn told_some(told: Result<usize, Refusal>) -> bool
+    ensures { result ≡ told_some told }
+{
+    told.is_ok_and(|n| 0 < n)
+}
+
+// The same on the words of a state, and what it changed counted: a step tells a row of whatever it changes but tables. `other` says that
+// the row told isn't the one that was there.
+fn changed<F: FnOnce(&mut Change<'_, '_>) -> Result<(), Refusal>>(
+    state: &mut [u32],
+    events: &mut [u32],
+    other: bool,
+    step: F,
+) -> Result<usize, Refusal>
+    requires takes { Takes F.FnOnce step (base state.old) events.old }
+    requires holds { (length state.old ≡ state_size) × (represents (base state.old) ≡ true) }
+    ensures { Counts F.FnOnce step other state.old state.new events.old events.new result }
+{
+    let tables = state[TABLE_COUNT];
+    let told = stepped(&mut state[..BASE_WORDS], events, step);
+    if (told_some(told) & other) | (tables < state[TABLE_COUNT]) {
+        state_count::count(state);
+    }
+    told
+}
+
 // The device goes up: 127.0.0.1 if it isn't there, then the routes of every address.
 pub fn up(state: &mut [u32], events: &mut [u32], clock: u64) -> Result<usize, Refusal>
     ensures { Answers (up_call (length events.old) clock state.old) state.new events.old events.new result }
 {
     call_read::checked(state, EVENT_BUFFER <= events.len(), Ok(()))?;
     changed(
-        &mut state[..BASE_WORDS],
+        state,
         events,
+        true,
         |change| step_add_v4_atomic::up(change, Nanoseconds(clock)),
     )
 }
@@ -105,7 +137,11 @@ pub fn down_lent(state: &mut [u32], room: usize, events: &mut [u32]) -> Result<u
     ensures { Answers (down_call room state.old) state.new events.old events.new result }
 {
     call_read::checked(state, EVENT_BUFFER <= room, Ok(()))?;
+    let routes = state[ROUTE_COUNT];
     down_held(&mut state[..BASE_WORDS]);
+    if state[ROUTE_COUNT] < routes {
+        state_count::count(state);
+    }
     Ok(0)
 }
 
@@ -118,10 +154,17 @@ pub fn expire(state: &mut [u32], events: &mut [u32], clock: u64) -> Result<usize
         EVENT_BUFFER <= events.len(),
         request_fit::fit_expire(clock),
     )?;
-    changed(&mut state[..BASE_WORDS], events, |change| {
+    changed(state, events, true, |change| {
         step_expire::expire(change, life::FUZZ, Nanoseconds(clock));
         Ok(())
     })
+}
+
+fn row_changes(words: &[u32], q: &AddV4, clock: Nanoseconds) -> bool
+    requires { represents words.now ≡ true }
+    ensures { (st : State) → Represents words.now st → result ≡ row_changes q.now clock.0 (first (same_address q.now) st.addresses) }
+{
+    rows_change::row_changes(Stored { words }.addresses(), q, clock)
 }
 
 // An address is put in, or the one that is there changed where the request says so.
@@ -137,9 +180,11 @@ pub fn add_v4(
     let q: &AddV4 = call_read::sized(q)?;
     let fit = request_fit::fit_add_v4(q);
     call_read::checked(state, EVENT_BUFFER <= events.len(), fit)?;
+    let other = row_changes(&state[..BASE_WORDS], q, Nanoseconds(clock));
     changed(
-        &mut state[..BASE_WORDS],
+        state,
         events,
+        other,
         |change| step_add_v4_atomic::add_v4(change, q, Nanoseconds(clock)),
     )
 }
@@ -151,11 +196,7 @@ pub fn del_v4(state: &mut [u32], q: &[u32], events: &mut [u32]) -> Result<usize,
     let q: &DelV4 = call_read::sized(q)?;
     let fit = request_fit::fit_del_v4(q);
     call_read::checked(state, EVENT_BUFFER <= events.len(), fit)?;
-    changed(
-        &mut state[..BASE_WORDS],
-        events,
-        |change| step_del_v4::del_v4(change, q),
-    )
+    changed(state, events, true, |change| step_del_v4::del_v4(change, q))
 }
 
 // A route is put in, or replaces one. A refusal by the reference may leave its table listed.
@@ -180,8 +221,9 @@ pub fn add_route4_lent(
     let fit = request_fit::fit_add_route4(q);
     call_read::checked(state, EVENT_BUFFER <= room, fit)?;
     changed(
-        &mut state[..BASE_WORDS],
+        state,
         events,
+        true,
         |change| step_route_request::add_route4(change, q),
     )
 }
@@ -207,8 +249,9 @@ pub fn del_route4_lent(
     let fit = request_fit::fit_del_route4(q);
     call_read::checked(state, EVENT_BUFFER <= room, fit)?;
     changed(
-        &mut state[..BASE_WORDS],
+        state,
         events,
+        true,
         |change| step_route_request::del_route4(change, q),
     )
 }

@@ -1,5 +1,6 @@
--- The state as 9,507 words, and when words are a state (document 01, "The state, words of 32 bits").
-use Rattle.std.specs.Prelude.{ℕ, ◌+◌, ◌*◌, ◌-◌, Bool, not, ◌&&◌, List, ◌∷◌, ◌++◌, eqb, leb, length, get_or, take, drop}
+-- The state as 9,509 words, and when words are a state (document 01, "The state, words of 32 bits"; document 02, Paper 6, for the
+-- change count behind the lists).
+use Rattle.std.specs.Prelude.{ℕ, suc, ◌+◌, ◌*◌, ◌-◌, ◌/◌, ◌%◌, Bool, cond, not, ◌&&◌, List, [], ◌∷◌, ◌++◌, eqb, leb, ltb, length, get_or, take, drop}
 use Rattle.lists.specs.Lists.{Row, all, pairwise, eq_row, all_zero, flat, pad, span, chop}
 use Rattle.layout.specs.Address as Address
 use Rattle.layout.specs.Route as Route
@@ -41,9 +42,12 @@ tables_at = routes_at + routes_size
 abbrev pub base_size : ℕ
 base_size = tables_at + table_limit
 
--- the words behind them, of which the lists know nothing: none in document 01
+-- the words behind them, of which the lists know nothing: the change count's low and high word
+abbrev pub count_size : ℕ
+count_size = 2
+
 abbrev pub behind_size : ℕ
-behind_size = 0
+behind_size = count_size
 
 abbrev pub state_size : ℕ
 state_size = base_size + behind_size
@@ -122,6 +126,26 @@ state_of w = decode (base w)
 abbrev pub formed : List ℕ → Bool
 formed w = well_formed (base w)
 
+-- ---- the change count (document 02, Paper 6): 64 bits in the two words behind the lists; any count is well-formed
+abbrev pub largest_count : ℕ
+largest_count = 18446744073709551615
+
+abbrev pub change_count : List ℕ → ℕ
+change_count w = get_or (drop base_size w) 0 0 + get_or (drop base_size w) 1 0 * 4294967296
+
+abbrev pub count_words : ℕ → List ℕ
+count_words n = n % 4294967296 ∷ n / 4294967296 ∷ []
+
+-- an address, a row or a table is another one where the state becomes st: the words of the lists aren't the same
+unfoldable pub changed : List ℕ → State → Bool
+changed w st = not (eq_row (base w) (encode st))
+
+-- "It goes up by one for each call, refused or not, that changes an address, a row or a table, and stops at its largest value": the
+-- count's words after a call on w, by whether it changes one
+unfoldable pub counted : Bool → List ℕ → List ℕ
+counted changes w =
+    cond (changes && ltb (change_count w) largest_count) (count_words (suc (change_count w))) (span base_size count_size w)
+
 -- the words that a call on w leaves, where the state becomes st
 abbrev pub leaves : List ℕ → State → List ℕ
-leaves w st = encode st ++ drop base_size w
+leaves w st = encode st ++ counted (changed w st) w

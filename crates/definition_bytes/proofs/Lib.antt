@@ -1,2 +1,3 @@
 pub mod AsWords
 pub mod Theorem
+pub mod Parts

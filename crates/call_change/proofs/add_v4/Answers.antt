@@ -1,5 +1,5 @@
 -- `call_change::add_v4` meets its contract.
-use Rattle.std.proofs.Common.{rules, arith, sym, ap, subst, length, ℕ, List, ◌≡◌, ◌≤◌, ◌*◌, ◌+◌, true}
+use Rattle.std.proofs.Common.{refl, rules, arith, sym, ap, subst, length, ℕ, List, ◌≡◌, ◌≤◌, ◌*◌, ◌+◌, true}
 use Rattle.layout.specs.Request.{add_v4_size, fit_add_v4}
 use Rattle.definition.specs.Reference.Addresses.{add_v4}
 use Rattle.definition.proofs.Preservation.Numbers.{add_v4-number}
@@ -8,8 +8,8 @@ use Rattle.definition.specs.Call as Call
 use Rattle.definition.specs.Words.{state_of}
 use Rattle.call_read.specs.Laws.{passed, lent}
 use Rattle.definition.specs.Step.{add_v4_refusal, events_fit, semantics, add_v4_call}
-use Rattle.call_change.specs.Laws.{unsized, request-checked, long, answers-unsized, answers-refused, answers-passed, room}
-use Rattle.call_change.specs.Steps.{ran-answers, taken}
+use Rattle.call_change.specs.Laws.{unsized, request-checked, long, answers-unsized, answers-refused, room}
+use Rattle.call_change.specs.Steps.{counts-answers, row-rule, taken}
 use Rattle.call_change.proofs.add_v4.Goals as goal
 
 pub returns-in_err-q : goal.returns-in_err-q
@@ -24,8 +24,8 @@ returns-in_err-checked c =
     answers-refused (semantics (Call.add_v4 c.args.q.now (length c.args.events.now) c.args.clock)) c.args.state.now c.args.events.now
     (request-checked add_v4_size c.args.q.now c.args.state.now c.in_ok-q.ensures c.checked.result (events_fit (length c.args.events.now)) add_v4_refusal (c.checked.ensures.refuses _ (c.fit_add_v4-fit.ensures (long add_v4_size c.args.q.now c.args.state.now c.in_ok-q.ensures)))) c.in_err-checked.was c.from_residual-in_err-checked.ensures.1
 
-pub slice_bounds-changed-end-2 : goal.slice_bounds-changed-end-2
-slice_bounds-changed-end-2 c =
+pub slice_bounds-row_changes-end-2 : goal.slice_bounds-row_changes-end-2
+slice_bounds-row_changes-end-2 c =
     let p =
     passed (semantics (Call.add_v4 c.args.q.now (length c.args.events.now) c.args.clock)).checks c.args.state.now
     (request-checked add_v4_size c.args.q.now c.args.state.now c.in_ok-q.ensures c.checked.result (events_fit (length c.args.events.now)) add_v4_refusal (c.checked.ensures.refuses _ (c.fit_add_v4-fit.ensures (long add_v4_size c.args.q.now c.args.state.now c.in_ok-q.ensures)))) c.in_ok-checked.was
@@ -49,6 +49,5 @@ returns c =
     passed (semantics (Call.add_v4 c.args.q.now (length c.args.events.now) c.args.clock)).checks c.args.state.now
     (request-checked add_v4_size c.args.q.now c.args.state.now c.in_ok-q.ensures c.checked.result (events_fit (length c.args.events.now)) add_v4_refusal (c.checked.ensures.refuses _ (c.fit_add_v4-fit.ensures (long add_v4_size c.args.q.now c.args.state.now c.in_ok-q.ensures)))) c.in_ok-checked.was
     in
-    answers-passed (semantics (Call.add_v4 c.args.q.now (length c.args.events.now) c.args.clock)) c.args.state.now p
-    (ran-answers (add_v4 c.args.q.now c.args.clock (state_of c.args.state.now)) p c.changed.ensures (add_v4-number c.args.q.now c.args.clock (state_of c.args.state.now))
-    (λ a b d h m. taken (λ q. add_v4 q c.args.clock (state_of c.args.state.now)) c.in_ok-q.ensures.0 (search (rules, m, h, p.holds, p.good.fits))))
+    counts-answers (Call.add_v4 c.args.q.now (length c.args.events.now) c.args.clock) (add_v4 c.args.q.now c.args.clock (state_of c.args.state.now)) p refl (row-rule c.args.q.now c.args.clock c.args.state.now (rw c.in_ok-q.ensures.0 at (c.row_changes-other.ensures (state_of c.args.state.now) p.holds))) c.changed.ensures (add_v4-number c.args.q.now c.args.clock (state_of c.args.state.now))
+    (λ a b d h m. taken (λ q. add_v4 q c.args.clock (state_of c.args.state.now)) c.in_ok-q.ensures.0 (search (rules, m, h, p.holds, p.good.fits)))

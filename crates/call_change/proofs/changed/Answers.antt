@@ -1,17 +1,38 @@
--- `call_change::changed` meets its contract: what is handed back is what was lent.
-use Rattle.std.proofs.Common.{rules, sym, ◌∙◌}
+-- `call_change::changed` meets its contract.
+use Rattle.std.proofs.Common.{arith, sym, ◌∙◌, length, ◌≡◌}
+use Rattle.definition.specs.Words.{base_size}
+use Rattle.definition.proofs.Preservation.Step.{base-long}
+use Rattle.call_change.specs.Count.{in-lists, raised-by, uncounted-by}
 use Rattle.call_change.proofs.changed.Goals as goal
 
-pub returns : goal.returns
-returns g c =
-    let t = c.on_change-ended.ensures in
+pub slice_bounds-stepped-end-2 : goal.slice_bounds-stepped-end-2
+slice_bounds-stepped-end-2 g c = sym (base-long c.args.state.now c.requires.holds.0)
+
+pub returns-then-told_some-other : goal.returns-then-told_some-other
+returns-then-told_some-other g c =
+    let lists = c.stepped-told.new.words in
+    let whole = c.requires.holds.0 in
+    let long : length lists ≡ base_size = c.stepped-told.auto.words ∙ base-long c.args.state.now whole in
     record {
-      from = t.from;
-      to = t.to;
-      gave = t.gave;
-      begins = t.begins;
-      ran = t.ran;
-      left = λ e. search (rules, sym t.state_from ∙ e ∙ sym t.state_to, t.left);
-      rows = λ e. search (rules, sym t.events_from ∙ e ∙ sym t.events_to, t.rows);
-      answer = t.answer;
+      lists = lists;
+      long = long;
+      ran = c.stepped-told.ensures;
+      words =
+          raised-by c.args.state.now lists whole long _
+          (rw (in-lists c.args.state.now lists whole long 2 (omega arith), c.told_some.ensures) at c.if-told_some-other.true)
+          c.count.ensures;
+    }
+
+pub returns-else-told_some-other : goal.returns-else-told_some-other
+returns-else-told_some-other g c =
+    let lists = c.stepped-told.new.words in
+    let whole = c.requires.holds.0 in
+    let long : length lists ≡ base_size = c.stepped-told.auto.words ∙ base-long c.args.state.now whole in
+    record {
+      lists = lists;
+      long = long;
+      ran = c.stepped-told.ensures;
+      words =
+          uncounted-by c.args.state.now lists whole long _
+          (rw (in-lists c.args.state.now lists whole long 2 (omega arith), c.told_some.ensures) at c.if-told_some-other.false);
     }

@@ -1,5 +1,5 @@
 -- `call_change::expire` meets its contract.
-use Rattle.std.proofs.Common.{rules, sym, length, leb-true}
+use Rattle.std.proofs.Common.{refl, rules, length, leb-true}
 use Rattle.life.specs.Life.{allowance}
 use Rattle.definition.specs.Reference.Addresses.{goes}
 use Rattle.definition.specs.Reference.Removal.{expire}
@@ -9,18 +9,15 @@ use Rattle.definition.specs.Call as Call
 use Rattle.definition.specs.Words.{state_of}
 use Rattle.definition.specs.Step.{event_room, semantics, expire_call}
 use Rattle.step_events.specs.EmitsWithin.{SomeRoom}
-use Rattle.call_read.specs.Laws.{passed, lent}
-use Rattle.call_change.specs.Laws.{answers-refused, answers-passed}
-use Rattle.call_change.specs.Steps.{fitting, ran-answers, whole_goes}
+use Rattle.call_read.specs.Laws.{passed}
+use Rattle.call_change.specs.Laws.{answers-refused}
+use Rattle.call_change.specs.Steps.{fitting, counts-answers, some-rule, whole_goes}
 use Rattle.call_change.proofs.expire.Goals as goal
 
 pub returns-in_err-checked : goal.returns-in_err-checked
 unfolding expire_call
 returns-in_err-checked c =
     answers-refused (semantics (Call.expire (length c.args.events.now) c.args.clock)) c.args.state.now c.args.events.now (c.checked.ensures.refuses _ c.fit_expire.ensures) c.in_err-checked.was c.from_residual.ensures.1
-
-pub slice_bounds-changed-end-2 : goal.slice_bounds-changed-end-2
-slice_bounds-changed-end-2 c = sym (lent (passed (semantics (Call.expire (length c.args.events.now) c.args.clock)).checks c.args.state.now (c.checked.ensures.refuses _ c.fit_expire.ensures) c.in_ok-checked.was))
 
 pub changed-requires-clause-takes : goal.changed-requires-clause-takes
 changed-requires-clause-takes c a h q e =
@@ -32,6 +29,5 @@ pub returns : goal.returns
 unfolding expire_call
 returns c =
     let p = passed (semantics (Call.expire (length c.args.events.now) c.args.clock)).checks c.args.state.now (c.checked.ensures.refuses _ c.fit_expire.ensures) c.in_ok-checked.was in
-    answers-passed (semantics (Call.expire (length c.args.events.now) c.args.clock)) c.args.state.now p
-    (ran-answers (goes (expire allowance c.args.clock (state_of c.args.state.now))) p c.changed.ensures tt
-    (λ a b d h m. whole_goes (state_of c.args.state.now) (expire-roomy allowance c.args.clock (state_of c.args.state.now) p.good) (search (rules, m)) (search (rules, m, fitting p h (leb-true event_room (length c.args.events.now) p.room)))))
+    counts-answers (Call.expire (length c.args.events.now) c.args.clock) (goes (expire allowance c.args.clock (state_of c.args.state.now))) p refl (some-rule c.args.state.now) c.changed.ensures tt
+    (λ a b d h m. whole_goes (state_of c.args.state.now) (expire-roomy allowance c.args.clock (state_of c.args.state.now) p.good) (search (rules, m)) (search (rules, m, fitting p h (leb-true event_room (length c.args.events.now) p.room))))

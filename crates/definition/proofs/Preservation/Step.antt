@@ -1,13 +1,14 @@
 -- Every call on well-formed words leaves well-formed words; of a changing call, what it emits and when it gives 203.
 -- Assumes nothing.
-use Rattle.std.specs.Prelude.{ℕ, ◌≤◌, ◌≡◌, refl, Bool, true, false, not, ◌&&◌, List, [], ◌++◌, ◌↔◌, ◌≢◌, eqb, length, drop}
-use Rattle.std.proofs.Common.{sym, ap, ◌∙◌, arith, length-append, length-take, length-drop, take-append-drop, take_at, eqb-true, eq-eqb, leb-true, le-leb}
+use Rattle.std.specs.Prelude.{ℕ, ◌≤◌, ◌≡◌, refl, Bool, true, false, not, ◌&&◌, List, [], ◌++◌, ◌↔◌, ◌≢◌, eqb, ltb, length, drop}
+use Rattle.std.proofs.Common.{sym, ap, ◌∙◌, arith, length-append, length-take, length-drop, take-append-drop, take_all, take_at, eqb-true, eq-eqb, leb-true, le-leb}
 use Rattle.std.proofs.lemmas.Bool.{false≢true, not-true}
-use Rattle.lists.specs.Lists.{Row, zeros}
+use Rattle.lists.specs.Lists.{Row, zeros, span}
 use Rattle.lists.specs.Bools.{and_left, and_right, and_iff, cond-case, test-case}
-use Rattle.lists.specs.Rows.{sized, length-zeros, zeros_append}
+use Rattle.lists.specs.All.{eq_row-refl}
+use Rattle.lists.specs.Rows.{sized, length-zeros, length-span, zeros_append}
 use Rattle.definition.specs.State.{State, Sizes, sizes, empty}
-use Rattle.definition.specs.Words.{within, base_size, behind_size, state_size, encode, decode, well_formed, base, state_of, formed, leaves}
+use Rattle.definition.specs.Words.{within, base_size, count_size, behind_size, state_size, encode, decode, well_formed, base, state_of, formed, largest_count, change_count, changed, counted, leaves}
 use Rattle.definition.specs.Call.{Call, written}
 use Rattle.definition.specs.Reference.Addresses.{Outcome, goes, refused}
 use Rattle.definition.specs.Step.{Result, refuses, Checks, Action, changes, replies, lists, alters, Semantics, checks, checked, unfit, result, roomy, outcome, changing, reading, act, perform, semantics, step}
@@ -44,19 +45,40 @@ held-empty =
       well = ap formed empty-words ∙ ap well_formed (base-encode empty (zeros behind_size) good-empty) ∙ well_formed-encode empty good-empty;
     }
 
--- the words that a call leaves: they are well-formed, hold the state, and are the old ones where that is the old one
+-- ---- the change count
+-- it has its two words
+pub length-counted : (b : Bool) (w : List ℕ) → length w ≡ state_size → length (counted b w) ≡ count_size
+unfolding counted
+length-counted b w l =
+    cond-case (λ (v : List ℕ). length v ≡ count_size) (b && ltb (change_count w) largest_count) (λ e. refl) (λ e. length-span base_size count_size w (omega arith))
+
+-- without a change they are what they were
+counted-idle : (w : List ℕ) → length w ≡ state_size → counted false w ≡ drop base_size w
+unfolding counted span
+counted-idle w l = take_all count_size (drop base_size w) (simp length-drop (omega arith))
+
+changed-same : (w : List ℕ) (st : State) → encode st ≡ base w → changed w st ≡ false
+unfolding changed
+changed-same w st e = rw (e, eq_row-refl (base w)) refl
+
+-- ---- the words that a call leaves: they are well-formed, hold the state, and are the old ones where that is the old one
+pub base-leaves : (w : List ℕ) (st : State) → Admissible st → base (leaves w st) ≡ encode st
+base-leaves w st g = base-encode st (counted (changed w st) w) g
+
 pub held-leaves : (w : List ℕ) (st : State) → Held w → Admissible st → Held (leaves w st)
 held-leaves w st h g =
     record {
-      long = simp (length-append, length-drop) (omega (arith, length-encode st (encodable g), h.long));
-      well = rw (base-encode st (drop base_size w) g) (well_formed-encode st g);
+      long = simp length-append (omega (arith, length-encode st (encodable g), length-counted (changed w st) w h.long));
+      well = rw (base-leaves w st g) (well_formed-encode st g);
     }
 
 pub decode-leaves : (w : List ℕ) (st : State) → Held w → Admissible st → state_of (leaves w st) ≡ st
-decode-leaves w st h g = rw (base-encode st (drop base_size w) g) (decode-encode st (encodable g))
+decode-leaves w st h g = rw (base-leaves w st g) (decode-encode st (encodable g))
 
 pub leaves-decode : (w : List ℕ) → Held w → leaves w (state_of w) ≡ w
-leaves-decode w h = rw (encode-decode (base w) (base-long w h.long) h.well) (take-append-drop base_size w)
+leaves-decode w h =
+    let same : encode (state_of w) ≡ base w = encode-decode (base w) (base-long w h.long) h.well in
+    rw (changed-same w (state_of w) same, same, counted-idle w h.long) (take-append-drop base_size w)
 
 -- what a peak within the limits covers is within them
 pub covered : (a b : Sizes) → Covers a b → within b ≡ true → within a ≡ true

@@ -1,0 +1,32 @@
+-- The change count's words in place: where they are read, and what raising it leaves.
+-- Assumes nothing.
+use Rattle.std.specs.Prelude.{ℕ, suc, ◌+◌, ◌*◌, ◌%◌, ◌/◌, ◌<◌, ◌≤◌, ◌≡◌, Bool, true, false, cond, List, [], ◌∷◌, get_or, set, length, ltb}
+use Rattle.std.proofs.Common.{arith, sym, ap, ◌∙◌, get_or-drop}
+use Rattle.std.proofs.lemmas.Bool.{lt-ltb, le-ltb}
+use Rattle.lists.specs.Lists.{put, span}
+use Rattle.lists.specs.Put.{cut, put_one, put-more}
+use Rattle.lists.specs.Rows.{length-span}
+use Rattle.definition.specs.Words.{base_size, count_size, state_size, largest_count, change_count, count_words, counted}
+
+pub count-read : (w : List ℕ) (n : ℕ) → n ≡ get_or w 9507 0 + get_or w 9508 0 * 4294967296 → n ≡ change_count w
+count-read w n e = simp get_or-drop e
+
+module _ (w : List ℕ) (long : length w ≡ state_size) where
+  -- at the largest the words stay
+  pub count-stays : largest_count ≤ change_count w → w ≡ put base_size (counted true w) w
+  unfolding counted put
+  count-stays h =
+      let full : ltb (change_count w) largest_count ≡ false = le-ltb (change_count w) largest_count h in
+      rw (full, length-span base_size count_size w (omega (arith, long))) (cut base_size count_size w)
+
+  pub count-raised : (after : ℕ) → after ≡ suc (change_count w) → change_count w < largest_count
+      → set (set w base_size (after % 4294967296)) (base_size + 1) (after / 4294967296) ≡ put base_size (counted true w) w
+  unfolding counted
+  count-raised after e h =
+      let low = after % 4294967296 in
+      let high = after / 4294967296 in
+      let below : ltb (change_count w) largest_count ≡ true = lt-ltb (change_count w) largest_count h in
+      ap (λ (l : List ℕ). set l (base_size + 1) high) (put_one base_size low w (omega (arith, long)))
+      ∙ put-more base_size (low ∷ []) high w (omega (arith, long))
+      ∙ ap (λ (n : ℕ). put base_size (count_words n) w) e
+      ∙ ap (λ (b : Bool). put base_size (cond b (count_words (suc (change_count w))) (span base_size count_size w)) w) (sym below)
