@@ -28,7 +28,13 @@ trait Changing<const ROOM: usize> {
 
     const WORDS: usize;
 
-    fn make(state: &mut [u32], q: &[u32], clock: u64, allowance: u64, events: &mut [u32; ROOM]) -> Reply
+    fn make(
+        state: &mut [u32],
+        q: &[u32],
+        clock: u64,
+        allowance: u64,
+        events: &mut [u32; ROOM],
+    ) -> Reply
         ensures { Did (step (change.call q.now clock allowance event_room) state.old)
             events.old result state.new events.new };
 
@@ -48,7 +54,13 @@ impl Changing<EVENT_BUFFER> for Up {
 
     const WORDS: usize = 0;
 
-    fn make(state: &mut [u32], _q: &[u32], clock: u64, _allowance: u64, events: &mut [u32; EVENT_BUFFER]) -> Reply {
+    fn make(
+        state: &mut [u32],
+        _q: &[u32],
+        clock: u64,
+        _allowance: u64,
+        events: &mut [u32; EVENT_BUFFER],
+    ) -> Reply {
         call_dispatch::up(state, events, clock)
     }
 
@@ -68,7 +80,13 @@ impl Changing<EVENT_WORDS> for Down {
 
     const WORDS: usize = 0;
 
-    fn make(state: &mut [u32], _q: &[u32], _clock: u64, _allowance: u64, events: &mut [u32; EVENT_WORDS]) -> Reply {
+    fn make(
+        state: &mut [u32],
+        _q: &[u32],
+        _clock: u64,
+        _allowance: u64,
+        events: &mut [u32; EVENT_WORDS],
+    ) -> Reply {
         call_dispatch::down_lent(state, EVENT_BUFFER, events)
     }
 
@@ -88,7 +106,13 @@ impl Changing<EVENT_BUFFER> for AddV4 {
 
     const WORDS: usize = ADD_V4_WORDS;
 
-    fn make(state: &mut [u32], q: &[u32], clock: u64, _allowance: u64, events: &mut [u32; EVENT_BUFFER]) -> Reply {
+    fn make(
+        state: &mut [u32],
+        q: &[u32],
+        clock: u64,
+        _allowance: u64,
+        events: &mut [u32; EVENT_BUFFER],
+    ) -> Reply {
         call_dispatch::add_v4(state, q, events, clock)
     }
 
@@ -108,7 +132,13 @@ impl Changing<EVENT_BUFFER> for DelV4 {
 
     const WORDS: usize = DEL_V4_WORDS;
 
-    fn make(state: &mut [u32], q: &[u32], _clock: u64, _allowance: u64, events: &mut [u32; EVENT_BUFFER]) -> Reply {
+    fn make(
+        state: &mut [u32],
+        q: &[u32],
+        _clock: u64,
+        _allowance: u64,
+        events: &mut [u32; EVENT_BUFFER],
+    ) -> Reply {
         call_dispatch::del_v4(state, q, events)
     }
 
@@ -128,7 +158,13 @@ impl Changing<EVENT_BUFFER> for Expire {
 
     const WORDS: usize = 0;
 
-    fn make(state: &mut [u32], _q: &[u32], clock: u64, allowance: u64, events: &mut [u32; EVENT_BUFFER]) -> Reply {
+    fn make(
+        state: &mut [u32],
+        _q: &[u32],
+        clock: u64,
+        allowance: u64,
+        events: &mut [u32; EVENT_BUFFER],
+    ) -> Reply {
         call_dispatch::expire(state, events, clock, allowance)
     }
 
@@ -148,7 +184,13 @@ impl Changing<EVENT_WORDS> for AddRoute4 {
 
     const WORDS: usize = ADD_ROUTE4_WORDS;
 
-    fn make(state: &mut [u32], q: &[u32], _clock: u64, _allowance: u64, events: &mut [u32; EVENT_WORDS]) -> Reply {
+    fn make(
+        state: &mut [u32],
+        q: &[u32],
+        _clock: u64,
+        _allowance: u64,
+        events: &mut [u32; EVENT_WORDS],
+    ) -> Reply {
         call_dispatch::add_route4_lent(state, q, EVENT_BUFFER, events)
     }
 
@@ -169,7 +211,13 @@ impl Changing<EVENT_WORDS> for DelRoute4 {
 
     const WORDS: usize = DEL_ROUTE4_WORDS;
 
-    fn make(state: &mut [u32], q: &[u32], _clock: u64, _allowance: u64, events: &mut [u32; EVENT_WORDS]) -> Reply {
+    fn make(
+        state: &mut [u32],
+        q: &[u32],
+        _clock: u64,
+        _allowance: u64,
+        events: &mut [u32; EVENT_WORDS],
+    ) -> Reply {
         call_dispatch::del_route4_lent(state, q, EVENT_BUFFER, events)
     }
 
