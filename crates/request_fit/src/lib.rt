@@ -44,8 +44,8 @@ const CLOCK_LARGEST: u64 = u64::MAX;
 pub fn fit_expire(clock: Nanoseconds, allowance: Nanoseconds) -> Result<(), Refusal>
     ensures { Refuses result (unless (fit_expire clock.0 allowance.0) 202) }
 {
-    let sum_fits = clock.0 <= CLOCK_LARGEST - allowance.0;
-    refusal::unless(allowance.0 <= ALLOWANCE_LIMIT && sum_fits, Refusal::Unfit)
+    let fit = allowance.0 <= ALLOWANCE_LIMIT && clock.0 <= CLOCK_LARGEST - allowance.0;
+    refusal::unless(fit, Refusal::Unfit)
 }
 
 // A request's fields come first, then what Linux turns down (document 02, Paper 2).
