@@ -147,7 +147,7 @@ extern "C" {
 #define INTERFACE4_MESSAGE_BYTES 216
 
 /* The last of document 02's papers that this header knows: see interface4_sizes. */
-#define INTERFACE4_PAPER 6
+#define INTERFACE4_PAPER 7
 
 /* A lifetime that never ends. */
 #define INTERFACE4_FOREVER UINT32_MAX

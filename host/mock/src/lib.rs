@@ -482,7 +482,7 @@ pub extern "C" fn prefix(mask: u32) -> Reply {
 pub extern "C" fn sizes() -> Reply {
     Reply {
         number: 0,
-        present: 6,
+        present: 7,
         value: if fault() == "other sizes" {
             9_507
         } else {

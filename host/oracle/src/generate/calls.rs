@@ -82,7 +82,10 @@ pub fn idle(rng: &mut Rng, lists: &Lists, host: &mut Host) -> Call {
             host.up = true;
             Call::Up { now: host.now }
         }
-        1 => Call::Expire { now: 0 },
+        1 => Call::Expire {
+            now: 0,
+            allowance: FUZZ,
+        },
         2 => Call::Down,
         3 => match some_route(rng, lists) {
             Some(row) => requests::again(rng, &row),
