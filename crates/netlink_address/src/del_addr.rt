@@ -16,8 +16,9 @@ use refusal::Refusal;
 
 #[derive(Clone, Copy)]
 pub struct DelAddr {
-    pub local: Option<u32>,
-    pub address: Option<u32>,
+    // Whether there is one, and the address: as in the request.
+    pub local: [u32; 2],
+    pub address: [u32; 2],
     // Whether there is one, and its words.
     pub has_label: bool,
     pub label: [u32; 5],
@@ -32,23 +33,18 @@ impl Fields for DelAddr {
 
     #[inline(always)]
     fn take(&mut self, a: Attribute) {
-        match a.code {
-            codes::IFA_ADDRESS => match bytes::address(a.payload) {
-                Some(n) => self.address = Some(n),
-                None => self.is_sized = false,
+        match a.payload.as_array::<4>() {
+            Some(four) => match a.code {
+                codes::IFA_ADDRESS => self.address = [1, u32::from_be_bytes(*four)],
+                codes::IFA_LOCAL => self.local = [1, u32::from_be_bytes(*four)],
+                codes::IFA_LABEL => self.take_label(a.payload),
+                _ => {}
             },
-            codes::IFA_LOCAL => match bytes::address(a.payload) {
-                Some(n) => self.local = Some(n),
-                None => self.is_sized = false,
+            None => match a.code {
+                codes::IFA_ADDRESS | codes::IFA_LOCAL => self.is_sized = false,
+                codes::IFA_LABEL => self.take_label(a.payload),
+                _ => {}
             },
-            codes::IFA_LABEL => match bytes::label_words(a.payload) {
-                Some(words) => {
-                    self.has_label = true;
-                    self.label = words;
-                }
-                None => self.is_sized = false,
-            },
-            _ => {}
         }
     }
 }
