@@ -42,16 +42,16 @@ impl<'a> Attributes<'a> {
     }
 }
 
-// The bytes of an attribute whose payload is one number.
+// The bytes of an attribute that holds one number, as most do.
 const NUMBER: usize = 8;
 
-// The code of such an attribute, where its header says so in few tests; most are.
+// The code of such an attribute, where it is below 256, as all with a field are.
 #[inline(always)]
 fn number_code(p: &[u8]) -> Option<usize>
     requires { 4 ≤ length p.now }
     ensures { MatchOption result ⊤ (λ n. (u16 p.now 0 ≡ 8) × (n ≡ u16 p.now 2 % 16384)) }
 {
-    if u16::from_le_bytes([p[0], p[1]]) == 8 && p[3] == 0 {
+    if usize::from(u16::from_le_bytes([p[0], p[1]])) == NUMBER && p[3] == 0 {
         Some(usize::from(p[2]))
     } else {
         None
@@ -68,7 +68,8 @@ impl<'a> Iterator for Attributes<'a> {
 
     ghost remaining = { item_count ahead };
 
-    // The tests stand in front of the slices, not in a `get`, so that what is built steps from header to header by an addition alone.
+    // First one that holds a number: what takes it knows the payload's size, and the next one's place waits for no length. The tests
+    // stand in front of the slices, not in a `get`, so that what is built steps from header to header by an addition alone.
     #[inline]
     fn next(&mut self) -> Option<Attribute<'a>> {
         if self.at + NUMBER <= self.bytes.len() {
