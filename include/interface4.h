@@ -147,10 +147,14 @@ extern "C" {
 #define INTERFACE4_MESSAGE_BYTES 216
 
 /* The last of document 02's papers that this header knows: see interface4_sizes. */
-#define INTERFACE4_PAPER 6
+#define INTERFACE4_PAPER 7
 
 /* A lifetime that never ends. */
 #define INTERFACE4_FOREVER UINT32_MAX
+
+/* The allowance of 20 ms that the Rust and Linux have, and the greatest that expire takes, in nanoseconds. */
+#define INTERFACE4_FUZZ 20000000
+#define INTERFACE4_ALLOWANCE_LIMIT 1000000000
 
 /*
  * Why a call said no. Then no lent element has changed, but a refused
@@ -172,7 +176,7 @@ extern "C" {
 #define INTERFACE4_UNREACHABLE 113         /* a route says so */
 #define INTERFACE4_UNFIT_BUFFER 200        /* a slice of the wrong length */
 #define INTERFACE4_UNFIT_STATE 201         /* not well-formed; a row or event too */
-#define INTERFACE4_UNFIT_REQUEST 202       /* a field or clock out of range */
+#define INTERFACE4_UNFIT_REQUEST 202       /* a field, clock or allowance out of range */
 #define INTERFACE4_NO_SPACE 203            /* a list would pass its limit */
 #define INTERFACE4_BAD_LENGTH 204          /* of a message, or in it */
 #define INTERFACE4_NOT_IPV4 205            /* a message of another type or family */
@@ -277,10 +281,16 @@ interface4_reply interface4w_del_v4_mask(uint32_t *state, size_t state_len, cons
 interface4_reply interface4_del_v4_mask(uint8_t *state, size_t state_len, const uint8_t *request, size_t request_len,
                                         uint8_t *events, size_t events_len);
 
-/* Addresses whose time is up go; those past their preferred time are marked. */
+/*
+ * Addresses whose time is up go; those past their preferred time are marked.
+ * A lifetime that ends within the allowance, in nanoseconds, counts as ended:
+ * INTERFACE4_FUZZ, or what suits the host's timer. 202 for one over
+ * INTERFACE4_ALLOWANCE_LIMIT, and where it passes UINT64_MAX with the clock.
+ */
 interface4_reply interface4w_expire(uint32_t *state, size_t state_len, uint32_t *events, size_t events_len,
-                                    uint64_t now);
-interface4_reply interface4_expire(uint8_t *state, size_t state_len, uint8_t *events, size_t events_len, uint64_t now);
+                                    uint64_t now, uint64_t allowance);
+interface4_reply interface4_expire(uint8_t *state, size_t state_len, uint8_t *events, size_t events_len, uint64_t now,
+                                   uint64_t allowance);
 
 /* A route is put in, or replaces one. */
 interface4_reply interface4w_add_route4(uint32_t *state, size_t state_len, const uint32_t *request, size_t request_len,

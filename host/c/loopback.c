@@ -239,7 +239,7 @@ static void on_words(void)
   told("dump4_next after a change", reply, INTERFACE4_DUMP_INTERRUPTED, 1, 1);
   told("del_route4", interface4w_del_route4(W(state), W(same_route), W(events)), 0, 1, 0);
   is("its event", events[0], INTERFACE4_DEL_ROUTE4);
-  told("expire", interface4w_expire(W(state), W(events), 6000000000u), 0, 1, 0);
+  told("expire", interface4w_expire(W(state), W(events), 6000000000u, INTERFACE4_FUZZ), 0, 1, 0);
   told("del_v4", interface4w_del_v4(W(state), W(by_local), W(events)), 0, 4, 0);
   is("its first event", events[0], INTERFACE4_DEL_ADDR4);
   told("down", interface4w_down(W(state), W(events)), 0, 0, 0);
@@ -281,7 +281,7 @@ static void on_bytes(void)
   told("add_route4, on bytes", interface4_add_route4(B(state), B(route), B(events)), 0, 1, 0);
   told("del_route4, on bytes", interface4_del_route4(B(state), B(same_route), B(events)), 0, 1, 0);
   is("its event, on bytes", events[0], INTERFACE4_DEL_ROUTE4);
-  told("expire, on bytes", interface4_expire(B(state), B(events), 6000000000u), 0, 1, 0);
+  told("expire, on bytes", interface4_expire(B(state), B(events), 6000000000u, INTERFACE4_FUZZ), 0, 1, 0);
   told("del_v4, on bytes", interface4_del_v4(B(state), B(by_local), B(events)), 0, 4, 0);
   told("down, on bytes", interface4_down(B(state), B(events)), 0, 0, 0);
   is("the routes that are left, on bytes", state[1], 2);

@@ -45,7 +45,7 @@ static interface4_reply reply;
   CALL(del_v4, (P(state), P(del_v4), P(events)))                \
   CALL(add_v4_mask, (P(state), P(add_v4_mask), P(events), now)) \
   CALL(del_v4_mask, (P(state), P(del_v4_mask), P(events)))      \
-  CALL(expire, (P(state), P(events), now))                      \
+  CALL(expire, (P(state), P(events), now, INTERFACE4_FUZZ))     \
   CALL(add_route4, (P(state), P(add_route4), P(events)))        \
   CALL(del_route4, (P(state), P(del_route4), P(events)))        \
   CALL(dump4, (P(state), P(listing)))                           \

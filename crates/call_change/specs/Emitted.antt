@@ -67,9 +67,9 @@ module _ (w : List ℕ) (events : ℕ) where
   unfolding del_v4_call
   del_v4-emitted q = emitted (Call.del_v4 q events) w refl
 
-  pub expire-emitted : (now : ℕ) → EmittedRows (expire_call events now w).reply
+  pub expire-emitted : (now allowance : ℕ) → EmittedRows (expire_call events now allowance w).reply
   unfolding expire_call
-  expire-emitted now = emitted (Call.expire events now) w refl
+  expire-emitted now allowance = emitted (Call.expire events now allowance) w refl
 
   pub add_route4-emitted : (q : Row) → EmittedRows (add_route4_call q events w).reply
   unfolding add_route4_call

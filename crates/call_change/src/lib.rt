@@ -145,17 +145,25 @@ pub fn down_lent(state: &mut [u32], room: usize, events: &mut [u32]) -> Result<u
     Ok(0)
 }
 
-// Addresses whose time is up go, and those past their preferred time are marked.
-pub fn expire(state: &mut [u32], events: &mut [u32], clock: u64) -> Result<usize, Refusal>
-    ensures { Answers (expire_call (length events.old) clock state.old) state.new events.old events.new result }
+// Addresses whose time is up go, and those past their preferred time are marked. Both numbers are nanoseconds; the allowance is by how
+// much too soon a lifetime may be taken to have run out.
+pub fn expire(
+    state: &mut [u32],
+    events: &mut [u32],
+    clock: u64,
+    allowance: u64,
+) -> Result<usize, Refusal>
+    ensures { Answers (expire_call (length events.old) clock allowance state.old) state.new events.old events.new result }
 {
+    let clock = Nanoseconds(clock);
+    let allowance = Nanoseconds(allowance);
     call_read::checked(
         state,
         EVENT_BUFFER <= events.len(),
-        request_fit::fit_expire(clock),
+        request_fit::fit_expire(clock, allowance),
     )?;
     changed(state, events, true, |change| {
-        step_expire::expire(change, life::FUZZ, Nanoseconds(clock));
+        step_expire::expire(change, allowance, clock);
         Ok(())
     })
 }

@@ -39,9 +39,9 @@ pub record Changes (c : Call) (room : ℕ) : Type 0 where
   pub changes : alters (semantics c).action ≡ true
   pub buffer : (semantics c).lent ≡ for_events room
 
-pub change-is : (code : ℕ) (q : Row) (clock room : ℕ) → Changes ((change_at code).call q clock room) room
-change-is code q clock room =
-    change-case (λ (x : Change). Changes (x.call q clock room) room)
+pub change-is : (code : ℕ) (q : Row) (clock allowance room : ℕ) → Changes ((change_at code).call q clock allowance room) room
+change-is code q clock allowance room =
+    change-case (λ (x : Change). Changes (x.call q clock allowance room) room)
     (record { changes = refl; buffer = refl })
     (record { changes = refl; buffer = refl })
     (record { changes = refl; buffer = refl })

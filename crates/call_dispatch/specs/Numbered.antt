@@ -12,15 +12,15 @@ use Rattle.call_dispatch.specs.declared.numbered.Call.TheVariants.{Up, Down, Add
 use Rattle.call_dispatch.specs.declared.numbered.UnknownCall.{UnknownCall}
 use Rattle.call_reply.specs.Answer.{reply_of}
 
--- a clock of its low and its high word
+-- a clock, or an allowance, of its low and its high word
 abbrev pub clock_of : ℕ → ℕ → ℕ
 clock_of low high = low + high * 4294967296
 
 -- ---- 1 to 7 change the state
--- the call by its request, the clock and the length of the event buffer; how many words its request has; and the number and value
--- with which it has left every word and emitted nothing
+-- the call by its request, the clock, the allowance and the length of the event buffer; how many words its request has; and the number
+-- and value with which it has left every word and emitted nothing
 pub record Change : Type 0 where
-  pub call : Row → ℕ → ℕ → Call
+  pub call : Row → ℕ → ℕ → ℕ → Call
   pub size : ℕ
   pub still : ℕ → ℕ → Bool
 
@@ -28,26 +28,26 @@ abbrev refused : ℕ → ℕ → Bool
 refused number value = leb 1 number
 
 abbrev pub up_at : Change
-up_at = record { call = λ q clock room. Call.up room clock; size = 0; still = refused }
+up_at = record { call = λ q clock allowance room. Call.up room clock; size = 0; still = refused }
 
 abbrev pub down_at : Change
-down_at = record { call = λ q clock room. Call.down room; size = 0; still = refused }
+down_at = record { call = λ q clock allowance room. Call.down room; size = 0; still = refused }
 
 abbrev pub add_v4_at : Change
-add_v4_at = record { call = λ q clock room. Call.add_v4 q room clock; size = add_v4_size; still = refused }
+add_v4_at = record { call = λ q clock allowance room. Call.add_v4 q room clock; size = add_v4_size; still = refused }
 
 abbrev pub del_v4_at : Change
-del_v4_at = record { call = λ q clock room. Call.del_v4 q room; size = del_v4_size; still = refused }
+del_v4_at = record { call = λ q clock allowance room. Call.del_v4 q room; size = del_v4_size; still = refused }
 
 abbrev pub expire_at : Change
-expire_at = record { call = λ q clock room. Call.expire room clock; size = 0; still = λ number value. eqb value 0 }
+expire_at = record { call = λ q clock allowance room. Call.expire room clock allowance; size = 0; still = λ number value. eqb value 0 }
 
 -- a refusal by the reference may have listed the table
 abbrev pub add_route4_at : Change
-add_route4_at = record { call = λ q clock room. Call.add_route4 q room; size = add_route4_size; still = λ number value. unfit number }
+add_route4_at = record { call = λ q clock allowance room. Call.add_route4 q room; size = add_route4_size; still = λ number value. unfit number }
 
 abbrev pub del_route4_at : Change
-del_route4_at = record { call = λ q clock room. Call.del_route4 q room; size = del_route4_size; still = refused }
+del_route4_at = record { call = λ q clock allowance room. Call.del_route4 q room; size = del_route4_size; still = refused }
 
 abbrev pub change_at : ℕ → Change
 change_at code =
@@ -73,9 +73,9 @@ abbrev pub masked_at : ℕ → Row → ℕ → ℕ → List ℕ → Result
 masked_at code q clock room w = cond (eqb code 19) (add_v4_mask_call q room clock w) (del_v4_mask_call q room w)
 
 -- ---- all, on the state's words: 8 lists the routes, 15 is left, which doesn't see them
-unfoldable pub call_by : ℕ → Row → ℕ → ℕ → ℕ → ℕ → List ℕ → Result
-call_by code lent a b c room w =
-    cond (leb code 7) (step ((change_at code).call lent (clock_of a b) room) w)
+unfoldable pub call_by : ℕ → Row → ℕ → ℕ → ℕ → ℕ → ℕ → List ℕ → Result
+call_by code lent a b c d room w =
+    cond (leb code 7) (step ((change_at code).call lent (clock_of a b) (clock_of c d) room) w)
     (cond (eqb code 8) (step (Call.dump4 room) w)
     (cond (leb code 10) (step (find_at code room a b c) w)
     (cond (leb code 14) (step (ask_at code lent a b c) w)

@@ -44,11 +44,11 @@ pub fn del_v4(state: &mut [u32], q: &[u32], events: &mut [u32]) -> Reply
     Reply::of(call_change::del_v4(state, q, events))
 }
 
-pub fn expire(state: &mut [u32], events: &mut [u32], clock: u64) -> Reply
-    ensures { Made (Call.expire (length events.old) clock)
+pub fn expire(state: &mut [u32], events: &mut [u32], clock: u64, allowance: u64) -> Reply
+    ensures { Made (Call.expire (length events.old) clock allowance)
         state.old events.old (numbers_in result) state.new events.new }
 {
-    Reply::of(call_change::expire(state, events, clock))
+    Reply::of(call_change::expire(state, events, clock, allowance))
 }
 
 pub fn add_route4(state: &mut [u32], q: &[u32], events: &mut [u32]) -> Reply

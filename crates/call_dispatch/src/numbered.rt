@@ -120,7 +120,7 @@ impl fmt::Display for Call {
     }
 }
 
-// A clock of its low and its high word.
+// A clock, or an allowance, of its low and its high word.
 // A number and no `Nanoseconds`: the calls take it as C hands it over.
 fn clock_of(low: u32, high: u32) -> u64
     ensures { result ≡ clock_of low high }
@@ -138,9 +138,10 @@ impl Call {
         a: u32,
         b: u32,
         c: u32,
+        d: u32,
         buffer: &mut [u32],
     ) -> Reply
-        ensures { Did (call_by (code_of self) lent.now a b c (length buffer.old) state.old)
+        ensures { Did (call_by (code_of self) lent.now a b c d (length buffer.old) state.old)
             buffer.old result state.new buffer.new }
     {
         match self {
@@ -148,7 +149,7 @@ impl Call {
             Call::Down => crate::down(state, buffer),
             Call::AddV4 => crate::add_v4(state, lent, buffer, clock_of(a, b)),
             Call::DelV4 => crate::del_v4(state, lent, buffer),
-            Call::Expire => crate::expire(state, buffer, clock_of(a, b)),
+            Call::Expire => crate::expire(state, buffer, clock_of(a, b), clock_of(c, d)),
             Call::AddRoute4 => crate::add_route4(state, lent, buffer),
             Call::DelRoute4 => crate::del_route4(state, lent, buffer),
             Call::Dump4 => crate::dump4(state, buffer),

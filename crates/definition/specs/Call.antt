@@ -5,13 +5,13 @@ use Rattle.lists.specs.Lists.{Row}
 use Rattle.definition.specs.Reference.Lookup.{Found}
 
 -- A call with its arguments: requests and rows as words, an event or listing buffer by its length alone. A row buffer (rowRoom)
--- is where a lookup's row goes.
+-- is where a lookup's row goes. The clock and the allowance of expire are nanoseconds.
 pub data Call : Type 0 where
   up : (events now : ℕ) → Call
   down : (events : ℕ) → Call
   add_v4 : (request : Row) (events now : ℕ) → Call
   del_v4 : (request : Row) (events : ℕ) → Call
-  expire : (events now : ℕ) → Call
+  expire : (events now allowance : ℕ) → Call
   add_route4 : (request : Row) (events : ℕ) → Call
   del_route4 : (request : Row) (events : ℕ) → Call
   dump4 : (listing : ℕ) → Call

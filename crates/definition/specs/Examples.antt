@@ -148,9 +148,9 @@ examples =
     ∷ [])
     (0 ∷ 0 ∷ 2 ∷ []) (254 ∷ 255 ∷ zeros 30)
     -- Valid 10, changed 0: kept at 9,979,999,999, gone at 9,980,000,000.
-    ∷ run (add_v4 (ip 10 1 0 5) 24 10 ∷ Call.expire event_room 9979999999 ∷ []) (five_said 0 10 ∷ reply 0 0 0 0 [] ∷ []) (1 ∷ 3 ∷ 2 ∷ [])
+    ∷ run (add_v4 (ip 10 1 0 5) 24 10 ∷ Call.expire event_room 9979999999 20000000 ∷ []) (five_said 0 10 ∷ reply 0 0 0 0 [] ∷ []) (1 ∷ 3 ∷ 2 ∷ [])
     (254 ∷ 255 ∷ zeros 30)
-    ∷ run (add_v4 (ip 10 1 0 5) 24 10 ∷ Call.expire event_room 9980000000 ∷ [])
+    ∷ run (add_v4 (ip 10 1 0 5) 24 10 ∷ Call.expire event_room 9980000000 20000000 ∷ [])
     (five_said 0 10
     ∷ reply 0 0 4 0
     ((2 ∷ 0 ∷ ip 10 1 0 5 ∷ ip 10 1 0 5 ∷ 24 ∷ 0 ∷ 0 ∷ 0 ∷ 0 ∷ 0 ∷ 2 ∷ 28524 ∷ 0 ∷ 0 ∷ 0 ∷ 0 ∷ 10 ∷ 10 ∷ 0 ∷ 0 ∷ 0 ∷ 0 ∷ zeros 12)

@@ -1,8 +1,7 @@
 -- The calls on any words at all: 200, 201, the request's own number, 203 in that order, then the reference (document 01, "When a
 -- call says no").
-use Rattle.std.specs.Prelude.{ℕ, ◌*◌, Bool, true, false, cond, ◌&&◌, List, [], ◌∷◌, eqb, leb, ltb, length}
+use Rattle.std.specs.Prelude.{ℕ, ◌+◌, ◌*◌, Bool, true, false, cond, ◌&&◌, List, [], ◌∷◌, eqb, leb, ltb, length}
 use Rattle.lists.specs.Lists.{Row}
-use Rattle.life.specs.Life.{allowance}
 use Rattle.layout.specs.Address.{optional, fit_address}
 use Rattle.layout.specs.Event as Event
 use Rattle.layout.specs.Route as Route
@@ -75,9 +74,16 @@ listing_room = routes_size
 abbrev pub invalid : ℕ
 invalid = 22
 
--- the greatest clock that expire takes
-abbrev pub clock_limit : ℕ
-clock_limit = 18446744073689551615
+-- the greatest allowance that expire takes, a second; and what a clock and its allowance come to at most, the largest of 64 bits
+-- (document 02, Paper 7)
+abbrev pub allowance_limit : ℕ
+allowance_limit = 1000000000
+
+abbrev pub clock_largest : ℕ
+clock_largest = 18446744073709551615
+
+abbrev pub fit_expire : ℕ → ℕ → Bool
+fit_expire now allowance = leb allowance allowance_limit && leb (now + allowance) clock_largest
 
 -- a number where a check fails, 0 where it passes
 abbrev pub unless : Bool → ℕ → ℕ
@@ -205,7 +211,7 @@ semantics (Call.up events now) = going events 0 (up now)
 semantics (Call.down events) = going events 0 down
 semantics (Call.add_v4 q events now) = asked add_v4_size q events (add_v4_refusal q) (add_v4 q now)
 semantics (Call.del_v4 q events) = asked del_v4_size q events (unless (fit_del_v4 q) 202) (del_v4 q)
-semantics (Call.expire events now) = going events (unless (leb now clock_limit) 202) (expire allowance now)
+semantics (Call.expire events now allowance) = going events (unless (fit_expire now allowance) 202) (expire allowance now)
 semantics (Call.add_route4 q events) =
     routed add_route4_size q events (unless (fit_add_route4 q) 202) (create4 (table_named q)) (add_route4 q)
 semantics (Call.del_route4 q events) =
@@ -237,8 +243,8 @@ add_v4_call q events now w = step (Call.add_v4 q events now) w
 unfoldable pub del_v4_call : Row → ℕ → List ℕ → Result
 del_v4_call q events w = step (Call.del_v4 q events) w
 
-unfoldable pub expire_call : ℕ → ℕ → List ℕ → Result
-expire_call events now w = step (Call.expire events now) w
+unfoldable pub expire_call : ℕ → ℕ → ℕ → List ℕ → Result
+expire_call events now allowance w = step (Call.expire events now allowance) w
 
 unfoldable pub add_route4_call : Row → ℕ → List ℕ → Result
 add_route4_call q events w = step (Call.add_route4 q events) w

@@ -81,7 +81,7 @@ marshalled (Call.up events now) = record { handed = nothing; call = λ w room. C
 marshalled (Call.down events) = record { handed = nothing; call = λ w room. Call.down room; same = λ w room. refl }
 marshalled (Call.add_v4 q events now) = record { handed = request add_v4_size q; call = λ w room. Call.add_v4 w room now; same = λ w room. refl }
 marshalled (Call.del_v4 q events) = record { handed = request del_v4_size q; call = λ w room. Call.del_v4 w room; same = λ w room. refl }
-marshalled (Call.expire events now) = record { handed = nothing; call = λ w room. Call.expire room now; same = λ w room. refl }
+marshalled (Call.expire events now allowance) = record { handed = nothing; call = λ w room. Call.expire room now allowance; same = λ w room. refl }
 marshalled (Call.add_route4 q events) = record { handed = request add_route4_size q; call = λ w room. Call.add_route4 w room; same = λ w room. refl }
 marshalled (Call.del_route4 q events) = record { handed = request del_route4_size q; call = λ w room. Call.del_route4 w room; same = λ w room. refl }
 marshalled (Call.dump4 listing) = record { handed = nothing; call = λ w room. Call.dump4 room; same = λ w room. refl }

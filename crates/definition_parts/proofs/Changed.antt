@@ -6,7 +6,6 @@ use Rattle.std.proofs.Common.{sym, ap, subst, ◌∙◌, arith, take_all, take-a
 use Rattle.lists.specs.Lists.{eq_row, first, span}
 use Rattle.lists.specs.Bools.{cond-case, not_so}
 use Rattle.lists.specs.All.{eq_row-true, eq_row-refl}
-use Rattle.life.specs.Life.{allowance}
 use Rattle.definition.specs.State.{State}
 use Rattle.definition.specs.Words.{base_size, count_size, state_size, encode, decode, base, state_of, changed, counted, leaves, route_count, table_count}
 use Rattle.definition.specs.Call.{Call, Reply, refusal, written}
@@ -75,7 +74,7 @@ ruled (Call.add_v4 q events now) w h =
     of-tables w h o (has_events (answered o) && row_changes q now (first (same_address q) (state_of w).addresses))
     (add_v4-says q now (state_of w) (fit-state (state_of w) (good-held w h).fits))
 ruled (Call.del_v4 q events) w h = let o = del_v4 q (state_of w) in of-tables w h o (has_events (answered o)) (del_v4-says q (state_of w))
-ruled (Call.expire events now) w h =
+ruled (Call.expire events now allowance) w h =
     let o = expire allowance now (state_of w) in
     of-tables w h (goes o) (has_events (written o.emitted)) (expire-says allowance now (state_of w) (fit-state (state_of w) (good-held w h).fits))
 ruled (Call.add_route4 q events) w h = let o = add_route4 q (state_of w) in of-tables w h o (has_events (answered o)) (add_route4-says q (state_of w))

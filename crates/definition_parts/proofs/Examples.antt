@@ -85,7 +85,7 @@ countings =
     ∷ record {
       low = 0;
       high = 0;
-      calls = ask_v4 (ip 10 1 0 5) 24 9 8 0 ∷ Call.expire event_room 0 ∷ Call.expire event_room 8000000000 ∷ Call.expire event_room 9000000000 ∷ [];
+      calls = ask_v4 (ip 10 1 0 5) 24 9 8 0 ∷ Call.expire event_room 0 20000000 ∷ Call.expire event_room 8000000000 20000000 ∷ Call.expire event_room 9000000000 20000000 ∷ [];
       numbers = 0 ∷ 0 ∷ 0 ∷ 0 ∷ [];
       values = 4 ∷ 0 ∷ 1 ∷ 4 ∷ [];
       lists = 0 ∷ 0 ∷ 2 ∷ [];

@@ -31,60 +31,60 @@ use Rattle.interface4.specs.Quiet.{expire-stays}
 abbrev Still : Change → Result → Type 0
 Still x r = x.still r.reply.number r.reply.value ≡ true
 
-pub record OnBytes (x : Change) (q : Row) (t room : ℕ) : Type 0 where
-  pub inside : inner (x.call q t room) ≡ x.call (words_of q) t event_room
-  pub fits : (s : List ℕ) → cond (eqb x.size 0) (length q) 0 ≡ 0 → suffices (x.call q t room) s ≡ eqb (length q) (4 * x.size) && with s (4 * event_room) room
-  pub stays : (w : List ℕ) → Still x (step (x.call q t room) w) → (step (x.call q t room) w).words ≡ w
-  pub changes : alters (semantics (x.call q t room)).action ≡ true
-  pub buffer : (semantics (x.call q t room)).lent ≡ for_events room
+pub record OnBytes (x : Change) (q : Row) (t early room : ℕ) : Type 0 where
+  pub inside : inner (x.call q t early room) ≡ x.call (words_of q) t early event_room
+  pub fits : (s : List ℕ) → cond (eqb x.size 0) (length q) 0 ≡ 0 → suffices (x.call q t early room) s ≡ eqb (length q) (4 * x.size) && with s (4 * event_room) room
+  pub stays : (w : List ℕ) → Still x (step (x.call q t early room) w) → (step (x.call q t early room) w).words ≡ w
+  pub changes : alters (semantics (x.call q t early room)).action ≡ true
+  pub buffer : (semantics (x.call q t early room)).lent ≡ for_events room
 
 -- with a request of so many words, at most those of the longest
 pub record Described (x : Change) (words : ℕ) : Type 0 where
   pub size : words ≡ x.size
   pub few : words ≤ del_route4_size
-  pub on : (q : Row) (t room : ℕ) → OnBytes x q t room
+  pub on : (q : Row) (t early room : ℕ) → OnBytes x q t early room
 
 nonzero : (n : ℕ) → leb 1 n ≡ true → n ≢ 0
 nonzero n h z = omega (arith, leb-true 1 n h)
 
-up-on : (q : Row) (t room : ℕ) → OnBytes up_at q t room
-up-on q t room = record { inside = refl; fits = λ s h. rw h; stays = λ w h. others_leave (Call.up room t) w (λ st. refl) (nonzero _ h); changes = refl; buffer = refl }
+up-on : (q : Row) (t early room : ℕ) → OnBytes up_at q t early room
+up-on q t early room = record { inside = refl; fits = λ s h. rw h; stays = λ w h. others_leave (Call.up room t) w (λ st. refl) (nonzero _ h); changes = refl; buffer = refl }
 
 pub up-described : Described up_at 0
 up-described = record { size = refl; few = omega arith; on = up-on }
 
-down-on : (q : Row) (t room : ℕ) → OnBytes down_at q t room
-down-on q t room = record { inside = refl; fits = λ s h. rw h; stays = λ w h. others_leave (Call.down room) w (λ st. refl) (nonzero _ h); changes = refl; buffer = refl }
+down-on : (q : Row) (t early room : ℕ) → OnBytes down_at q t early room
+down-on q t early room = record { inside = refl; fits = λ s h. rw h; stays = λ w h. others_leave (Call.down room) w (λ st. refl) (nonzero _ h); changes = refl; buffer = refl }
 
 pub down-described : Described down_at 0
 down-described = record { size = refl; few = omega arith; on = down-on }
 
-add_v4-on : (q : Row) (t room : ℕ) → OnBytes add_v4_at q t room
-add_v4-on q t room = record { inside = refl; fits = λ s h. refl; stays = λ w h. others_leave (Call.add_v4 q room t) w (λ st. refl) (nonzero _ h); changes = refl; buffer = refl }
+add_v4-on : (q : Row) (t early room : ℕ) → OnBytes add_v4_at q t early room
+add_v4-on q t early room = record { inside = refl; fits = λ s h. refl; stays = λ w h. others_leave (Call.add_v4 q room t) w (λ st. refl) (nonzero _ h); changes = refl; buffer = refl }
 
 pub add_v4-described : Described add_v4_at 18
 add_v4-described = record { size = refl; few = omega arith; on = add_v4-on }
 
-del_v4-on : (q : Row) (t room : ℕ) → OnBytes del_v4_at q t room
-del_v4-on q t room = record { inside = refl; fits = λ s h. refl; stays = λ w h. others_leave (Call.del_v4 q room) w (λ st. refl) (nonzero _ h); changes = refl; buffer = refl }
+del_v4-on : (q : Row) (t early room : ℕ) → OnBytes del_v4_at q t early room
+del_v4-on q t early room = record { inside = refl; fits = λ s h. refl; stays = λ w h. others_leave (Call.del_v4 q room) w (λ st. refl) (nonzero _ h); changes = refl; buffer = refl }
 
 pub del_v4-described : Described del_v4_at 11
 del_v4-described = record { size = refl; few = omega arith; on = del_v4-on }
 
-expire-on : (q : Row) (t room : ℕ) → OnBytes expire_at q t room
-expire-on q t room = record { inside = refl; fits = λ s h. rw h; stays = expire-stays room t; changes = refl; buffer = refl }
+expire-on : (q : Row) (t early room : ℕ) → OnBytes expire_at q t early room
+expire-on q t early room = record { inside = refl; fits = λ s h. rw h; stays = expire-stays room t early; changes = refl; buffer = refl }
 
 pub expire-described : Described expire_at 0
 expire-described = record { size = refl; few = omega arith; on = expire-on }
 
-add_route4-on : (q : Row) (t room : ℕ) → OnBytes add_route4_at q t room
-add_route4-on q t room = record { inside = refl; fits = λ s h. refl; stays = unfit-stays (Call.add_route4 q room); changes = refl; buffer = refl }
+add_route4-on : (q : Row) (t early room : ℕ) → OnBytes add_route4_at q t early room
+add_route4-on q t early room = record { inside = refl; fits = λ s h. refl; stays = unfit-stays (Call.add_route4 q room); changes = refl; buffer = refl }
 
 pub add_route4-described : Described add_route4_at 34
 add_route4-described = record { size = refl; few = omega arith; on = add_route4-on }
 
-del_route4-on : (q : Row) (t room : ℕ) → OnBytes del_route4_at q t room
-del_route4-on q t room = record { inside = refl; fits = λ s h. refl; stays = λ w h. others_leave (Call.del_route4 q room) w (λ st. refl) (nonzero _ h); changes = refl; buffer = refl }
+del_route4-on : (q : Row) (t early room : ℕ) → OnBytes del_route4_at q t early room
+del_route4-on q t early room = record { inside = refl; fits = λ s h. refl; stays = λ w h. others_leave (Call.del_route4 q room) w (λ st. refl) (nonzero _ h); changes = refl; buffer = refl }
 
 pub del_route4-described : Described del_route4_at 49
 del_route4-described = record { size = refl; few = omega arith; on = del_route4-on }
@@ -113,16 +113,16 @@ pub state-back : (w b b' : List ℕ) → length w ≡ state_size → length b �
 state-back w b b' h k e = e ∙ put_whole (bytes_of w) b (omega (arith, length-bytes_of w))
 
 -- ---- the call
-module _ (x : Change) (size : ℕ) (d : Described x size) (q s ev : List ℕ) (t : ℕ) (none : cond (eqb size 0) (length q) 0 ≡ 0) where
+module _ (x : Change) (size : ℕ) (d : Described x size) (q s ev : List ℕ) (t early : ℕ) (none : cond (eqb size 0) (length q) 0 ≡ 0) where
   abbrev call : Call
-  call = x.call q t (length ev)
+  call = x.call q t early (length ev)
 
   lent : Lent (semantics call).lent ev
-  lent = subst (λ (k : Buffer). Lent k ev) (sym (d.on q t (length ev)).buffer) refl
+  lent = subst (λ (k : Buffer). Lent k ev) (sym (d.on q t early (length ev)).buffer) refl
 
   suffice : suffices call s ≡ change_fits size q s ev
   suffice =
-      (d.on q t (length ev)).fits s (subst (λ (n : ℕ). cond (eqb n 0) (length q) 0 ≡ 0) d.size none)
+      (d.on q t early (length ev)).fits s (subst (λ (n : ℕ). cond (eqb n 0) (length q) 0 ≡ 0) d.size none)
       ∙ ap (λ (n : ℕ). change_fits n q s ev) (sym d.size)
 
   pub changed-no : {n : Numbers} → change_fits size q s ev ≡ false → n ≡ numbers (refusal 200) → Made call s ev n s ev
@@ -132,7 +132,7 @@ module _ (x : Change) (size : ℕ) (d : Described x size) (q s ev : List ℕ) (t
   -- made on the words r of the request and w of the state, each read into words that were there, and on the event buffer e
   module _ (fit : change_fits size q s ev ≡ true) (u v : List ℕ) {r w e w' e' : List ℕ} {n : Numbers}
       (request : r ≡ put 0 (words_of q) u) (state : w ≡ put 0 (words_of s) v) (long : length v ≡ state_size)
-      (m : Gave (x.call (take (size - 0) (drop 0 r)) t event_room) w e n w' e') where
+      (m : Gave (x.call (take (size - 0) (drop 0 r)) t early event_room) w e n w' e') where
     there : EnoughBytes size q s ev
     there = fits size q s ev fit
 
@@ -144,14 +144,14 @@ module _ (x : Change) (size : ℕ) (d : Described x size) (q s ev : List ℕ) (t
     unfolding there
     made =
         let asked : take (size - 0) (drop 0 r) ≡ words_of q = part-words size q u r there.request request in
-        let same = ap (λ (y : Row). x.call y t event_room) asked ∙ sym (d.on q t (length ev)).inside in
+        let same = ap (λ (y : Row). x.call y t early event_room) asked ∙ sym (d.on q t early (length ev)).inside in
         subst (λ (y : List ℕ). Gave (inner call) y e n w' e') words (subst (λ (z : Call). Gave z w e n w' e') same m)
 
     emitted : Wrote (for_events event_room) n (step (inner call) (words_of s)).reply.rows
     unfolding made
     emitted =
-        let inside = (d.on q t (length ev)).inside in
-        let events = ap (λ (z : Call). (semantics z).lent) inside ∙ (d.on (words_of q) t event_room).buffer in
+        let inside = (d.on q t early (length ev)).inside in
+        let events = ap (λ (z : Call). (semantics z).lent) inside ∙ (d.on (words_of q) t early event_room).buffer in
         let reply = (step (inner call) (words_of s)).reply in
         wrote (for_events event_room) reply n (subst (λ (k : Buffer). Shaped k reply) events (shaped (inner call) (words_of s))) made.reply
 
@@ -166,14 +166,14 @@ module _ (x : Change) (size : ℕ) (d : Described x size) (q s ev : List ℕ) (t
     still f h =
         let l = take (size - 0) (drop 0 r) in
         let numbered = ap (λ (y : Numbers). x.still y.number y.value) m.reply in
-        let stays = (d.on l t event_room).stays w (sym numbered ∙ h) in
+        let stays = (d.on l t early event_room).stays w (sym numbered ∙ h) in
         sym (bytes-words state_size s there.state f) ∙ ap bytes_of (sym (m.words ∙ stays ∙ words))
 
     pub changed-yes : {s' ev' : List ℕ} → s' ≡ bytes_of w' → ev' ≡ put 0 (bytes_of (take (Event.size * n.value) e')) ev
         → Below 4294967296 w' → Below 4294967296 e' → Made call s ev n s' ev'
     unfolding lent made emitted
     changed-yes p v f g =
-        let written = cond-true (alters (semantics call).action) (bytes_of w') s (d.on q t (length ev)).changes in
+        let written = cond-true (alters (semantics call).action) (bytes_of w') s (d.on q t early (length ev)).changes in
         made-yes call s ev lent (Event.size * n.value) (suffice ∙ fit) made emitted.long (p ∙ sym written) v f g
 
 -- what the call on words did, by its contract

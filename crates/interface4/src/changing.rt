@@ -28,8 +28,14 @@ trait Changing<const ROOM: usize> {
 
     const WORDS: usize;
 
-    fn make(state: &mut [u32], q: &[u32], clock: u64, events: &mut [u32; ROOM]) -> Reply
-        ensures { Did (step (change.call q.now clock event_room) state.old)
+    fn make(
+        state: &mut [u32],
+        q: &[u32],
+        clock: u64,
+        allowance: u64,
+        events: &mut [u32; ROOM],
+    ) -> Reply
+        ensures { Did (step (change.call q.now clock allowance event_room) state.old)
             events.old result state.new events.new };
 
     // With this reply it left every word. It is asked of the reply, and of no Result: the calls of call_dispatch, which these are, give one.
@@ -48,7 +54,13 @@ impl Changing<EVENT_BUFFER> for Up {
 
     const WORDS: usize = 0;
 
-    fn make(state: &mut [u32], _q: &[u32], clock: u64, events: &mut [u32; EVENT_BUFFER]) -> Reply {
+    fn make(
+        state: &mut [u32],
+        _q: &[u32],
+        clock: u64,
+        _allowance: u64,
+        events: &mut [u32; EVENT_BUFFER],
+    ) -> Reply {
         call_dispatch::up(state, events, clock)
     }
 
@@ -68,7 +80,13 @@ impl Changing<EVENT_WORDS> for Down {
 
     const WORDS: usize = 0;
 
-    fn make(state: &mut [u32], _q: &[u32], _clock: u64, events: &mut [u32; EVENT_WORDS]) -> Reply {
+    fn make(
+        state: &mut [u32],
+        _q: &[u32],
+        _clock: u64,
+        _allowance: u64,
+        events: &mut [u32; EVENT_WORDS],
+    ) -> Reply {
         call_dispatch::down_lent(state, EVENT_BUFFER, events)
     }
 
@@ -88,7 +106,13 @@ impl Changing<EVENT_BUFFER> for AddV4 {
 
     const WORDS: usize = ADD_V4_WORDS;
 
-    fn make(state: &mut [u32], q: &[u32], clock: u64, events: &mut [u32; EVENT_BUFFER]) -> Reply {
+    fn make(
+        state: &mut [u32],
+        q: &[u32],
+        clock: u64,
+        _allowance: u64,
+        events: &mut [u32; EVENT_BUFFER],
+    ) -> Reply {
         call_dispatch::add_v4(state, q, events, clock)
     }
 
@@ -108,7 +132,13 @@ impl Changing<EVENT_BUFFER> for DelV4 {
 
     const WORDS: usize = DEL_V4_WORDS;
 
-    fn make(state: &mut [u32], q: &[u32], _clock: u64, events: &mut [u32; EVENT_BUFFER]) -> Reply {
+    fn make(
+        state: &mut [u32],
+        q: &[u32],
+        _clock: u64,
+        _allowance: u64,
+        events: &mut [u32; EVENT_BUFFER],
+    ) -> Reply {
         call_dispatch::del_v4(state, q, events)
     }
 
@@ -128,8 +158,14 @@ impl Changing<EVENT_BUFFER> for Expire {
 
     const WORDS: usize = 0;
 
-    fn make(state: &mut [u32], _q: &[u32], clock: u64, events: &mut [u32; EVENT_BUFFER]) -> Reply {
-        call_dispatch::expire(state, events, clock)
+    fn make(
+        state: &mut [u32],
+        _q: &[u32],
+        clock: u64,
+        allowance: u64,
+        events: &mut [u32; EVENT_BUFFER],
+    ) -> Reply {
+        call_dispatch::expire(state, events, clock, allowance)
     }
 
     fn still(reply: Reply) -> bool {
@@ -148,7 +184,13 @@ impl Changing<EVENT_WORDS> for AddRoute4 {
 
     const WORDS: usize = ADD_ROUTE4_WORDS;
 
-    fn make(state: &mut [u32], q: &[u32], _clock: u64, events: &mut [u32; EVENT_WORDS]) -> Reply {
+    fn make(
+        state: &mut [u32],
+        q: &[u32],
+        _clock: u64,
+        _allowance: u64,
+        events: &mut [u32; EVENT_WORDS],
+    ) -> Reply {
         call_dispatch::add_route4_lent(state, q, EVENT_BUFFER, events)
     }
 
@@ -169,7 +211,13 @@ impl Changing<EVENT_WORDS> for DelRoute4 {
 
     const WORDS: usize = DEL_ROUTE4_WORDS;
 
-    fn make(state: &mut [u32], q: &[u32], _clock: u64, events: &mut [u32; EVENT_WORDS]) -> Reply {
+    fn make(
+        state: &mut [u32],
+        q: &[u32],
+        _clock: u64,
+        _allowance: u64,
+        events: &mut [u32; EVENT_WORDS],
+    ) -> Reply {
         call_dispatch::del_route4_lent(state, q, EVENT_BUFFER, events)
     }
 
@@ -198,11 +246,12 @@ fn change<const ROOM: usize, T: Changing<ROOM>>(
     state: &mut [u8],
     request: &[u8],
     clock: u64,
+    allowance: u64,
     events: &mut [u8],
 ) -> Reply
     requires none { cond (eqb T.WORDS 0) (length request.now) 0 ≡ 0 }
     requires room { ROOM ≤ event_room }
-    ensures { Made (T.change.call request.now clock (length events.old))
+    ensures { Made (T.change.call request.now clock allowance (length events.old))
         state.old events.old (numbers_in result) state.new events.new }
 {
     if !((request.len() == 4 * T::WORDS)
@@ -215,7 +264,7 @@ fn change<const ROOM: usize, T: Changing<ROOM>>(
     let mut s = [0u32; STATE_WORDS];
     endian::words_of(state, &mut s);
     let mut e = [0u32; ROOM];
-    let answer = T::make(&mut s, &q[0..T::WORDS], clock, &mut e);
+    let answer = T::make(&mut s, &q[0..T::WORDS], clock, allowance, &mut e);
     give_back(T::still(answer), &s, state);
     given::give_rows(&e, EVENT_WORDS, answer.value, events);
     answer
@@ -226,7 +275,7 @@ pub extern "C" fn interface4_up(state: &mut [u8], events: &mut [u8], clock: u64)
     ensures { Made (Call.up (length events.old) clock)
         state.old events.old (numbers_in result) state.new events.new }
 {
-    change::<EVENT_BUFFER, Up>(state, b"", clock, events)
+    change::<EVENT_BUFFER, Up>(state, b"", clock, 0, events)
 }
 
 #[unsafe(no_mangle)]
@@ -234,7 +283,7 @@ pub extern "C" fn interface4_down(state: &mut [u8], events: &mut [u8]) -> Reply
     ensures { Made (Call.down (length events.old))
         state.old events.old (numbers_in result) state.new events.new }
 {
-    change::<EVENT_WORDS, Down>(state, b"", 0, events)
+    change::<EVENT_WORDS, Down>(state, b"", 0, 0, events)
 }
 
 #[unsafe(no_mangle)]
@@ -247,7 +296,7 @@ pub extern "C" fn interface4_add_v4(
     ensures { Made (Call.add_v4 request.now (length events.old) clock)
         state.old events.old (numbers_in result) state.new events.new }
 {
-    change::<EVENT_BUFFER, AddV4>(state, request, clock, events)
+    change::<EVENT_BUFFER, AddV4>(state, request, clock, 0, events)
 }
 
 #[unsafe(no_mangle)]
@@ -255,15 +304,20 @@ pub extern "C" fn interface4_del_v4(state: &mut [u8], request: &[u8], events: &m
     ensures { Made (Call.del_v4 request.now (length events.old))
         state.old events.old (numbers_in result) state.new events.new }
 {
-    change::<EVENT_BUFFER, DelV4>(state, request, 0, events)
+    change::<EVENT_BUFFER, DelV4>(state, request, 0, 0, events)
 }
 
 #[unsafe(no_mangle)]
-pub extern "C" fn interface4_expire(state: &mut [u8], events: &mut [u8], clock: u64) -> Reply
-    ensures { Made (Call.expire (length events.old) clock)
+pub extern "C" fn interface4_expire(
+    state: &mut [u8],
+    events: &mut [u8],
+    clock: u64,
+    allowance: u64,
+) -> Reply
+    ensures { Made (Call.expire (length events.old) clock allowance)
         state.old events.old (numbers_in result) state.new events.new }
 {
-    change::<EVENT_BUFFER, Expire>(state, b"", clock, events)
+    change::<EVENT_BUFFER, Expire>(state, b"", clock, allowance, events)
 }
 
 #[unsafe(no_mangle)]
@@ -275,7 +329,7 @@ pub extern "C" fn interface4_add_route4(
     ensures { Made (Call.add_route4 request.now (length events.old))
         state.old events.old (numbers_in result) state.new events.new }
 {
-    change::<EVENT_WORDS, AddRoute4>(state, request, 0, events)
+    change::<EVENT_WORDS, AddRoute4>(state, request, 0, 0, events)
 }
 
 #[unsafe(no_mangle)]
@@ -287,5 +341,5 @@ pub extern "C" fn interface4_del_route4(
     ensures { Made (Call.del_route4 request.now (length events.old))
         state.old events.old (numbers_in result) state.new events.new }
 {
-    change::<EVENT_WORDS, DelRoute4>(state, request, 0, events)
+    change::<EVENT_WORDS, DelRoute4>(state, request, 0, 0, events)
 }

@@ -50,11 +50,16 @@ pub extern "C" fn interface4w_del_v4(
 }
 
 #[unsafe(no_mangle)]
-pub extern "C" fn interface4w_expire(state: &mut [u32], events: &mut [u32], clock: u64) -> Reply
-    ensures { Made (Call.expire (length events.old) clock)
+pub extern "C" fn interface4w_expire(
+    state: &mut [u32],
+    events: &mut [u32],
+    clock: u64,
+    allowance: u64,
+) -> Reply
+    ensures { Made (Call.expire (length events.old) clock allowance)
         state.old events.old (numbers_in result) state.new events.new }
 {
-    call_dispatch::expire(state, events, clock)
+    call_dispatch::expire(state, events, clock, allowance)
 }
 
 #[unsafe(no_mangle)]

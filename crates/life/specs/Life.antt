@@ -15,10 +15,6 @@ forever = 4294967295
 abbrev pub second : ℕ
 second = 1000000000
 
--- the nanoseconds by which a lifetime may be taken to have run out too soon: 20 ms
-abbrev pub allowance : ℕ
-allowance = 20000000
-
 -- the lifetime is not forever, and the floor of (now + the allowance - changed, at least 0) / second is at least the lifetime
 unfoldable pub reached : ℕ → ℕ → ℕ → ℕ → Bool
 reached early lifetime changed now = not (eqb lifetime forever) && leb lifetime ((now + early - changed) / second)

@@ -15,9 +15,6 @@ pub const FOREVER: u32 = u32::MAX;
 
 const SECOND: u64 = 1_000_000_000;
 
-// How much too soon a lifetime may be taken to have run out: 20 ms.
-pub const FUZZ: Nanoseconds = Nanoseconds(20_000_000);
-
 // The lifetimes of an address, from when they were last set, and when it was made and they were set.
 #[derive(Clone, Copy, Debug, PartialEq, Eq)]
 pub struct Life {

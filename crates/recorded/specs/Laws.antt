@@ -61,19 +61,19 @@ ands-at a (b ∷ l) h (suc k) = ands-at (a && b) l h k
 pub fits : (r : Row) → fit r ≡ true → Bounds r
 unfolding fit
 fits r h =
-    let first = leb 16 (length r) in
+    let first = leb 17 (length r) in
     let l =
     leb (length r) 4096 ∷ eqb (get_or r 0 0) (check_of (part 1 (length r) r)) ∷ eqb (get_or r 1 0) (length r) ∷ is_call (get_or r 2 0) ∷ leb (get_or r 3 0) 1 ∷ leb (get_or r 4 0) held_size
-    ∷ leb (get_or r 5 0) event_room ∷ leb 16 (get_or r 10 0) ∷ leb (get_or r 10 0) (get_or r 11 0) ∷ leb (get_or r 11 0) (get_or r 12 0) ∷ leb (get_or r 12 0) (length r) ∷ []
+    ∷ leb (get_or r 5 0) event_room ∷ leb 17 (get_or r 10 0) ∷ leb (get_or r 10 0) (get_or r 11 0) ∷ leb (get_or r 11 0) (get_or r 12 0) ∷ leb (get_or r 12 0) (length r) ∷ []
     in
     let at = ands-at first l h in
     record {
-      long = leb-true 16 (length r) (ands-first first l h);
+      long = leb-true 17 (length r) (ands-first first l h);
       few = leb-true (length r) 4096 (at 0);
       call = at 3;
       state = leb-true (get_or r 4 0) held_size (at 5);
       buffer = leb-true (get_or r 5 0) event_room (at 6);
-      sets = leb-true 16 (get_or r 10 0) (at 7);
+      sets = leb-true 17 (get_or r 10 0) (at 7);
       lent = leb-true (get_or r 10 0) (get_or r 11 0) (at 8);
       changes = leb-true (get_or r 11 0) (get_or r 12 0) (at 9);
       rows = leb-true (get_or r 12 0) (length r) (at 10);
@@ -81,12 +81,12 @@ fits r h =
 
 -- the call on the first of the held words and the first of the buffer
 pub answered : (r : Row) (h b : List ℕ) (q : Row) {x : Reply} {h' b' : List ℕ} → get_or r 5 0 ≤ length b → q ≡ lent_of r
-    → Did (call_by (get_or r 2 0) q (get_or r 13 0) (get_or r 14 0) (get_or r 15 0) (length (take (get_or r 5 0) b)) (take (get_or r 4 0) h)) (take (get_or r 5 0) b) x h' b'
+    → Did (call_by (get_or r 2 0) q (get_or r 13 0) (get_or r 14 0) (get_or r 15 0) (get_or r 16 0) (length (take (get_or r 5 0) b)) (take (get_or r 4 0) h)) (take (get_or r 5 0) b) x h' b'
     → (x ≡ reply_of (result_of r h).reply) × ((h' ++ drop (get_or r 4 0) h ≡ held_by r h) × (b' ++ drop (get_or r 5 0) b ≡ buffer_by r h b))
 answered r h b q {x} {h'} {b'} few eq d =
     let n = get_or r 4 0 in
     let m = get_or r 5 0 in
-    let e : call_by (get_or r 2 0) q (get_or r 13 0) (get_or r 14 0) (get_or r 15 0) (length (take m b)) (take n h) ≡ result_of r h = rw (eq, length-take-le m b few) refl in (
+    let e : call_by (get_or r 2 0) q (get_or r 13 0) (get_or r 14 0) (get_or r 15 0) (get_or r 16 0) (length (take m b)) (take n h) ≡ result_of r h = rw (eq, length-take-le m b few) refl in (
       d.answer ∙ ap (λ (z : Result). reply_of z.reply) e,
       (
         ap (λ (l : List ℕ). l ++ drop n h) (d.words ∙ ap (λ (z : Result). z.words) e),
@@ -103,8 +103,8 @@ agreed r h b h₁ rows wanted left b' changes h₂ reply x y z begins says store
     rw (ex, ey, ez, answers, leaves, sets, changed, writes, stores, says, begins)
 
 -- the tests behind those of the length
-pub tests : (r : Row) (k : ℕ) (known : Bool) → 16 ≤ length r → length r ≤ 4096 → k ≡ check_of (part 1 (length r) r) → known ≡ is_call (get_or r 2 0)
+pub tests : (r : Row) (k : ℕ) (known : Bool) → 17 ≤ length r → length r ≤ 4096 → k ≡ check_of (part 1 (length r) r) → known ≡ is_call (get_or r 2 0)
     → eqb (get_or r 0 0) k && eqb (get_or r 1 0) (length r) && known && leb (get_or r 3 0) 1 && leb (get_or r 4 0) held_size && leb (get_or r 5 0) event_room
-    && leb 16 (get_or r 10 0) && leb (get_or r 10 0) (get_or r 11 0) && leb (get_or r 11 0) (get_or r 12 0) && leb (get_or r 12 0) (length r) ≡ fit r
+    && leb 17 (get_or r 10 0) && leb (get_or r 10 0) (get_or r 11 0) && leb (get_or r 11 0) (get_or r 12 0) && leb (get_or r 12 0) (length r) ≡ fit r
 unfolding fit
-tests r k known h i e f = rw (e, f, le-leb 16 (length r) h, le-leb (length r) 4096 i)
+tests r k known h i e f = rw (e, f, le-leb 17 (length r) h, le-leb (length r) 4096 i)

@@ -28,7 +28,7 @@ part a e r = take (e - a) (drop a r)
 
 -- pairs of a place and a word: the held words that are set before the call
 abbrev pub sets_of : Row → List ℕ
-sets_of r = part 16 (get_or r 10 0) r
+sets_of r = part 17 (get_or r 10 0) r
 
 -- the request or the row handed over
 abbrev pub lent_of : Row → Row
@@ -45,7 +45,7 @@ rows_of r = part (get_or r 12 0) (length r) r
 -- its words are all there, and its parts lie in it
 unfoldable pub fit : Row → Bool
 fit r =
-    leb 16 (length r)
+    leb 17 (length r)
     && leb (length r) 4096
     && eqb (get_or r 0 0) (check_of (part 1 (length r) r))
     && eqb (get_or r 1 0) (length r)
@@ -53,19 +53,19 @@ fit r =
     && leb (get_or r 3 0) 1
     && leb (get_or r 4 0) held_size
     && leb (get_or r 5 0) event_room
-    && leb 16 (get_or r 10 0)
+    && leb 17 (get_or r 10 0)
     && leb (get_or r 10 0) (get_or r 11 0)
     && leb (get_or r 11 0) (get_or r 12 0)
     && leb (get_or r 12 0) (length r)
 
 -- what of it the code goes by
 pub record Bounds (r : Row) : Type 0 where
-  pub long : 16 ≤ length r
+  pub long : 17 ≤ length r
   pub few : length r ≤ 4096
   pub call : is_call (get_or r 2 0) ≡ true
   pub state : get_or r 4 0 ≤ held_size
   pub buffer : get_or r 5 0 ≤ event_room
-  pub sets : 16 ≤ get_or r 10 0
+  pub sets : 17 ≤ get_or r 10 0
   pub lent : get_or r 10 0 ≤ get_or r 11 0
   pub changes : get_or r 11 0 ≤ get_or r 12 0
   pub rows : get_or r 12 0 ≤ length r
@@ -92,7 +92,7 @@ after_of r held = set_all (changes_of r) (before_of r held)
 -- ---- the call
 -- what the definition says of it, where the held words are h before it
 abbrev pub result_of : Row → List ℕ → Result
-result_of r h = call_by (get_or r 2 0) (lent_of r) (get_or r 13 0) (get_or r 14 0) (get_or r 15 0) (get_or r 5 0) (take (get_or r 4 0) h)
+result_of r h = call_by (get_or r 2 0) (lent_of r) (get_or r 13 0) (get_or r 14 0) (get_or r 15 0) (get_or r 16 0) (get_or r 5 0) (take (get_or r 4 0) h)
 
 -- the held words and the buffer after it: what isn't lent stays
 abbrev pub held_by : Row → List ℕ → List ℕ

@@ -38,14 +38,16 @@ pub const LENT_END: usize = 11;
 pub const CHANGES_END: usize = 12;
 
 // The call's numbers.
-pub const FIRST: usize = 13;
+pub const A: usize = 13;
 
-pub const MIDDLE: usize = 14;
+pub const B: usize = 14;
 
-pub const LAST: usize = 15;
+pub const C: usize = 15;
+
+pub const D: usize = 16;
 
 // Behind these words the sets begin.
-pub const HEAD: usize = 16;
+pub const HEAD: usize = 17;
 
 // A record whose parts lie in it.
 #[derive(Clone, Copy)]
@@ -132,9 +134,10 @@ impl<'a> Record<'a> {
         call.make(
             &mut held[..r[STATE] as usize],
             self.lent(),
-            r[FIRST],
-            r[MIDDLE],
-            r[LAST],
+            r[A],
+            r[B],
+            r[C],
+            r[D],
             &mut buffer[..r[BUFFER] as usize],
         )
     }

@@ -14,7 +14,7 @@ pub enum Refusal {
     WrongLength,
     // A state that isn't well-formed, or a handed row that could stand in none.
     Malformed,
-    // A request that isn't fit, or a clock to which the allowance can't be added.
+    // A request that isn't fit, or an allowance over its limit, or one that can't be added to the clock.
     Unfit,
     // A list would pass its limit.
     Full,

@@ -141,7 +141,7 @@ fn replay_records(rt: &impl Print, input: &mut impl Read, records: u32) {
 fn head(input: &mut impl Read) -> Option<u32> {
     let mut head = [0u32; 5];
     streams::read_words(input, &mut head).ok()?;
-    let whole = head[0].to_le_bytes() == *b"NKV2" && head[4] == recorded::check(&head[..4]);
+    let whole = head[0].to_le_bytes() == *b"NKV3" && head[4] == recorded::check(&head[..4]);
     whole.then_some(head[3])
 }
 

@@ -6,12 +6,13 @@ ghost use Rattle.refusal.specs.Refusal.{Refuses};
 ghost use Rattle.layout.specs.Request.{add_v4_size, del_v4_size, add_route4_size, del_route4_size, fit_del_v4, fit_route_words, pairs, fit_pairs, pair_count, fit_add_route4, fit_del_route4};
 ghost use Rattle.layout.specs.Address.{optional};
 ghost use Rattle.row_address.specs.V4.{optional_of};
-ghost use Rattle.definition.specs.Step.{unless, add_v4_refusal, clock_limit};
+ghost use Rattle.definition.specs.Step.{unless, add_v4_refusal, fit_expire};
 
 use layout::{
     ADD_ROUTE4_WORDS, ADD_V4_WORDS, DEL_ROUTE4_WORDS, DEL_V4_WORDS, DelRoute4, add_route4, add_v4,
     address, del_route4, del_v4, route,
 };
+use life::Nanoseconds;
 use refusal::Refusal;
 use row_address::Label;
 
@@ -34,13 +35,17 @@ pub fn fit_select(dst_present: u32, dst: u32, scope: u32) -> Result<Option<u32>,
     Ok(row_address::optional_of(dst_present, dst))
 }
 
-// The greatest clock to which the allowance can still be added.
-const CLOCK_LIMIT: u64 = 18446744073689551615;
+// A second: the greatest allowance of `expire`.
+const ALLOWANCE_LIMIT: u64 = 1_000_000_000;
 
-pub fn fit_expire(clock: u64) -> Result<(), Refusal>
-    ensures { Refuses result (unless (leb clock clock_limit) 202) }
+// What a clock and its allowance come to at most.
+const CLOCK_LARGEST: u64 = u64::MAX;
+
+pub fn fit_expire(clock: Nanoseconds, allowance: Nanoseconds) -> Result<(), Refusal>
+    ensures { Refuses result (unless (fit_expire clock.0 allowance.0) 202) }
 {
-    refusal::unless(clock <= CLOCK_LIMIT, Refusal::Unfit)
+    let fit = allowance.0 <= ALLOWANCE_LIMIT && clock.0 <= CLOCK_LARGEST - allowance.0;
+    refusal::unless(fit, Refusal::Unfit)
 }
 
 // A request's fields come first, then what Linux turns down (document 02, Paper 2).

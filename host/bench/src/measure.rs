@@ -307,7 +307,7 @@ macro_rules! dispatch {
             Call::Down => $module::down($state, $buffer),
             Call::AddV4 { now, .. } => $module::add_v4($state, $request, $buffer, now),
             Call::DelV4 { .. } => $module::del_v4($state, $request, $buffer),
-            Call::Expire { now } => $module::expire($state, $buffer, now),
+            Call::Expire { now, allowance } => $module::expire($state, $buffer, now, allowance),
             Call::AddRoute4 { .. } => $module::add_route4($state, $request, $buffer),
             Call::DelRoute4 { .. } => $module::del_route4($state, $request, $buffer),
             Call::Dump4 => $module::dump4($state, $buffer),

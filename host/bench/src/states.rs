@@ -3,6 +3,7 @@
 use oracle::call::{Call, NAMES};
 use oracle::script::{NewAddress, Route, Script, address, ip, route};
 use oracle::words::{address_at, route_at};
+use reference::FUZZ;
 
 /// A call, and the state that it is made on.
 pub struct Measured {
@@ -108,7 +109,10 @@ fn usual_call(code: usize) -> Call {
             request[..2].copy_from_slice(&[1, ip("10.9.0.5")]);
             Call::DelV4 { request }
         }
-        5 => Call::Expire { now: 5 },
+        5 => Call::Expire {
+            now: 5,
+            allowance: FUZZ,
+        },
         6 => Call::AddRoute4 {
             request: route("10.77.0.0/24").up().adding(),
         },
@@ -174,7 +178,10 @@ pub fn special() -> Vec<Measured> {
         of(
             "expire, 64 subnets all due, a route from each, 64/256/2",
             all_due(),
-            Call::Expire { now: 2_000_000_000 },
+            Call::Expire {
+                now: 2_000_000_000,
+                allowance: FUZZ,
+            },
         ),
     ]
 }

@@ -149,8 +149,17 @@ fn run<E: Element>(call: Call, lent: Lent<E>) -> Reply {
             tos: oif,
             oif: tos,
         },
-        ("half a clock", Call::Expire { now }) => Call::Expire {
+        ("half a clock", Call::Expire { now, allowance }) => Call::Expire {
             now: u64::from(now as u32),
+            allowance,
+        },
+        ("half an allowance", Call::Expire { now, allowance }) => Call::Expire {
+            now,
+            allowance: u64::from(allowance as u32),
+        },
+        ("clock and allowance swapped", Call::Expire { now, allowance }) => Call::Expire {
+            now: allowance,
+            allowance: now,
         },
         ("another function", Call::Source { ip }) => Call::Local4 { ip },
         (_, call) => call,
@@ -381,7 +390,8 @@ macro_rules! all {
             down(state a, buffer b;) Call::Down;
             add_v4(state a, request b, buffer c; now: u64) Call::AddV4 { request: NONE, now };
             del_v4(state a, request b, buffer c;) Call::DelV4 { request: NONE };
-            expire(state a, buffer b; now: u64) Call::Expire { now };
+            expire(state a, buffer b; now: u64, allowance: u64)
+                Call::Expire { now, allowance };
             add_route4(state a, request b, buffer c;) Call::AddRoute4 { request: NONE };
             del_route4(state a, request b, buffer c;) Call::DelRoute4 { request: NONE };
             dump4(state a, buffer b;) Call::Dump4;
@@ -472,7 +482,7 @@ pub extern "C" fn prefix(mask: u32) -> Reply {
 pub extern "C" fn sizes() -> Reply {
     Reply {
         number: 0,
-        present: 6,
+        present: 7,
         value: if fault() == "other sizes" {
             9_507
         } else {

@@ -1,7 +1,7 @@
 //! A loopback's day: up, an address with a lifetime, a route in a table of
 //! its own, the state kept and taken up again, the address run out.
 use core::net::Ipv4Addr;
-use naskrefim::{Addresses, Ask4, Event, Lifetimes, Refused, V4};
+use naskrefim::{Addresses, Ask4, Event, FUZZ, Lifetimes, Refused, V4};
 
 const SECOND: u64 = 1_000_000_000;
 
@@ -36,8 +36,8 @@ fn main() -> Result<(), Refused> {
     let peer = Ipv4Addr::new(10, 1, 0, 9);
     println!("to {peer} from {}", lo.source(peer));
 
-    tell("after 6 s", &lo.expire(6 * SECOND)?);
-    tell("after 10 s", &lo.expire(10 * SECOND)?);
+    tell("after 6 s", &lo.expire(6 * SECOND, FUZZ)?);
+    tell("after 10 s", &lo.expire(10 * SECOND, FUZZ)?);
     println!("to {peer} from {}", lo.source(peer));
     Ok(())
 }

@@ -4,7 +4,7 @@
 //! message, here made of the event itself. `host/messages/monitor` compares
 //! the two.
 use core::net::Ipv4Addr;
-use naskrefim::{Addresses, Ask4, DEPRECATED, Event, F_CREATE, F_REPLACE, FOREVER, Kind};
+use naskrefim::{Addresses, Ask4, DEPRECATED, Event, F_CREATE, F_REPLACE, FOREVER, FUZZ, Kind};
 use naskrefim::{Lifetimes, NO_METRICS, NO_PREFIX_ROUTE, PERMANENT, Refused, Route4};
 use naskrefim::{SCOPE_LINK, SCOPE_UNIVERSE, SECONDARY, Select4, V4};
 
@@ -45,7 +45,7 @@ fn day() -> Result<Vec<(Event, u64)>, Refused> {
     let mut told: Vec<(Event, u64)> = all.into_iter().map(|e| (e, 7 * SECOND / 2)).collect();
     // one is deprecated, and the last goes with what it had
     for now in [51 * SECOND, 200 * SECOND] {
-        told.extend(lo.expire(now)?.into_iter().map(|e| (e, now)));
+        told.extend(lo.expire(now, FUZZ)?.into_iter().map(|e| (e, now)));
     }
     Ok(told)
 }

@@ -256,13 +256,35 @@ impl Addresses {
     }
 
     /// Removes addresses whose valid lifetime has ended at `now`, and marks
-    /// those whose preferred one has.
+    /// those whose preferred one has. A lifetime that ends within the next
+    /// `allowance` nanoseconds counts as ended: a host that calls this at
+    /// its timer's ticks allows for the tick. [`FUZZ`](crate::FUZZ), 20 ms,
+    /// is what the Rust and Linux allow for.
+    ///
+    /// ```
+    /// use core::net::Ipv4Addr;
+    /// use naskrefim::{Addresses, FUZZ, Lifetimes, Refused, SCOPE_UNIVERSE, V4};
+    ///
+    /// # fn main() -> Result<(), Refused> {
+    /// let mut lo = Addresses::new();
+    /// let own = Ipv4Addr::new(10, 1, 0, 5);
+    /// let ten_seconds = Lifetimes { valid: 10, preferred: 10 };
+    /// lo.add_v4(V4::new(own, own, 24, SCOPE_UNIVERSE), ten_seconds, false, false, 0)?;
+    /// let near_its_end = 9_980_000_000;
+    /// assert!(lo.clone().expire(near_its_end, FUZZ)?.len() > 0);
+    /// assert_eq!(lo.expire(near_its_end, 4_000_000)?, []);
+    /// assert_eq!(lo.expire(0, 1_000_000_001), Err(Refused::UNFIT_REQUEST));
+    /// # Ok(())
+    /// # }
+    /// ```
     ///
     /// # Errors
-    /// [`Refused::UNFIT_REQUEST`] for a clock within 20 ms of its end.
-    pub fn expire(&mut self, now: u64) -> Result<Vec<Event>, Refused> {
+    /// [`Refused::UNFIT_REQUEST`] for an allowance over
+    /// [`ALLOWANCE_LIMIT`](crate::ALLOWANCE_LIMIT), a second, and for a
+    /// clock with which it passes `u64::MAX`.
+    pub fn expire(&mut self, now: u64, allowance: u64) -> Result<Vec<Event>, Refused> {
         let (state, events) = self.lent();
-        let reply = words::expire(state, events, now);
+        let reply = words::expire(state, events, now, allowance);
         self.told(reply)
     }
 

@@ -140,10 +140,11 @@ macro_rules! exported {
             /// request: see
             /// [`Addresses::del_v4_mask`](crate::Addresses::del_v4_mask).
             del_v4_mask(state: write, request: read, events: write;);
-            /// Addresses run out at the clock `now`: see
+            /// Addresses run out at the clock `now`, sooner by at most
+            /// `allowance`: see
             /// [`Addresses::expire`](crate::Addresses::expire). `value` is
             /// the number of event rows.
-            expire(state: write, events: write; now: u64);
+            expire(state: write, events: write; now: u64, allowance: u64);
             /// A route is added: see
             /// [`Addresses::add_route4`](crate::Addresses::add_route4).
             /// `value` is the number of event rows.
@@ -278,7 +279,7 @@ pub struct Sizes {
 /// use naskrefim::{EVENT_LIMIT, STATE_WORDS, sizes};
 /// let sizes = sizes();
 /// assert_eq!((sizes.state_words, sizes.event_rows), (STATE_WORDS, EVENT_LIMIT));
-/// assert_eq!(sizes.paper, 6);
+/// assert_eq!(sizes.paper, 7);
 /// ```
 #[must_use]
 pub fn sizes() -> Sizes {

@@ -4,6 +4,14 @@ use crate::Metrics;
 /// `INFINITY_LIFE_TIME`: a lifetime that never ends.
 pub const FOREVER: u32 = u32::MAX;
 
+/// The Rust's allowance of 20 ms, in nanoseconds
+/// (`ADDRCONF_TIMER_FUZZ_MINUS`): by how much too soon a lifetime may be
+/// taken to have ended. [`Addresses::expire`](crate::Addresses::expire)
+/// takes it, or another.
+pub const FUZZ: u64 = 20_000_000;
+/// The greatest such allowance: a second.
+pub const ALLOWANCE_LIMIT: u64 = 1_000_000_000;
+
 /// `IFA_F_SECONDARY`: another address is its subnet's primary one.
 pub const SECONDARY: u32 = 0x01;
 /// `IFA_F_DEPRECATED`: its preferred lifetime has ended.

@@ -64,8 +64,8 @@ numbers! {
     /// A state that is not well-formed, or a row that could not stand in
     /// one.
     UNFIT_STATE = 201, "a state or a row that is not well-formed";
-    /// A request or a clock out of its range.
-    UNFIT_REQUEST = 202, "a request or a clock out of its range";
+    /// A request, a clock or an allowance out of its range.
+    UNFIT_REQUEST = 202, "a request, a clock or an allowance out of its range";
     /// There would have been more than 64 addresses, 256 routes or 32
     /// tables.
     NO_SPACE = 203, "no space: 64 addresses, 256 routes, 32 tables";

@@ -2,7 +2,8 @@
 //! refuses.
 use core::net::Ipv4Addr;
 use naskrefim::{
-    Addresses, Ask4, Event, FOREVER, Kind, Lifetimes, Metrics, Refused, STATE_WORDS, Select4, V4,
+    ALLOWANCE_LIMIT, Addresses, Ask4, Event, FOREVER, FUZZ, Kind, Lifetimes, Metrics, Refused,
+    STATE_WORDS, Select4, V4,
 };
 
 const SECOND: u64 = 1_000_000_000;
@@ -114,9 +115,14 @@ fn lifetimes_end() {
     assert_eq!(own.left(3 * SECOND), Ok((2, 7)));
     assert_eq!(lo.v4()[0].left(3 * SECOND), Ok((FOREVER, FOREVER)));
     assert_eq!(V4 { prefix: 33, ..own }.left(0), Err(Refused::UNFIT_STATE));
-    assert_eq!(lo.expire(9_979_999_999).unwrap().len(), 1);
-    assert_eq!(lo.expire(9_980_000_000).unwrap().len(), 4);
-    assert_eq!(lo.expire(u64::MAX), Err(Refused::UNFIT_REQUEST));
+    assert_eq!(lo.expire(9_979_999_999, FUZZ).unwrap().len(), 1);
+    assert_eq!(lo.expire(9_980_000_000, 4_000_000).unwrap().len(), 0);
+    assert_eq!(lo.expire(9_980_000_000, FUZZ).unwrap().len(), 4);
+    let too_late = lo.expire(u64::MAX - FUZZ + 1, FUZZ);
+    assert_eq!(too_late, Err(Refused::UNFIT_REQUEST));
+    assert_eq!(lo.expire(u64::MAX, 0), Ok(vec![]));
+    let too_long = lo.expire(0, ALLOWANCE_LIMIT + 1);
+    assert_eq!(too_long, Err(Refused::UNFIT_REQUEST));
 }
 
 #[test]

@@ -50,6 +50,8 @@ fn sizes_are_the_crates_and_the_librarys() {
         assert_eq!(of(&format!("{name}_BYTES")), 4 * words, "{name}");
     }
     assert_eq!(of("MESSAGE_BYTES"), MESSAGE_BYTES);
+    assert_eq!(of("FUZZ") as u64, FUZZ);
+    assert_eq!(of("ALLOWANCE_LIMIT") as u64, ALLOWANCE_LIMIT);
     assert_eq!(of("ADDRESSES_AT"), 3);
     assert_eq!(of("ROUTES_AT"), 3 + ADDRESS_LIMIT * ADDRESS_WORDS);
     assert_eq!(of("TABLES_AT"), of("COUNT_AT") - TABLE_LIMIT);

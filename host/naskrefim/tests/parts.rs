@@ -1,8 +1,9 @@
 //! Listings taken in parts, with calls between them.
 use core::net::Ipv4Addr;
 use naskrefim::{
-    Addresses, Ask4, CURSOR_WORDS, Cursor, F_CREATE, F_DUMP_INTR, F_REPLACE, Kind, Lifetimes, Part,
-    Parts, ROUTE_WORDS, Refused, Route4, SCOPE_UNIVERSE, STATE_WORDS, Select4, V4, bytes, words,
+    Addresses, Ask4, CURSOR_WORDS, Cursor, F_CREATE, F_DUMP_INTR, F_REPLACE, FUZZ, Kind, Lifetimes,
+    Part, Parts, ROUTE_WORDS, Refused, Route4, SCOPE_UNIVERSE, STATE_WORDS, Select4, V4, bytes,
+    words,
 };
 
 /// Where a state's change count is.
@@ -83,7 +84,7 @@ fn what_changes_nothing_leaves_a_listing_whole() {
             };
             assert_eq!(lo.add_route4(&again, true), Ok(vec![]));
         }
-        3 => assert_eq!(lo.expire(8), Ok(vec![])),
+        3 => assert_eq!(lo.expire(8, FUZZ), Ok(vec![])),
         4 => assert_eq!(
             lo.add_v4(new.clone(), lifetimes, false, true, 8),
             Err(Refused::THERE_ALREADY)
@@ -125,8 +126,8 @@ fn every_change_interrupts() {
         &|lo| drop(lo.add_v4(new.clone(), lifetimes, true, true, 1)),
         &|lo| drop(lo.del_v4(Some(own), None, 0, None)),
         // only marks
-        &|lo| assert_eq!(lo.expire(10_000_000_000).unwrap().len(), 1),
-        &|lo| drop(lo.expire(20_000_000_000)),
+        &|lo| assert_eq!(lo.expire(10_000_000_000, FUZZ).unwrap().len(), 1),
+        &|lo| drop(lo.expire(20_000_000_000, FUZZ)),
         &|lo| drop(lo.add_route4(&ask(200), true)),
         &|lo| drop(lo.del_route4(&Select4::new(Ipv4Addr::new(11, 0, 3, 0), 24))),
         // refused, and lists its table

@@ -61,6 +61,6 @@ fn day() -> (usize, usize) {
     assert_eq!(told[0].message(0, 0, 0).unwrap().len(), 52);
     lo.down();
     lo.del_v4(Some(Ipv4Addr::LOCALHOST), None, 0, None).unwrap();
-    lo.expire(2_000_000_000).unwrap();
+    lo.expire(2_000_000_000, FUZZ).unwrap();
     (rows, lo.addresses().len())
 }

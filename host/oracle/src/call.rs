@@ -16,7 +16,7 @@ pub enum Call {
     Down,
     AddV4 { request: Vec<u32>, now: u64 },
     DelV4 { request: Vec<u32> },
-    Expire { now: u64 },
+    Expire { now: u64, allowance: u64 },
     AddRoute4 { request: Vec<u32> },
     DelRoute4 { request: Vec<u32> },
     Dump4,
@@ -133,13 +133,17 @@ impl Call {
         }
     }
 
-    /// Its numbers, a clock as its low and its high word.
+    /// Its numbers, at most four, a clock and an allowance as the low and
+    /// the high word.
     pub fn numbers(&self) -> Vec<u32> {
         match *self {
-            Self::Up { now }
-            | Self::AddV4 { now, .. }
-            | Self::Expire { now }
-            | Self::Left { now, .. } => vec![now as u32, (now >> 32) as u32],
+            Self::Up { now } | Self::AddV4 { now, .. } | Self::Left { now, .. } => {
+                vec![now as u32, (now >> 32) as u32]
+            }
+            Self::Expire { now, allowance } => [now, allowance]
+                .iter()
+                .flat_map(|n| [*n as u32, (n >> 32) as u32])
+                .collect(),
             Self::Lookup4 { ip }
             | Self::Local4 { ip }
             | Self::Source4 { ip, .. }

@@ -1,7 +1,9 @@
 //! What the generator reaches: every clause and field damaged, every
-//! answer of every call, every set of flags told.
+//! answer of every call, every set of flags told, the allowances at their
+//! limits.
 use crate::call::{Buffer, Call, NAMES};
 use crate::compare::Case;
+use crate::fit::ALLOWANCE_LIMIT;
 use crate::generate::calls::{self, Host};
 use crate::generate::cases::{Cases, USUAL};
 use crate::generate::{damage, states};
@@ -9,6 +11,7 @@ use crate::model::{UNFIT_REQUEST, UNFIT_STATE, model};
 use crate::rng::Rng;
 use crate::script::written;
 use crate::words::{self, EVENT_WORDS};
+use reference::FUZZ;
 use std::collections::{BTreeMap, BTreeSet};
 
 /// The answers that each call gives, by its code: each must be seen, and no
@@ -34,6 +37,16 @@ const ANSWERS: [&[u32]; 15] = [
 ];
 /// The flags that a new route may be told with.
 const FLAGS: [u32; 4] = [0x100, 0x400, 0x600, 0xc00];
+/// The allowances that `expire` must be seen with, each with its answer.
+const ALLOWANCES: [(u64, u32); 5] = [
+    (0, 0),
+    (4_000_000, 0),
+    (FUZZ, 0),
+    (ALLOWANCE_LIMIT, 0),
+    (ALLOWANCE_LIMIT + 1, 202),
+];
+/// And the clock: the last one that its allowance leaves, and one past it.
+const CLOCKS: [(&str, u32); 2] = [("at the sum's end", 0), ("past the sum's end", 202)];
 
 /// How often each clause and each kind of request is damaged.
 const TIMES: usize = 40;
@@ -44,6 +57,8 @@ pub fn run(count: usize, seed: u64) -> bool {
     let mut seen: BTreeMap<(u32, u32), usize> = BTreeMap::new();
     let mut flags: BTreeSet<u32> = BTreeSet::new();
     let mut asked: BTreeSet<u32> = BTreeSet::new();
+    let mut allowed: BTreeSet<(u64, u32)> = BTreeSet::new();
+    let mut clocks: BTreeSet<(&str, u32)> = BTreeSet::new();
     let mut most_events = [0; 15];
     for _ in 0..count {
         let (_, mut case) = cases.next_case();
@@ -54,6 +69,16 @@ pub fn run(count: usize, seed: u64) -> bool {
             && matches!(reply.number, 0 | 2 | 17)
         {
             asked.insert(request[14] >> 8 & 15);
+        }
+        if let Call::Expire { now, allowance } = case.call {
+            allowed.insert((allowance, reply.number));
+            match now.checked_add(allowance) {
+                Some(u64::MAX) => _ = clocks.insert((CLOCKS[0].0, reply.number)),
+                None if allowance <= ALLOWANCE_LIMIT => {
+                    clocks.insert((CLOCKS[1].0, reply.number));
+                }
+                _ => {}
+            }
         }
         if case.call.buffer() == Buffer::Events {
             let rows = case.buffer[..written(&case.call, &reply)].chunks_exact(EVENT_WORDS);
@@ -70,16 +95,20 @@ pub fn run(count: usize, seed: u64) -> bool {
     let mut missed = unseen(&seen);
     let unseen = FLAGS.iter().filter(|f| !flags.contains(f));
     missed.extend(unseen.map(|f| format!("flags {f:#x}")));
+    let unseen = ALLOWANCES.iter().filter(|a| !allowed.contains(a));
+    missed.extend(unseen.map(|(a, n)| format!("expire {n} with {a}")));
+    let unseen = CLOCKS.iter().filter(|c| !clocks.contains(c));
+    missed.extend(unseen.map(|(c, n)| format!("expire {n} {c}")));
     if asked.len() < 16 {
         missed.push(format!("{} sets of request flags", 16 - asked.len()));
     }
     let others = others(&seen);
     let pairs: usize = ANSWERS.iter().map(|a| a.len()).sum();
+    let all = pairs + FLAGS.len() + ALLOWANCES.len() + CLOCKS.len();
     println!(
-        "generator: {count} cases; {} of {} answers and flags seen; {unfit} of {} damaged \
-         states and requests refused as they must",
-        pairs + FLAGS.len() - missed.len(),
-        pairs + FLAGS.len(),
+        "generator: {count} cases; {} of {all} answers, flags, allowances and clocks seen; \
+         {unfit} of {} damaged states and requests refused as they must",
+        all.saturating_sub(missed.len()),
         expected_unfit()
     );
     if !missed.is_empty() {

@@ -74,8 +74,8 @@ fn hold(case: &Case, held: &mut Held) -> Result<(), String> {
         }
         held.lookups += 1;
     }
-    if let Call::Expire { now } = case.call {
-        lifetimes(&words::decode(&state), now)?;
+    if let Call::Expire { now, allowance } = case.call {
+        lifetimes(&lists, &words::decode(&state), now, allowance)?;
         held.lifetimes += 1;
     }
     Ok(())
@@ -172,14 +172,31 @@ fn set_answer(lists: &Lists, tables: &[u32], ip: u32, tos: u32, oif: u32) -> Opt
         .copied()
 }
 
-/// After an expiry nothing that is due is left, and what is past its
-/// preferred lifetime is marked.
-fn lifetimes(after: &Lists, now: u64) -> Result<(), String> {
+/// Item 2 with the allowance of document 02, Paper 7. After an expiry
+/// nothing that is due is left, and what is past its preferred lifetime is
+/// marked; and no other is gone or marked, but a secondary, which goes with
+/// its primary. Those that stay are in order, and otherwise as they were.
+fn lifetimes(before: &Lists, after: &Lists, now: u64, allowance: u64) -> Result<(), String> {
     let reached = |a: &AddressRow, lifetime: u32| {
         let changed = u128::from(a[18]) | u128::from(a[19]) << 32;
-        let age = (u128::from(now) + 20_000_000).saturating_sub(changed) / 1_000_000_000;
-        lifetime != FOREVER && age >= u128::from(lifetime)
+        let early = u128::from(now) + u128::from(allowance);
+        let age = early.saturating_sub(changed) / 1_000_000_000;
+        a[6] & 0x80 == 0 && lifetime != FOREVER && age >= u128::from(lifetime)
     };
+    let mut left = after.addresses.iter().peekable();
+    for a in &before.addresses {
+        let mut marked = *a;
+        if reached(a, a[15]) {
+            marked[6] |= 0x20;
+        }
+        let stays = left.next_if(|b| **b == marked).is_some();
+        if !stays && !reached(a, a[14]) && a[6] & 1 == 0 {
+            return Err("an address that isn't due is gone, or another".to_string());
+        }
+    }
+    if left.next().is_some() {
+        return Err("an address that wasn't there, or in another place".to_string());
+    }
     for a in after.addresses.iter().filter(|a| a[6] & 0x80 == 0) {
         if reached(a, a[14]) {
             return Err("an address that is due stays".to_string());

@@ -2,12 +2,11 @@
 //! the port adds to it.
 use crate::call::{Call, Reply};
 use crate::checks::{Checks, lines};
-use crate::fit::CLOCK_LIMIT;
 use crate::generate::{calls, states};
 use crate::rng::Rng;
 use crate::script::{FOREVER, NewAddress, Route, Script, address, any, ip, route, started};
 use crate::words::{self, encode};
-use reference::{Answer, Arguments, Lists, Native, Request, RouteRow};
+use reference::{Answer, Arguments, FUZZ, Lists, Native, Request, RouteRow};
 
 pub fn check(checks: &mut Checks) {
     refusal_order(checks);
@@ -22,6 +21,7 @@ pub fn check(checks: &mut Checks) {
     ipv6_events(checks);
     by_the_calls(checks);
     lifetimes(checks);
+    allowances(checks);
 }
 
 fn refusal_order(checks: &mut Checks) {
@@ -506,9 +506,18 @@ fn unfit(checks: &mut Checks) {
         preferred: 1,
         ..address("10.1.0.5/24").up()
     });
-    let now = CLOCK_LIMIT + 1;
-    let call = Call::Expire { now };
-    refused("P6 a clock within 20 ms of its end", s, call, 202);
+    let end = u64::MAX;
+    for (name, now, allowance) in [
+        ("P6 a clock within 20 ms of its end", end - 19_999_999, FUZZ),
+        (
+            "P16 a clock whose sum with 4 ms wraps",
+            end - 3_999_999,
+            4_000_000,
+        ),
+        ("P16 an allowance over a second", 0, 1_000_000_001),
+    ] {
+        refused(name, s, Call::Expire { now, allowance }, 202);
+    }
 }
 
 /// The Rust's own lists go from call to call, with what IPv6 has in them.
@@ -635,4 +644,32 @@ fn lifetimes(checks: &mut Checks) {
         s.addresses(),
         0,
     );
+}
+
+/// Document 02, Paper 7: an address of valid 10 that was set at 0 is there
+/// a nanosecond before its time less the allowance, and gone at it.
+fn allowances(checks: &mut Checks) {
+    for (allowance, gone) in [
+        (0, 10_000_000_000),
+        (4_000_000, 9_996_000_000),
+        (20_000_000, 9_980_000_000),
+        (1_000_000_000, 9_000_000_000),
+    ] {
+        let mut s = Script::default();
+        s.add(NewAddress {
+            valid: 10,
+            preferred: 10,
+            ..address("10.1.0.5/24")
+        });
+        for (now, left) in [(gone - 1, 1), (gone, 0)] {
+            s.expire_by(now, allowance);
+            let name = format!("P16 valid 10 at {now} with {allowance}");
+            checks.same(&name, s.addresses(), left);
+        }
+    }
+    for (now, allowance) in [(u64::MAX, 0), (u64::MAX - 1_000_000_000, 1_000_000_000)] {
+        let reply = Script::default().expire_by(now, allowance).reply;
+        let name = format!("P16 a clock of {now} with {allowance} is taken");
+        checks.same(&name, reply, Reply::value(0));
+    }
 }

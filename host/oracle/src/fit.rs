@@ -5,9 +5,10 @@ use crate::model::{INVALID, UNFIT_REQUEST};
 use crate::well_formed::{byte, label, optional};
 use reference::Request;
 
-/// The greatest clock that `expire` takes: with the 20 ms it still is a
+/// The greatest allowance that `expire` takes, a second (document 02,
+/// Paper 7). Its clock and its allowance together are at most the greatest
 /// 64-bit number.
-pub const CLOCK_LIMIT: u64 = 18_446_744_073_689_551_615;
+pub const ALLOWANCE_LIMIT: u64 = 1_000_000_000;
 /// The greatest error number that asm-generic has.
 pub const ERROR_LIMIT: u32 = 133;
 pub const METRICS: u32 = 17;
@@ -31,7 +32,9 @@ pub fn fits(call: &Call) -> bool {
         Call::DelV4 { request } => del_v4(request),
         Call::AddRoute4 { request } => add_route4(request),
         Call::DelRoute4 { request } => del_route4(request),
-        Call::Expire { now } => *now <= CLOCK_LIMIT,
+        Call::Expire { now, allowance } => {
+            *allowance <= ALLOWANCE_LIMIT && now.checked_add(*allowance).is_some()
+        }
         Call::Lookup4Flow { tos, .. } => byte(*tos),
         Call::Select4 {
             present,
@@ -106,7 +109,10 @@ pub fn typed(call: &Call) -> Request<'_> {
         Call::DelV4 { request } => Request::DelV4 {
             request: array(request),
         },
-        Call::Expire { now } => Request::Expire { now: *now },
+        Call::Expire { now, allowance } => Request::Expire {
+            now: *now,
+            allowance: *allowance,
+        },
         Call::AddRoute4 { request } => Request::AddRoute4 {
             request: array(request),
         },

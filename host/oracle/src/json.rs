@@ -160,7 +160,8 @@ pub fn line(case: &Case) -> String {
 
 fn arguments(call: &Call) -> String {
     match call {
-        Call::Up { now } | Call::Expire { now } => format!("\"now\":{now}"),
+        Call::Up { now } => format!("\"now\":{now}"),
+        Call::Expire { now, allowance } => format!("\"now\":{now},\"allowance\":{allowance}"),
         Call::AddV4 { request, now } => {
             format!("\"request\":{},\"now\":{now}", array(request))
         }

@@ -12,7 +12,7 @@ pub trait Port {
     fn down(&mut self, state: &mut [u8], events: &mut [u8]) -> Reply;
     fn add_v4(&mut self, state: &mut [u8], request: &[u8], events: &mut [u8], now: u64) -> Reply;
     fn del_v4(&mut self, state: &mut [u8], request: &[u8], events: &mut [u8]) -> Reply;
-    fn expire(&mut self, state: &mut [u8], events: &mut [u8], now: u64) -> Reply;
+    fn expire(&mut self, state: &mut [u8], events: &mut [u8], now: u64, allowance: u64) -> Reply;
     fn add_route4(&mut self, state: &mut [u8], request: &[u8], events: &mut [u8]) -> Reply;
     fn del_route4(&mut self, state: &mut [u8], request: &[u8], events: &mut [u8]) -> Reply;
     fn dump4(&mut self, state: &[u8], listing: &mut [u8]) -> Reply;
@@ -39,7 +39,7 @@ pub fn make(
         Call::Down => port.down(state, buffer),
         Call::AddV4 { now, .. } => port.add_v4(state, lent, buffer, now),
         Call::DelV4 { .. } => port.del_v4(state, lent, buffer),
-        Call::Expire { now } => port.expire(state, buffer, now),
+        Call::Expire { now, allowance } => port.expire(state, buffer, now, allowance),
         Call::AddRoute4 { .. } => port.add_route4(state, lent, buffer),
         Call::DelRoute4 { .. } => port.del_route4(state, lent, buffer),
         Call::Dump4 => port.dump4(state, buffer),
@@ -156,8 +156,8 @@ impl<W: WordPort> Port for Bytes<W> {
         let request = self.exact(request);
         self.changing(&Call::DelV4 { request }, state, events)
     }
-    fn expire(&mut self, state: &mut [u8], events: &mut [u8], now: u64) -> Reply {
-        self.changing(&Call::Expire { now }, state, events)
+    fn expire(&mut self, state: &mut [u8], events: &mut [u8], now: u64, allowance: u64) -> Reply {
+        self.changing(&Call::Expire { now, allowance }, state, events)
     }
     fn add_route4(&mut self, state: &mut [u8], request: &[u8], events: &mut [u8]) -> Reply {
         let request = self.exact(request);

@@ -247,8 +247,12 @@ impl Script {
         request[..2].copy_from_slice(&[1, ip(local)]);
         self.call(Call::DelV4 { request })
     }
+    /// With the Rust's own allowance.
     pub fn expire(&mut self, now: u64) -> Told {
-        self.call(Call::Expire { now })
+        self.expire_by(now, reference::FUZZ)
+    }
+    pub fn expire_by(&mut self, now: u64, allowance: u64) -> Told {
+        self.call(Call::Expire { now, allowance })
     }
     pub fn add_route(&mut self, new: Route) -> Told {
         let request = new.adding();

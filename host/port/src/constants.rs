@@ -17,6 +17,10 @@ pub fn compare() -> Result<(), String> {
     if own != expected {
         return Err(format!("constants: {own:?} in place of {expected:?}"));
     }
+    let (own, expected) = (naskrefim::FUZZ, reference::FUZZ);
+    if own != expected {
+        return Err(format!("FUZZ: {own} in place of {expected}"));
+    }
     for code in 0..=u8::MAX {
         let kind = Kind::of(code);
         let found = kind.map(|kind| kind.error().map(Refused::number));

@@ -69,9 +69,10 @@ impl Port for OnBytes {
         let call = |[s, r, e]: [&mut [u8]; 3]| bytes::del_v4(s, r, e);
         reply(self.0.lend(BYTE, lent, call))
     }
-    fn expire(&mut self, state: &mut [u8], events: &mut [u8], now: u64) -> Reply {
+    fn expire(&mut self, state: &mut [u8], events: &mut [u8], now: u64, allowance: u64) -> Reply {
         let lent = [Write(state), Write(events)];
-        reply(self.0.lend(BYTE, lent, |[s, e]| bytes::expire(s, e, now)))
+        let call = |[s, e]: [&mut [u8]; 2]| bytes::expire(s, e, now, allowance);
+        reply(self.0.lend(BYTE, lent, call))
     }
     fn add_route4(&mut self, state: &mut [u8], request: &[u8], events: &mut [u8]) -> Reply {
         let lent = [Write(state), Read(request), Write(events)];
@@ -169,9 +170,9 @@ impl WordPort for OnWords {
             Call::Down => given.lend(WORD, [Write(state), Write(buffer)], |[s, e]| {
                 words::down(s, e)
             }),
-            Call::Expire { now } => {
+            Call::Expire { now, allowance } => {
                 let lent = [Write(state), Write(buffer)];
-                given.lend(WORD, lent, |[s, e]| words::expire(s, e, now))
+                given.lend(WORD, lent, |[s, e]| words::expire(s, e, now, allowance))
             }
             Call::AddV4 { now, .. } => {
                 let lent = [Write(state), Read(lent), Write(buffer)];

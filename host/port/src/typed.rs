@@ -126,7 +126,7 @@ pub enum Arguments {
     Down,
     AddV4(V4, Lifetimes, bool, bool, u64),
     DelV4(Option<Ipv4Addr>, Option<Ipv4Addr>, u8, Option<Vec<u8>>),
-    Expire(u64),
+    Expire(u64, u64),
     AddRoute4(Ask4, bool),
     DelRoute4(Select4),
     Dump4,
@@ -170,7 +170,7 @@ impl Arguments {
                 byte(w[4]),
                 (w[5] == 1).then(|| label(w[6], &w[7..])),
             ),
-            Call::Expire { now } => Self::Expire(*now),
+            Call::Expire { now, allowance } => Self::Expire(*now, *allowance),
             Call::AddRoute4 { request: w } => Self::AddRoute4(ask(w), w[33] == 1),
             Call::DelRoute4 { request: w } => Self::DelRoute4(select(w)),
             Call::Dump4 => Self::Dump4,
@@ -198,7 +198,7 @@ impl Arguments {
             Self::DelV4(local, address, prefix, label) => {
                 Told::Events(lo.del_v4(*local, *address, *prefix, label.as_deref()))
             }
-            Self::Expire(now) => Told::Events(lo.expire(*now)),
+            Self::Expire(now, allowance) => Told::Events(lo.expire(*now, *allowance)),
             Self::AddRoute4(ask, up) => Told::Events(lo.add_route4(ask, *up)),
             Self::DelRoute4(select) => Told::Events(lo.del_route4(select)),
             Self::Dump4 => Told::Rows(lo.dump4()),

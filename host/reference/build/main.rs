@@ -1,7 +1,8 @@
 //! Finds `interface.rs`, checks its SHA-256, and writes two module files:
-//! its unchanged text, and the copy that records list lengths. To each the
-//! declaration of one child module, `access`, is appended, because a child
-//! may read and fill the private lists. Nothing else is added.
+//! its unchanged text, and the copy that records list lengths and takes the
+//! allowance of `expire`. To each the declaration of one child module,
+//! `access`, is appended, because a child may read and fill the private
+//! lists. Nothing else is added.
 
 mod observe;
 mod sha256;

@@ -1,8 +1,10 @@
-//! The copy of `interface.rs` that records how long its IPv4 lists get.
+//! The copy of `interface.rs` that records how long its IPv4 lists get, and
+//! has the allowance of a call in place of the constant `FUZZ`.
 //!
 //! Each statement that makes one of them longer is followed by a record of
 //! the three lengths. The build stops if there are other such statements
-//! than the four known ones, or a use of the lists that isn't known.
+//! than the four known ones, or a use of the lists or of the constant that
+//! isn't known.
 
 /// The statements that make a list longer, each once in the file.
 const GROWING: [&str; 4] = [
@@ -28,7 +30,11 @@ const KNOWN: [&str; 10] = [
 const RECORD: &str =
     "crate::peaks::record([self.v4.len(), self.routes4.len(), self.tables4.len()]);";
 
-/// `text` with the records put in.
+/// The constant, and its one use.
+const FUZZ: [&str; 2] = ["const FUZZ: u64 = 20_000_000;", "(now + FUZZ)"];
+const ALLOWED: &str = "(now + crate::peaks::allowance())";
+
+/// `text` with the records and the allowance put in.
 pub fn observed(text: &str) -> Result<String, String> {
     let code = without_comments(text);
     for statement in GROWING {
@@ -40,7 +46,11 @@ pub fn observed(text: &str) -> Result<String, String> {
         }
     }
     check_uses(&code)?;
-    let mut copy = text.to_string();
+    let known = FUZZ.iter().map(|use_| code.matches(use_).count());
+    if code.matches("FUZZ").count() != 2 || known.into_iter().any(|times| times != 1) {
+        return Err("a use of FUZZ that isn't known".to_string());
+    }
+    let mut copy = text.replacen(FUZZ[1], ALLOWED, 1);
     for statement in GROWING {
         copy = copy.replacen(statement, &format!("{statement} {RECORD}"), 1);
     }

@@ -32,7 +32,7 @@ pub enum Request<'a> {
     Down,
     AddV4 { request: &'a [u32; 18], now: u64 },
     DelV4 { request: &'a [u32; 11] },
-    Expire { now: u64 },
+    Expire { now: u64, allowance: u64 },
     AddRoute4 { request: &'a [u32; 34] },
     DelRoute4 { request: &'a [u32; 49] },
     Dump4,
@@ -66,16 +66,39 @@ pub struct Outcome {
     pub peaks: [usize; 3],
 }
 
+/// The Rust's own allowance in `expire`, its `FUZZ`.
+pub const FUZZ: u64 = 20_000_000;
+
 /// Runs `request` on `lists`. The answer is the unchanged text's; the
 /// observed copy gives the greatest lengths, and must answer alike.
+///
+/// An `expire` with another allowance than the Rust's own: whether a
+/// lifetime is reached depends on the clock and the allowance by their sum
+/// alone, so the unchanged text is asked at the clock that makes the same
+/// sum with its 20 ms (at 0 where the sum is smaller: then no second has
+/// passed either way). The observed copy has the allowance in the
+/// constant's place, and the clock as it is.
 pub fn run(lists: &Lists, request: &Request) -> Outcome {
-    let (answer, after) = interface::access::run(lists, request);
+    let (asked, allowance) = match *request {
+        Request::Expire { now, allowance } => {
+            let now = (now + allowance).saturating_sub(FUZZ);
+            (
+                Request::Expire {
+                    now,
+                    allowance: FUZZ,
+                },
+                allowance,
+            )
+        }
+        other => (other, FUZZ),
+    };
+    let (answer, after) = interface::access::run(lists, &asked);
     let before = [
         lists.addresses.len(),
         lists.routes.len(),
         lists.tables.len(),
     ];
-    peaks::begin(before);
+    peaks::begin(before, allowance);
     let (observed_answer, observed_after) = observed::access::run(lists, request);
     let peaks = peaks::read();
     assert_eq!(

@@ -62,7 +62,8 @@ impl Arguments {
                 byte(w[4]),
                 (w[5] == 1).then(|| label_of(w[6], &w[7..11])),
             ),
-            Request::Expire { now } => Typed::Expire(now),
+            // the Rust has its own allowance
+            Request::Expire { now, .. } => Typed::Expire(now),
             Request::AddRoute4 { request: w } => Typed::AddRoute4(ask_of(w), w[33] == 1),
             Request::DelRoute4 { request: w } => Typed::DelRoute4(select_of(w)),
             Request::Dump4 => Typed::Dump4,

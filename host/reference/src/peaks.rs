@@ -1,12 +1,19 @@
-//! The greatest lengths that the observed copy's lists have had.
+//! The greatest lengths that the observed copy's lists have had, and the
+//! allowance that it has in the constant's place.
 use std::cell::Cell;
 
 thread_local! {
     static PEAKS: Cell<[usize; 3]> = const { Cell::new([0; 3]) };
+    static ALLOWANCE: Cell<u64> = const { Cell::new(crate::FUZZ) };
 }
 
-pub(crate) fn begin(lengths: [usize; 3]) {
+pub(crate) fn begin(lengths: [usize; 3], allowance: u64) {
     PEAKS.set(lengths);
+    ALLOWANCE.set(allowance);
+}
+
+pub(crate) fn allowance() -> u64 {
+    ALLOWANCE.get()
 }
 
 pub(crate) fn record(lengths: [usize; 3]) {

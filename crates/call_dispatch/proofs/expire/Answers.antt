@@ -7,8 +7,8 @@ use Rattle.call_dispatch.proofs.expire.Goals as goal
 
 pub of-requires : goal.of-requires
 unfolding expire_call
-of-requires c = rows-fit (Call.expire (length c.args.events.now) c.args.clock) c.args.state.now c.expire.ensures refl
+of-requires c = rows-fit (Call.expire (length c.args.events.now) c.args.clock c.args.allowance) c.args.state.now c.expire.ensures refl
 
 pub returns : goal.returns
 unfolding expire_call
-returns c = change-made (Call.expire (length c.args.events.now) c.args.clock) c.args.state.now c.expire.ensures refl refl c.of.ensures
+returns c = change-made (Call.expire (length c.args.events.now) c.args.clock c.args.allowance) c.args.state.now c.expire.ensures refl refl c.of.ensures

@@ -8,7 +8,6 @@ use Rattle.std.proofs.lemmas.Bool.{false≢true}
 use Rattle.lists.specs.Bools.{test-case}
 use Rattle.lists.specs.Lists.{Row, any, keep}
 use Rattle.lists.specs.Keep.{keep-within}
-use Rattle.life.specs.Life.{allowance}
 use Rattle.layout.specs.Route.{table}
 use Rattle.definition.specs.State.{State, Out}
 use Rattle.definition.specs.Words.{ordered}
@@ -62,7 +61,7 @@ module _ (chosen : ℕ → Bool) (choice : Choice chosen) where
   unwinds (Call.down events) = going (down-consistent chosen choice)
   unwinds (Call.add_v4 q events now) = unnamed (add_v4-consistent chosen choice q now)
   unwinds (Call.del_v4 q events) = unnamed (del_v4-consistent chosen choice q)
-  unwinds (Call.expire events now) = going (expire-consistent chosen choice allowance now)
+  unwinds (Call.expire events now allowance) = going (expire-consistent chosen choice allowance now)
   unwinds (Call.add_route4 q events) = adding insert4 (insert4-consistent chosen choice) (insert4-unseen chosen) q
   unwinds (Call.del_route4 q events) =
       naming (table q) (del_route4_request-consistent chosen choice q) (λ h st o. del_route4_request-unseen chosen choice q h st)

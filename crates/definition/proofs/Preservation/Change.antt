@@ -1,11 +1,10 @@
 -- What every call keeps, call by call: the one place where the laws of the reference meet the calls.
 -- Assumes nothing.
-use Rattle.std.specs.Prelude.{ℕ, ◌≡◌, refl, Bool, true, false, cond, ◌&&◌, ◌≢◌, leb, ltb, length}
+use Rattle.std.specs.Prelude.{ℕ, ◌≡◌, refl, Bool, true, false, cond, ◌&&◌, ◌≢◌, ltb, length}
 use Rattle.std.proofs.Math.Option.{Option, none, some}
 use Rattle.std.proofs.Common.{arith, eqb-true}
 use Rattle.lists.specs.Lists.{Row}
 use Rattle.lists.specs.Bools.{and_left, and_right}
-use Rattle.life.specs.Life.{allowance}
 use Rattle.layout.specs.Address.{optional}
 use Rattle.layout.specs.Route.{fit_route}
 use Rattle.layout.specs.Request.{add_route4_size, fit_add_v4, valid_lifetimes, fit_del_v4, fit_add_route4, fit_del_route4}
@@ -17,7 +16,7 @@ use Rattle.definition.specs.Reference.Addresses.{Outcome, up, down}
 use Rattle.definition.specs.Reference.Removal.{expire}
 use Rattle.definition.specs.Reference.Insert.{create4, Insertion, insert4}
 use Rattle.definition.specs.Reference.Routes.{table_named, added_by}
-use Rattle.definition.specs.Step.{Checks, Action, changes, replies, lists, Buffer, unlent, for_events, for_listing, for_row, Semantics, going, query, finding, unless, invalid, add_v4_refusal, events_fit, request_is, clock_limit, semantics, routed}
+use Rattle.definition.specs.Step.{Checks, Action, changes, replies, lists, Buffer, unlent, for_events, for_listing, for_row, Semantics, going, query, finding, unless, invalid, add_v4_refusal, events_fit, request_is, fit_expire, semantics, routed}
 use Rattle.definition.specs.Preservation.Fit.{Invariant, fit-state}
 use Rattle.definition.specs.Preservation.Routes.{insert_fit}
 use Rattle.definition.specs.Preservation.Encode.{Admissible}
@@ -212,8 +211,8 @@ lawful (Call.del_v4 q events) =
       acts = record { sound = λ st g p. record { kept = (del_v4_keeps q).kept st (fit st g); event_bound = del_v4-event_bound st g q; numbered = del_v4-number q st; leaves = del_v4-leaves q st } };
       shape = asked-room 11 events q;
     }
-lawful (Call.expire events now) =
-    going-lawful events (unless (leb now clock_limit) 202) (expire allowance now) (unless_202 (leb now clock_limit)) (expire_keeps allowance now) (λ st g. expire-event_bound st g allowance now)
+lawful (Call.expire events now allowance) =
+    going-lawful events (unless (fit_expire now allowance) 202) (expire allowance now) (unless_202 (fit_expire now allowance)) (expire_keeps allowance now) (λ st g. expire-event_bound st g allowance now)
 lawful (Call.add_route4 q events) =
     added-lawful insert4 insert_fit insert_number q events (unless (fit_add_route4 q) 202) (unless_202 (fit_add_route4 q)) (unless-passed (fit_add_route4 q))
 lawful (Call.del_route4 q events) =

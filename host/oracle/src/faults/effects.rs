@@ -19,7 +19,10 @@ pub const FAULTS: &[Fault] = &[
         forever_stored,
     ),
     Fault::new("expire drops all due addresses at once", all_at_once),
-    Fault::new("expire without the 20 ms", expire_late),
+    Fault::new("expire without its allowance", expire_late),
+    Fault::new("expire by 20 ms whatever its allowance", expire_by_20_ms),
+    Fault::new("half an allowance", half_an_allowance),
+    Fault::new("the allowance taken off the clock", allowance_taken_off),
     Fault::new("secondaries not removed with their primary", |c, s, b| {
         deletion(c, s, b, primaries_alone, secondaries_stay)
     }),
@@ -101,7 +104,7 @@ fn forever_stored(call: &Call, state: &mut [u32], buffer: &mut [u32]) -> Reply {
 /// The one in document 01: the first removal drops all that are due, and
 /// the others get event rows for show.
 fn all_at_once(call: &Call, state: &mut [u32], buffer: &mut [u32]) -> Reply {
-    let Call::Expire { now } = *call else {
+    let Call::Expire { now, allowance } = *call else {
         return model(call, state, buffer);
     };
     if outcome(call, state, buffer.len()).is_err() {
@@ -109,7 +112,7 @@ fn all_at_once(call: &Call, state: &mut [u32], buffer: &mut [u32]) -> Reply {
     }
     let due = |a: &AddressRow| {
         let changed = u64::from(a[18]) | u64::from(a[19]) << 32;
-        let age = (now + 20_000_000).saturating_sub(changed) / 1_000_000_000;
+        let age = (now + allowance).saturating_sub(changed) / 1_000_000_000;
         a[6] & 0x80 == 0 && a[14] != FOREVER && age >= u64::from(a[14])
     };
     let mut lists = decode(state);
@@ -135,10 +138,45 @@ fn all_at_once(call: &Call, state: &mut [u32], buffer: &mut [u32]) -> Reply {
 }
 
 fn expire_late(call: &Call, state: &mut [u32], buffer: &mut [u32]) -> Reply {
+    with_allowance(call, state, buffer, |_| 0)
+}
+
+/// Where it is fit, as if it had another allowance.
+fn with_allowance(
+    call: &Call,
+    state: &mut [u32],
+    buffer: &mut [u32],
+    other: fn(u64) -> u64,
+) -> Reply {
     match *call {
-        Call::Expire { now } if now <= crate::fit::CLOCK_LIMIT => {
-            let now = now.saturating_sub(20_000_000);
-            model(&Call::Expire { now }, state, buffer)
+        Call::Expire { now, allowance } if crate::fit::fits(call) => {
+            let allowance = other(allowance).min(u64::MAX - now);
+            model(&Call::Expire { now, allowance }, state, buffer)
+        }
+        _ => model(call, state, buffer),
+    }
+}
+
+fn expire_by_20_ms(call: &Call, state: &mut [u32], buffer: &mut [u32]) -> Reply {
+    with_allowance(call, state, buffer, |_| reference::FUZZ)
+}
+
+/// Its high word is lost, so that one too great is taken.
+fn half_an_allowance(call: &Call, state: &mut [u32], buffer: &mut [u32]) -> Reply {
+    match *call {
+        Call::Expire { now, allowance } => {
+            let allowance = u64::from(allowance as u32);
+            model(&Call::Expire { now, allowance }, state, buffer)
+        }
+        _ => model(call, state, buffer),
+    }
+}
+
+fn allowance_taken_off(call: &Call, state: &mut [u32], buffer: &mut [u32]) -> Reply {
+    match *call {
+        Call::Expire { now, allowance } if crate::fit::fits(call) => {
+            let now = now.saturating_sub(allowance);
+            model(&Call::Expire { now, allowance: 0 }, state, buffer)
         }
         _ => model(call, state, buffer),
     }

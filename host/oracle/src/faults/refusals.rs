@@ -38,6 +38,14 @@ pub const FAULTS: &[Fault] = &[
     Fault::new("22 after 17", there_already_first),
     Fault::new("lifetimes not looked at in a change", change_unchecked),
     Fault::new("a state refused for a row's lifetimes", row_lifetimes),
+    Fault::new("an allowance over a second taken", long_allowance),
+    Fault::new("an allowance of a second refused", second_refused),
+    Fault::new(
+        "the clock limit of 20 ms whatever the allowance",
+        fixed_limit,
+    ),
+    Fault::new("a sum that wraps taken", wrapped_sum),
+    Fault::new("the sum tested against 2^63", half_the_sum),
 ];
 
 fn space_to_spare(call: &Call, state: &mut [u32], buffer: &mut [u32]) -> Reply {
@@ -320,4 +328,65 @@ fn row_lifetimes(call: &Call, state: &mut [u32], buffer: &mut [u32]) -> Reply {
         return Reply::refused(UNFIT_STATE);
     }
     model(call, state, buffer)
+}
+
+/// The clock and the allowance of an `expire`.
+fn allowed(call: &Call) -> Option<(u64, u64)> {
+    match *call {
+        Call::Expire { now, allowance } => Some((now, allowance)),
+        _ => None,
+    }
+}
+
+fn long_allowance(call: &Call, state: &mut [u32], buffer: &mut [u32]) -> Reply {
+    match allowed(call) {
+        Some((now, allowance)) if allowance == fit::ALLOWANCE_LIMIT + 1 => {
+            let allowance = fit::ALLOWANCE_LIMIT;
+            model(&Call::Expire { now, allowance }, state, buffer)
+        }
+        _ => model(call, state, buffer),
+    }
+}
+
+/// Where the model goes on, 202.
+fn refuse_where(
+    call: &Call,
+    state: &mut [u32],
+    buffer: &mut [u32],
+    refused: fn(u64, u64) -> bool,
+) -> Reply {
+    let refused = allowed(call).is_some_and(|(now, allowance)| refused(now, allowance));
+    if refused && outcome(call, state, buffer.len()).is_ok() {
+        return Reply::refused(UNFIT_REQUEST);
+    }
+    model(call, state, buffer)
+}
+
+fn second_refused(call: &Call, state: &mut [u32], buffer: &mut [u32]) -> Reply {
+    refuse_where(call, state, buffer, |_, allowance| {
+        allowance == fit::ALLOWANCE_LIMIT
+    })
+}
+
+/// Document 01's limit. Clocks that then pass the end aren't taken either.
+fn fixed_limit(call: &Call, state: &mut [u32], buffer: &mut [u32]) -> Reply {
+    refuse_where(call, state, buffer, |now, _| {
+        now > u64::MAX - reference::FUZZ
+    })
+}
+
+fn wrapped_sum(call: &Call, state: &mut [u32], buffer: &mut [u32]) -> Reply {
+    match allowed(call) {
+        Some((now, allowance)) if allowance <= fit::ALLOWANCE_LIMIT => {
+            let now = now.wrapping_add(allowance);
+            model(&Call::Expire { now, allowance: 0 }, state, buffer)
+        }
+        _ => model(call, state, buffer),
+    }
+}
+
+fn half_the_sum(call: &Call, state: &mut [u32], buffer: &mut [u32]) -> Reply {
+    refuse_where(call, state, buffer, |now, allowance| {
+        now.saturating_add(allowance) >= 1 << 63
+    })
 }

@@ -4,7 +4,7 @@ use super::requests;
 use crate::call::Call;
 use crate::rng::Rng;
 use crate::words;
-use reference::{AddressRow, Lists, RouteRow};
+use reference::{AddressRow, FUZZ, Lists, RouteRow};
 
 /// What a sequence remembers beside its state.
 #[derive(Clone, Copy, Debug, Default)]
@@ -82,7 +82,10 @@ pub fn idle(rng: &mut Rng, lists: &Lists, host: &mut Host) -> Call {
             host.up = true;
             Call::Up { now: host.now }
         }
-        1 => Call::Expire { now: 0 },
+        1 => Call::Expire {
+            now: 0,
+            allowance: FUZZ,
+        },
         2 => Call::Down,
         3 => match some_route(rng, lists) {
             Some(row) => requests::again(rng, &row),
@@ -221,15 +224,22 @@ fn del_v4(rng: &mut Rng, lists: &Lists) -> Call {
 }
 
 fn expire(rng: &mut Rng, lists: &Lists, host: &mut Host) -> Call {
+    let allowance = pools::allowance(rng);
     if let Some(a) = some_address(rng, lists).filter(|_| !rng.one_in(6)) {
         let changed = u64::from(a[18]) | u64::from(a[19]) << 32;
         let life = rng.pick(&[a[14], a[14], a[15]]);
         if life != FOREVER {
-            host.now = pools::near_end(rng, changed, life);
+            host.now = pools::near_end(rng, changed, life, allowance);
         }
     }
-    let now = host.now.min(crate::fit::CLOCK_LIMIT);
-    Call::Expire { now }
+    // the last clock that it may have
+    let last = u64::MAX - allowance;
+    let now = if rng.one_in(40) {
+        last
+    } else {
+        host.now.min(last)
+    };
+    Call::Expire { now, allowance }
 }
 
 fn left(rng: &mut Rng, lists: &Lists, host: &Host) -> Call {
@@ -241,8 +251,8 @@ fn left(rng: &mut Rng, lists: &Lists, host: &Host) -> Call {
     let now = match rng.below(4) {
         0 => host.now,
         1 => rng.draw(),
-        2 => pools::near_end(rng, changed, row[14]),
-        _ => pools::near_end(rng, changed, row[15]),
+        2 => pools::near_end(rng, changed, row[14], FUZZ),
+        _ => pools::near_end(rng, changed, row[15], FUZZ),
     };
     Call::Left {
         row: row.to_vec(),

@@ -3,10 +3,10 @@ use super::calls::{self, Host};
 use super::pools;
 use super::states::{self, Sizes};
 use crate::call::Call;
-use crate::fit::CLOCK_LIMIT;
+use crate::fit::ALLOWANCE_LIMIT;
 use crate::rng::Rng;
 use crate::words::{self, ADDRESSES_AT, ROUTES_AT, TABLES_AT};
-use reference::{Lists, RouteRow};
+use reference::{FUZZ, Lists, RouteRow};
 
 /// What is done to a row that could stand in a state.
 type Damage<const N: usize> = fn(&mut Rng, &mut [u32; N]);
@@ -216,6 +216,14 @@ pub fn edges(rng: &mut Rng, lists: &Lists, host: &mut Host) -> Vec<Call> {
             }
         }
     }
+    for allowance in [0, 1, 4_000_000, FUZZ, ALLOWANCE_LIMIT] {
+        let last = u64::MAX - allowance;
+        let past = last.checked_add(1);
+        let clocks = [Some(0), Some(last), past].into_iter().flatten();
+        made.extend(clocks.map(|now| Call::Expire { now, allowance }));
+    }
+    let allowance = ALLOWANCE_LIMIT + 1;
+    made.push(Call::Expire { now: 0, allowance });
     made
 }
 
@@ -270,10 +278,34 @@ pub fn request(rng: &mut Rng, call: &mut Call) -> bool {
             1 => (*present, *dst) = (0, pools::address(rng) | 1),
             _ => *scope = over(rng, 256),
         },
-        Call::Expire { now } => *now = CLOCK_LIMIT + 1 + rng.draw() % 20_000_000,
+        Call::Expire { now, allowance } => {
+            if rng.one_in(2) {
+                *allowance = too_great(rng);
+            } else {
+                // together they pass the end by a little, or by all they can
+                *allowance = rng.pick(&[1, 4_000_000, FUZZ, ALLOWANCE_LIMIT]);
+                let any = rng.draw() % *allowance;
+                let past = rng.pick(&[0, any, *allowance - 1]);
+                *now = u64::MAX - *allowance + 1 + past;
+            }
+        }
         _ => return false,
     }
     true
+}
+
+/// An allowance over a second, often one whose low word is none.
+fn too_great(rng: &mut Rng) -> u64 {
+    let any = ALLOWANCE_LIMIT + 1 + rng.draw() % (u64::MAX - ALLOWANCE_LIMIT);
+    rng.pick(&[
+        ALLOWANCE_LIMIT + 1,
+        ALLOWANCE_LIMIT + 1,
+        1 << 32,
+        (1 << 32) + 4_000_000,
+        1 << 63,
+        u64::MAX,
+        any,
+    ])
 }
 
 fn widen(rng: &mut Rng, words: &mut [u32], (at, least): (usize, u32)) {

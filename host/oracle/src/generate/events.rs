@@ -183,8 +183,8 @@ impl Events {
         match rng.below(6) {
             0 => rng.draw(),
             1 => rng.pick(&[0, u64::MAX, changed]),
-            2 => pools::near_end(rng, changed, event[16]),
-            3 => pools::near_end(rng, changed, event[17]),
+            2 => pools::near_end(rng, changed, event[16], reference::FUZZ),
+            3 => pools::near_end(rng, changed, event[17], reference::FUZZ),
             _ => self.run.host.now,
         }
     }

@@ -171,6 +171,7 @@ fn heavy(rng: &mut Rng) -> (Vec<u32>, Call) {
     } else {
         Call::Expire {
             now: 2 * pools::SECOND,
+            allowance: pools::allowance(rng),
         }
     };
     (states::encoded(&lists), call)

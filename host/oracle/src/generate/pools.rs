@@ -1,6 +1,7 @@
 //! Few values of each kind, so that calls meet each other's rows.
 use crate::rng::Rng;
 use crate::words;
+use reference::FUZZ;
 
 pub const SECOND: u64 = 1_000_000_000;
 pub const FOREVER: u32 = u32::MAX;
@@ -72,6 +73,23 @@ pub const LIVES: [u32; 10] = [
     11,
     4_294_967_294,
 ];
+/// What a server allows for: the Rust's own 20 ms as often as all others.
+pub const ALLOWANCES: [u64; 14] = [
+    FUZZ,
+    FUZZ,
+    FUZZ,
+    FUZZ,
+    FUZZ,
+    FUZZ,
+    FUZZ,
+    0,
+    0,
+    4_000_000,
+    4_000_000,
+    1,
+    SECOND - 1,
+    SECOND,
+];
 pub const ADDRESS_FLAGS: [u32; 10] = [0, 0, 0, 0, 0x200, 0x200, 0x01, 0x80, 0x20, 0xffff_ffff];
 
 const fn ip(a: u8, b: u8, c: u8, d: u8) -> u32 {
@@ -139,12 +157,21 @@ pub fn metrics(rng: &mut Rng) -> [u32; 17] {
     metrics
 }
 
+/// An allowance of `expire`: mostly one of the few, at times any.
+pub fn allowance(rng: &mut Rng) -> u64 {
+    if rng.one_in(16) {
+        rng.draw() % (SECOND + 1)
+    } else {
+        rng.pick(&ALLOWANCES)
+    }
+}
+
 /// A clock value by which a lifetime of the pool is about to end for an
-/// address last set at `changed`.
-pub fn near_end(rng: &mut Rng, changed: u64, seconds: u32) -> u64 {
+/// address last set at `changed`, or to end sooner by an allowance.
+pub fn near_end(rng: &mut Rng, changed: u64, seconds: u32, allowance: u64) -> u64 {
     let end = changed.saturating_add(u64::from(seconds) * SECOND);
     let edge = if rng.one_in(2) {
-        end.saturating_sub(20_000_000)
+        end.saturating_sub(allowance)
     } else {
         end
     };

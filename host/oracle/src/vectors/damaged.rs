@@ -38,7 +38,7 @@ pub fn lists(data: &[u32]) -> Vec<(&'static str, Vec<u8>)> {
     let middle = flipped.len() / 2;
     flipped[middle] ^= 16;
     let mut other = whole.clone();
-    other[3] = b'3';
+    other[3] = b'2';
     vec![
         ("number", saying(DUMP4, &|r| r[NUMBER] = 201)),
         ("value", saying(UP, &|r| r[VALUE] -= 1)),

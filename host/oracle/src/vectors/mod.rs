@@ -28,12 +28,12 @@ use std::collections::BTreeMap;
 use std::fs;
 use std::path::Path;
 
-/// "NKV2" in the file's first four bytes.
-const MAGIC: u32 = u32::from_le_bytes(*b"NKV2");
+/// "NKV3" in the file's first four bytes.
+const MAGIC: u32 = u32::from_le_bytes(*b"NKV3");
 /// The list's words before its records.
 const HEAD_WORDS: usize = 5;
 /// A record's words before its sets.
-const RECORD_HEAD_WORDS: usize = 16;
+const RECORD_HEAD_WORDS: usize = 17;
 /// The longest record, and the longest buffer: a replayer has room for no
 /// more.
 const RECORD_WORDS: usize = 4096;
@@ -299,7 +299,7 @@ impl Writer {
         let rows = &buffer[..written(&case.call, &reply)];
         let lent = case.call.lent().unwrap_or(&[]);
         let mut numbers = case.call.numbers();
-        numbers.resize(3, 0);
+        numbers.resize(4, 0);
         let sets_end = RECORD_HEAD_WORDS + 2 * sets.len();
         let lent_end = sets_end + lent.len();
         let changes_end = lent_end + 2 * changes.len();

@@ -76,7 +76,11 @@ fn replay_one(record: &[u32], held: &mut [u32], makers: Makers) -> Result<(), St
         Some(code) => (code, makers.masked),
         None => (record[2], makers.calls),
     };
-    let call = call(code, &record[sets_end..lent_end], &record[13..16])?;
+    let call = call(
+        code,
+        &record[sets_end..lent_end],
+        &record[13..RECORD_HEAD_WORDS],
+    )?;
     let state = &mut held[..record[4] as usize];
     let mut expected = state.to_vec();
     apply(&mut expected, &record[lent_end..changes_end]);
@@ -102,7 +106,8 @@ fn apply(words: &mut [u32], pairs: &[u32]) {
 
 fn call(code: u32, lent: &[u32], n: &[u32]) -> Result<Call, String> {
     let lent = lent.to_vec();
-    let now = || words::whole(n[0], n[1]);
+    let whole = |low: usize| words::whole(n[low], n[low + 1]);
+    let now = || whole(0);
     Ok(match code {
         1 => Call::Up { now: now() },
         2 => Call::Down,
@@ -111,7 +116,10 @@ fn call(code: u32, lent: &[u32], n: &[u32]) -> Result<Call, String> {
             now: now(),
         },
         4 => Call::DelV4 { request: lent },
-        5 => Call::Expire { now: now() },
+        5 => Call::Expire {
+            now: now(),
+            allowance: whole(2),
+        },
         6 => Call::AddRoute4 { request: lent },
         7 => Call::DelRoute4 { request: lent },
         8 => Call::Dump4,

@@ -165,8 +165,11 @@ fn before_its_primary() -> Sequence {
         ],
         ..Lists::default()
     };
-    let now = 5_000_000_000;
-    (states::encoded(&lists), vec![Call::Expire { now }])
+    let expire = Call::Expire {
+        now: 5_000_000_000,
+        allowance: reference::FUZZ,
+    };
+    (states::encoded(&lists), vec![expire])
 }
 
 /// As many routes of a private table.

@@ -22,7 +22,7 @@ returns-in-DelV4 c = rw c.in-DelV4.is (made-did c.del_v4.ensures)
 
 pub returns-in-Expire : goal.returns-in-Expire
 unfolding call_by
-returns-in-Expire c = rw (c.in-Expire.is, ← c.clock_of-in-Expire.ensures) (made-did c.expire.ensures)
+returns-in-Expire c = rw (c.in-Expire.is, ← c.clock_of-in-Expire.ensures, ← c.clock_of-in-Expire-2.ensures) (made-did c.expire.ensures)
 
 pub returns-in-AddRoute4 : goal.returns-in-AddRoute4
 unfolding call_by
