@@ -75,16 +75,30 @@ extern "C" {
 
 /*
  * A state: the counts of addresses, routes and tables, their rows (64, 256)
- * and the tables' numbers (32). What isn't used is 0; all 0 is a state.
+ * and the tables' numbers (32). What isn't used is 0; all 0 is a state. Behind
+ * them the low and the high word of the change count, any of which will do: it
+ * goes up by one with each call, refused or not, that changes an address, a
+ * route or a table, and stops at 2^64 - 1.
+ *
+ * A state of an older library, 9,507 words without a change count, is met by
+ * 200. It is taken over by putting two words of 0 behind it.
  */
-#define INTERFACE4_STATE_WORDS 9507
+#define INTERFACE4_STATE_WORDS 9509
 #define INTERFACE4_ADDRESSES_AT 3
 #define INTERFACE4_ROUTES_AT 1283
 #define INTERFACE4_TABLES_AT 9475
+#define INTERFACE4_COUNT_AT 9507
 /* The fewest words of a buffer for events, for a listing, for one route. */
 #define INTERFACE4_EVENT_BUFFER_WORDS 13056
 #define INTERFACE4_LISTING_BUFFER_WORDS 8192
 #define INTERFACE4_ROW_BUFFER_WORDS 32
+/*
+ * The cursor of a listing that is taken in parts: the next place, the low and
+ * the high word of the start's change count. The mark of a part that isn't
+ * sure to belong to what dump4 gave at the start is netlink's NLM_F_DUMP_INTR.
+ */
+#define INTERFACE4_CURSOR_WORDS 3
+#define INTERFACE4_DUMP_INTERRUPTED 16
 
 /*
  * Requests, in words. An absent value has 0 in its word; where both stand
@@ -108,7 +122,8 @@ extern "C" {
 #define INTERFACE4_ADDRESS_BYTES 80
 #define INTERFACE4_ROUTE_BYTES 128
 #define INTERFACE4_EVENT_BYTES 136
-#define INTERFACE4_STATE_BYTES 38028
+#define INTERFACE4_STATE_BYTES 38036
+#define INTERFACE4_CURSOR_BYTES 12
 #define INTERFACE4_EVENT_BUFFER_BYTES 52224
 #define INTERFACE4_LISTING_BUFFER_BYTES 32768
 #define INTERFACE4_ROW_BUFFER_BYTES 128
@@ -132,14 +147,15 @@ extern "C" {
 #define INTERFACE4_MESSAGE_BYTES 216
 
 /* The last of document 02's papers that this header knows: see interface4_sizes. */
-#define INTERFACE4_PAPER 5
+#define INTERFACE4_PAPER 6
 
 /* A lifetime that never ends. */
 #define INTERFACE4_FOREVER UINT32_MAX
 
 /*
  * Why a call said no. Then no lent element has changed, but a refused
- * add_route4 may leave its table listed, unless the number is 200 to 203.
+ * add_route4 may leave its table listed, and the change count one up, unless
+ * the number is 200 to 203.
  * Besides these, the metrics error that a request carries in.
  */
 #define INTERFACE4_NO_CREATE_FLAG 2        /* a new route, no create flag */
@@ -184,6 +200,8 @@ typedef struct interface4_reply {
 #define INTERFACE4W_STACK_ADD_ROUTE4 4096
 #define INTERFACE4W_STACK_DEL_ROUTE4 4096
 #define INTERFACE4W_STACK_DUMP4 8192
+#define INTERFACE4W_STACK_DUMP4_BEGIN 36864
+#define INTERFACE4W_STACK_DUMP4_NEXT 36864
 #define INTERFACE4W_STACK_LOOKUP4 4096
 #define INTERFACE4W_STACK_LOOKUP4_FLOW 4096
 #define INTERFACE4W_STACK_LOCAL4 4096
@@ -204,6 +222,8 @@ typedef struct interface4_reply {
 #define INTERFACE4_STACK_ADD_ROUTE4 94208
 #define INTERFACE4_STACK_DEL_ROUTE4 94208
 #define INTERFACE4_STACK_DUMP4 77824
+#define INTERFACE4_STACK_DUMP4_BEGIN 110592
+#define INTERFACE4_STACK_DUMP4_NEXT 110592
 #define INTERFACE4_STACK_LOOKUP4 40960
 #define INTERFACE4_STACK_LOOKUP4_FLOW 40960
 #define INTERFACE4_STACK_LOCAL4 40960
@@ -281,6 +301,28 @@ interface4_reply interface4_del_route4(uint8_t *state, size_t state_len, const u
 /* The route rows in the order in which Linux lists tables; `value` of them. */
 interface4_reply interface4w_dump4(const uint32_t *state, size_t state_len, uint32_t *listing, size_t listing_len);
 interface4_reply interface4_dump4(const uint8_t *state, size_t state_len, uint8_t *listing, size_t listing_len);
+
+/*
+ * A listing in parts of 1 to 256 rows, with any other calls between them.
+ * `begin` gives the first rows, `next` goes on from what the part before left
+ * in `cursor` (any words will do; a place past the end gives no row and
+ * finishes it). `listing` has room for `rows` rows, or for 256 if that is
+ * less; what is behind the rows given keeps what it held. `value` is the
+ * number of rows given, `present` INTERFACE4_DUMP_INTERRUPTED if the change
+ * count isn't the start's or is at its largest, else 0, `second` 1 if the rows
+ * reach the end, else 0. `cursor`, exactly INTERFACE4_CURSOR_WORDS, is written
+ * by both and read by `next` alone; a refusal leaves it.
+ *
+ * 200, 201, then 202 for 0 rows or more than 256.
+ */
+interface4_reply interface4w_dump4_begin(const uint32_t *state, size_t state_len, uint32_t *listing,
+                                         size_t listing_len, uint32_t *cursor, size_t cursor_len, uint32_t rows);
+interface4_reply interface4_dump4_begin(const uint8_t *state, size_t state_len, uint8_t *listing, size_t listing_len,
+                                        uint8_t *cursor, size_t cursor_len, uint32_t rows);
+interface4_reply interface4w_dump4_next(const uint32_t *state, size_t state_len, uint32_t *listing,
+                                        size_t listing_len, uint32_t *cursor, size_t cursor_len, uint32_t rows);
+interface4_reply interface4_dump4_next(const uint8_t *state, size_t state_len, uint8_t *listing, size_t listing_len,
+                                       uint8_t *cursor, size_t cursor_len, uint32_t rows);
 
 /* The route to ip, written to `row`. */
 interface4_reply interface4w_lookup4(const uint32_t *state, size_t state_len, uint32_t *row, size_t row_len,

@@ -22,6 +22,8 @@
 static uint32_t state[INTERFACE4_STATE_WORDS];
 static uint32_t events[INTERFACE4_EVENT_BUFFER_WORDS];
 static uint32_t listing[INTERFACE4_LISTING_BUFFER_WORDS];
+static uint32_t part[4 * INTERFACE4_ROUTE_WORDS];
+static uint32_t cursor[INTERFACE4_CURSOR_WORDS];
 static uint32_t row[INTERFACE4_ROW_BUFFER_WORDS];
 static uint32_t own[INTERFACE4_ADDRESS_WORDS];
 static uint32_t address[INTERFACE4_ADD_V4_WORDS];
@@ -122,6 +124,25 @@ static void two_addresses(void)
   memcpy(own, second, sizeof own);
 }
 
+/* Six rows in parts of four: the cursor, and what is behind the two rows of the last. */
+static void first_part(void)
+{
+  is("the next place", cursor[0], 4);
+  is("the start's count", cursor[1], 2);
+  is("its high word", cursor[2], 0);
+  is("its rows", (uint32_t)memcmp(part, listing, sizeof part), 0);
+  memset(part, 0x5a, sizeof part);
+}
+
+static void last_part(void)
+{
+  const size_t two = 2 * INTERFACE4_ROUTE_WORDS;
+
+  is("the last place", cursor[0], 6);
+  is("the last rows", (uint32_t)memcmp(part, listing + 2 * two, two * sizeof *part), 0);
+  is("what is behind them", part[two], 0x5a5a5a5au);
+}
+
 static void found_route(void)
 {
   is("its table", row[0], 255);
@@ -185,6 +206,13 @@ static void on_words(void)
   told("select4", interface4w_select4(W(state), 1, PEER, 253), 1, OWN, 0);
   told("select4 without a destination", interface4w_select4(W(state), 0, 0, 254), 1, LOCALHOST, 0);
   told("dump4", interface4w_dump4(W(state), W(listing)), 0, 6, 0);
+  memset(cursor, 0x5a, sizeof cursor);
+  told("dump4_begin", interface4w_dump4_begin(W(state), W(part), W(cursor), 4), 0, 4, 0);
+  first_part();
+  refused("no rows", interface4w_dump4_next(W(state), W(part), W(cursor), 0), 202);
+  refused("room for four rows", interface4w_dump4_next(W(state), W(part), W(cursor), 5), 200);
+  told("dump4_next", interface4w_dump4_next(W(state), W(part), W(cursor), 4), 0, 2, 1);
+  last_part();
 
   reply = interface4w_add_v4(W(state), W(address), W(events), 8);
   refused("add_v4 again", reply, 17);
@@ -202,9 +230,13 @@ static void on_words(void)
   state[2] = 33;
   refused("33 tables", interface4w_check(W(state)), 201);
   state[2] = 2;
+  refused("no change count", interface4w_check(state, INTERFACE4_COUNT_AT), 200);
 
   told("add_route4", interface4w_add_route4(W(state), W(route), W(events)), 0, 1, 0);
   is("its event", events[0], INTERFACE4_NEW_ROUTE4);
+  is("the changes", state[INTERFACE4_COUNT_AT], 3);
+  reply = interface4w_dump4_next(W(state), W(part), W(cursor), 4);
+  told("dump4_next after a change", reply, INTERFACE4_DUMP_INTERRUPTED, 1, 1);
   told("del_route4", interface4w_del_route4(W(state), W(same_route), W(events)), 0, 1, 0);
   is("its event", events[0], INTERFACE4_DEL_ROUTE4);
   told("expire", interface4w_expire(W(state), W(events), 6000000000u), 0, 1, 0);
@@ -241,6 +273,10 @@ static void on_bytes(void)
   told("local4, on bytes", interface4_local4(B(state), OWN), 0, 1, 0);
   told("select4, on bytes", interface4_select4(B(state), 1, PEER, 253), 1, OWN, 0);
   told("dump4, on bytes", interface4_dump4(B(state), B(listing)), 0, 6, 0);
+  told("dump4_begin, on bytes", interface4_dump4_begin(B(state), B(part), B(cursor), 4), 0, 4, 0);
+  first_part();
+  told("dump4_next, on bytes", interface4_dump4_next(B(state), B(part), B(cursor), 4), 0, 2, 1);
+  last_part();
   refused("words for bytes", interface4_check((const uint8_t *)state, INTERFACE4_STATE_WORDS), 200);
   told("add_route4, on bytes", interface4_add_route4(B(state), B(route), B(events)), 0, 1, 0);
   told("del_route4, on bytes", interface4_del_route4(B(state), B(same_route), B(events)), 0, 1, 0);

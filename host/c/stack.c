@@ -20,7 +20,7 @@
 #define L INTERFACE4_LISTING_BUFFER_WORDS
 
 /* What a call is made with. */
-static uint32_t state[S], events[E], listing[L], row[32], own[20];
+static uint32_t state[S], events[E], listing[L], row[32], own[20], cursor[INTERFACE4_CURSOR_WORDS];
 static uint32_t add_v4[18], del_v4[11], add_route4[34], del_route4[49];
 /* The same requests for an address, with the mask of their prefix. */
 static uint32_t add_v4_mask[18], del_v4_mask[11];
@@ -49,6 +49,8 @@ static interface4_reply reply;
   CALL(add_route4, (P(state), P(add_route4), P(events)))        \
   CALL(del_route4, (P(state), P(del_route4), P(events)))        \
   CALL(dump4, (P(state), P(listing)))                           \
+  CALL(dump4_begin, (P(state), P(listing), P(cursor), 256))     \
+  CALL(dump4_next, (P(state), P(listing), P(cursor), 256))      \
   CALL(lookup4, (P(state), P(row), ip))                         \
   CALL(lookup4_flow, (P(state), P(row), ip, 8, 1))              \
   CALL(local4, (P(state), ip))                                  \
@@ -131,7 +133,11 @@ static void measure(void)
   memcpy(del_v4_mask, del_v4, sizeof del_v4);
   del_v4_mask[4] = mask(del_v4[4]);
   for (i = 0; i < FUNCTIONS; i++) {
-    size_t depth = used(functions[i].call);
+    size_t depth;
+    /* in the middle of a listing, or past its end */
+    memset(cursor, 0, sizeof cursor);
+    cursor[0] = 100;
+    depth = used(functions[i].call);
     if (depth > functions[i].most)
       functions[i].most = depth;
     memcpy(state, kept, sizeof state);

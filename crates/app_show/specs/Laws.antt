@@ -10,12 +10,12 @@ use Rattle.lists.specs.Lists.{Row, flat, put, chop}
 use Rattle.lists.specs.Bools.{cond-true, cond-false}
 use Rattle.lists.specs.Rows.{sized, length-flat, chop-flat}
 use Rattle.definition.specs.Words.{base_size, state_size, base, decode, well_formed, state_of, formed}
+use Rattle.definition.proofs.Preservation.Step.{base-long}
 use Rattle.definition.specs.Reference.Source.{dump4}
 use Rattle.definition.specs.Preservation.Encode.{good-decode}
 use Rattle.definition.proofs.Preservation.Reading.{dump4-listing}
 use Rattle.endian.specs.Endian.{words_of}
 use Rattle.endian.specs.Laws.{length-words_of}
-use Rattle.std.proofs.Common.{take_all}
 use Rattle.rows.specs.Rows.{chunks-chop}
 use Rattle.std.specs.Simd.{first_chunks}
 use Rattle.text.specs.Print.{render, refused_line}
@@ -45,9 +45,9 @@ pub shown-other : (b : List ℕ) → (length b ≡ (4 * state_size) → ⊥) →
 unfolding shown
 shown-other b h = cond-false (eqb (length b) (4 * state_size)) (shown_words (words_of b)) (refused_line 200) (ne_eqb (length b) (4 * state_size) h)
 
--- words that are read from as many bytes are a state's first words, all of them
-pub base-whole : (w b : List ℕ) → w ≡ words_of b → length b ≡ 4 * state_size → base w ≡ w
-base-whole w b e h = take_all base_size w (omega (arith, ap length e, length-words_of b, h))
+-- of words that are read from as many bytes the first ones are those of the lists
+pub base-read : (w b : List ℕ) → w ≡ words_of b → length b ≡ 4 * state_size → length (base w) ≡ base_size
+base-read w b e h = base-long w (omega (arith, ap length e, length-words_of b, h))
 
 -- bytes that a check refuses
 pub refused : {A : Type 0} (P : A → Type 0) (t : Result A Refusal) (e : Refusal) (b : List ℕ) (pass : Bool) (why : Refusal) → IsErr t × IsErrAnd t (λ x. x ≡ e)

@@ -7,12 +7,17 @@ ghost use Rattle.definition.specs.Call.{Numbers};
 ghost use Rattle.definition.specs.Step.{unfit};
 ghost use Rattle.call_read.specs.Answer.{answer_by, refused_by, nothing, flag, valuing, optional};
 ghost use Rattle.call_message.specs.Answer.{asked_by};
+ghost use Rattle.call_parts.specs.Answer.{part_by};
 ghost use Rattle.row_address.specs.Row.{reply_of as row-address·reply_of};
 ghost use Rattle.call_reply.specs.Answer.{left_by, reply_from, reply_of};
 
 use call_message::Asked;
+use call_parts::Part;
 use life::Left;
 use refusal::Refusal;
+
+// Netlink's NLM_F_DUMP_INTR, the mark of an interrupted dump.
+const INTERRUPTED: u32 = 0x10;
 
 // The number is 0, or the refusal's number and then the rest is 0.
 // All are words, the mark of what is present too, since C reads them.
@@ -139,6 +144,21 @@ impl Values for Asked {
             present: 0,
             value: u32::from(self.kind),
             second: self.words,
+        }
+    }
+}
+
+impl Values for Part {
+    ghost numbers = { part_by };
+
+    ghost fits = { λ _. ⊤ };
+
+    fn values(self) -> Reply {
+        Reply {
+            number: 0,
+            present: if self.interrupted { INTERRUPTED } else { 0 },
+            value: self.rows,
+            second: u32::from(self.complete),
         }
     }
 }

@@ -5,3 +5,4 @@ pub mod Changing
 pub mod Reading
 pub mod Message
 pub mod Mask
+pub mod Parts

@@ -11,6 +11,7 @@ mod given;
 mod masks;
 mod messages;
 mod on_words;
+mod parts;
 mod reading;
 
 const STATE_BYTES: usize = 4 * STATE_WORDS;

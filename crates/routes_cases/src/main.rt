@@ -20,6 +20,7 @@ fn main(rt: HostRuntime) {
         "full",
         "short",
         "long",
+        "older",
         "nothing",
         "unordered",
         "kind4",

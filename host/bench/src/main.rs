@@ -5,6 +5,7 @@ mod events;
 mod masks;
 mod measure;
 mod messages;
+mod parts;
 mod reader;
 mod same_job;
 mod states;
@@ -23,7 +24,8 @@ const USAGE: &str = "usage: bench [--addresses] [--rounds N] [--only TEXT]
                  the Rust on its own lists
   --rounds N     501 if it isn't said
   --only TEXT    only calls whose name has TEXT in it; check: the check of a
-                 state alone; read: messages; mask: netmasks; write: events";
+                 state alone; read: messages; mask: netmasks; write: events;
+                 part: listings taken in parts";
 /// Cases on which the Rust on lent words is first compared with the model.
 const COMPARED: usize = 3_000;
 
@@ -65,9 +67,10 @@ fn main() -> ExitCode {
     if addresses {
         return swap(&usual, &special, rounds);
     }
-    let others = ["check", "read", "mask", "write"].map(|name| name.contains(only.as_str()));
-    let [check, read, mask, write] = others;
-    if usual.is_empty() && special.is_empty() && others == [false; 4] {
+    let others = ["check", "read", "mask", "write", "part"];
+    let others = others.map(|name| name.contains(only.as_str()));
+    let [check, read, mask, write, part] = others;
+    if usual.is_empty() && special.is_empty() && !others.contains(&true) {
         eprintln!("no call has {only} in its name\n{USAGE}");
         return ExitCode::FAILURE;
     }
@@ -106,6 +109,9 @@ fn main() -> ExitCode {
     }
     if write {
         events::table(rounds);
+    }
+    if part {
+        parts::table(rounds);
     }
     ExitCode::SUCCESS
 }
@@ -295,7 +301,7 @@ fn summary<'a>(
 }
 
 fn check_alone(rounds: usize) {
-    println!("| state | the port | the Rust, plain | tuned | all 9,507 words or-ed |");
+    println!("| state | the port | the Rust, plain | tuned | all words or-ed |");
     println!("|---|---:|---:|---:|---:|");
     for size in [[0, 0, 0], [62, 250, 30], [64, 256, 32]] {
         let state = states::of_size(size);

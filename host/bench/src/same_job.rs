@@ -1,16 +1,20 @@
 //! The Rust doing the port's job: lent words in, lent words out. They are
 //! checked, the lists are decoded, the unchanged Rust answers, and what a
-//! changing call left and told is written back. Rows are compared only
-//! where they are alike. 203 is read off the lengths after the call, which
-//! is one case short of exact: a changed priority at 256 routes.
+//! changing call left and told is written back; if that changed a word of the
+//! lists, the change count goes up. Rows are compared only where they are
+//! alike. 203 is read off the lengths after the call, which is one case short
+//! of exact: a changed priority at 256 routes.
 //!
 //! Two ways: as one writes it, and tuned: unused words or-ed together in
 //! place of a search for one that isn't 0 (which no compiler vectorises), no
 //! list decoded that the call doesn't read, only rows that fell away
-//! cleared.
+//! cleared, only words in use compared.
 use oracle::call::{Buffer, Call, Reply};
 use oracle::fit;
-use oracle::words::{ADDRESSES_AT, LIMITS, ROUTES_AT, STATE_WORDS, TABLES_AT};
+use oracle::words::{
+    ADDRESSES_AT, BASE_WORDS, LIMITS, ROUTES_AT, STATE_WORDS, TABLES_AT, change_count,
+    set_change_count,
+};
 use reference::{Arguments, Native};
 
 /// The call on lent words.
@@ -64,7 +68,11 @@ pub fn call<const TUNED: bool>(call: &Call, state: &mut [u32], buffer: &mut [u32
         {
             return Reply::refused(203);
         }
+        let before = in_use::<TUNED>(state).map(<[u32]>::to_vec);
         write::<TUNED>(&native, state);
+        if before != in_use::<TUNED>(state) {
+            set_change_count(state, change_count(state).saturating_add(1));
+        }
     }
     let [number, present, value, second] = told.write(buffer);
     Reply {
@@ -96,8 +104,23 @@ fn rows<const N: usize>(words: &[u32]) -> &[[u32; N]] {
     words.as_chunks().0
 }
 
+/// The words of the lists: all, or the counts and what is in use.
+fn in_use<const TUNED: bool>(state: &[u32]) -> [&[u32]; 4] {
+    if !TUNED {
+        return [&state[..BASE_WORDS], &[], &[], &[]];
+    }
+    let [a, r, t] = counts(state);
+    [
+        &state[..3],
+        &state[ADDRESSES_AT..][..20 * a],
+        &state[ROUTES_AT..][..32 * r],
+        &state[TABLES_AT..][..t],
+    ]
+}
+
 fn write<const TUNED: bool>(native: &Native, state: &mut [u32]) {
     let before = if TUNED { counts(state) } else { [0; 3] };
+    let state = &mut state[..BASE_WORDS];
     if !TUNED {
         state.fill(0);
     }
@@ -129,7 +152,7 @@ pub fn well_formed<const TUNED: bool>(state: &[u32]) -> bool {
         &state[ADDRESSES_AT..ROUTES_AT],
         &state[ROUTES_AT..TABLES_AT],
     );
-    let tables = &state[TABLES_AT..];
+    let tables = &state[TABLES_AT..BASE_WORDS];
     let unused = [&addresses[20 * a..], &routes[32 * r..], &tables[t..]];
     unused.iter().all(|words| zero::<TUNED>(words))
         && rows::<20>(addresses)[..a].iter().all(address)

@@ -8,6 +8,7 @@ use oracle::event::{self, Given, WordWriter, Writer};
 use oracle::message::{self, Reader};
 use oracle::model::model;
 use oracle::netmask::{self, Masked};
+use oracle::part::{self, Ask, Lister, Take};
 use oracle::port::{self, Bytes, Model, WordPort, make};
 use std::slice::{from_raw_parts, from_raw_parts_mut};
 
@@ -54,6 +55,12 @@ trait Element: Copy + Default {
     ) -> oracle::call::Reply;
     fn read(message: &[u8], request: &mut [Self], up: u32) -> oracle::call::Reply;
     fn write(event: &[Self], message: &mut [u8], given: Given) -> oracle::call::Reply;
+    fn part(
+        ask: Ask,
+        state: &[Self],
+        listing: &mut [Self],
+        cursor: &mut [Self],
+    ) -> oracle::call::Reply;
 }
 
 impl Element for u8 {
@@ -79,6 +86,9 @@ impl Element for u8 {
     }
     fn write(event: &[u8], message: &mut [u8], given: Given) -> oracle::call::Reply {
         Bytes(event::Model).write(event, message, given)
+    }
+    fn part(ask: Ask, state: &[u8], listing: &mut [u8], cursor: &mut [u8]) -> oracle::call::Reply {
+        Bytes(part::Model).part(ask, state, listing, cursor)
     }
 }
 
@@ -115,6 +125,14 @@ impl Element for u32 {
     fn write(event: &[u32], message: &mut [u8], given: Given) -> oracle::call::Reply {
         event::Model.write(event, message, given)
     }
+    fn part(
+        ask: Ask,
+        state: &[u32],
+        listing: &mut [u32],
+        cursor: &mut [u32],
+    ) -> oracle::call::Reply {
+        part::Model.part(ask, state, listing, cursor)
+    }
 }
 
 fn fault() -> String {
@@ -137,6 +155,7 @@ fn run<E: Element>(call: Call, lent: Lent<E>) -> Reply {
         ("another function", Call::Source { ip }) => Call::Local4 { ip },
         (_, call) => call,
     };
+    let before = lent.state.to_vec();
     let reply = if changing {
         E::model(call, lent.state, lent.request, lent.buffer)
     } else {
@@ -152,6 +171,10 @@ fn run<E: Element>(call: Call, lent: Lent<E>) -> Reply {
         "before the start" if changing => unsafe {
             lent.state.as_mut_ptr().sub(1).write(E::default());
         },
+        "the count not written back" if changing && !E::ALIGNED => {
+            let count = before.len().saturating_sub(8);
+            lent.state[count..].copy_from_slice(&before[count..]);
+        }
         "writes the request" => lent.request.fill(E::default()),
         "writes what it reads" if !changing => lent.state.fill(E::default()),
         "aligned alone" if misaligned && !E::ALIGNED => reply.number = 200,
@@ -258,6 +281,41 @@ fn padding(message: &[u8]) -> Vec<usize> {
     all
 }
 
+/// A part of a listing.
+fn part<E: Element>(mut ask: Ask, state: &mut [E], listing: &mut [E], cursor: &mut [E]) -> Reply {
+    let fault = fault();
+    match fault.as_str() {
+        "begin for next" => ask.take = Take::Begin,
+        "next for begin" => ask.take = Take::Next,
+        _ => {}
+    }
+    let before = cursor.to_vec();
+    let mut reply = Reply::from(E::part(ask, state, listing, cursor));
+    match fault.as_str() {
+        "swapped mark and end" => (reply.present, reply.second) = (reply.second, reply.present),
+        // SAFETY: none, this is the fault; the comparison lends guarded slices
+        "past the cursor" => unsafe {
+            cursor.as_mut_ptr_range().end.write(E::default());
+        },
+        "past the listing" => unsafe {
+            listing.as_mut_ptr_range().end.write(E::default());
+        },
+        "the cursor's last word not written back" if !E::ALIGNED => {
+            let last = before.len().saturating_sub(4);
+            cursor[last..].copy_from_slice(&before[last..]);
+        }
+        "a part clears what it reads" => state.fill(E::default()),
+        "the listing cleared behind" if reply.number == 0 => {
+            if let Some(last) = listing.last_mut() {
+                *last = E::default();
+            }
+        }
+        "part words unlike bytes" if E::ALIGNED => reply.second = 0,
+        _ => {}
+    }
+    reply
+}
+
 /// The check alone: what `local4` refuses.
 fn checked(local4: Reply) -> Reply {
     let lax = fault() == "a lax check" && local4.number == 201;
@@ -283,6 +341,30 @@ macro_rules! exports {
             let mut lent = Lent { state: &mut [], request: &mut [], buffer: &mut [] };
             $(lent.$slice = unsafe { from_raw_parts_mut($slice, $length) };)*
             $run::<$element>($call, lent)
+        }
+    )*};
+}
+
+/// The functions that take a part of a listing.
+macro_rules! parts {
+    ($element:ty, $prefix:literal: $($name:ident $take:ident),*) => {$(
+        /// # Safety
+        /// Each pointer and length are those of one slice.
+        #[unsafe(export_name = concat!($prefix, stringify!($name)))]
+        pub unsafe extern "C" fn $name(
+            state: *mut $element,
+            state_length: usize,
+            listing: *mut $element,
+            listing_length: usize,
+            cursor: *mut $element,
+            cursor_length: usize,
+            rows: u32,
+        ) -> Reply {
+            let state = unsafe { from_raw_parts_mut(state, state_length) };
+            let listing = unsafe { from_raw_parts_mut(listing, listing_length) };
+            let cursor = unsafe { from_raw_parts_mut(cursor, cursor_length) };
+            let take = Take::$take;
+            part::<$element>(Ask { take, rows }, state, listing, cursor)
         }
     )*};
 }
@@ -363,6 +445,8 @@ macro_rules! all {
             };
             super::write::<$element>(event, message, given)
         }
+
+        parts! { $element, $prefix: dump4_begin Begin, dump4_next Next }
     };
 }
 
@@ -388,11 +472,11 @@ pub extern "C" fn prefix(mask: u32) -> Reply {
 pub extern "C" fn sizes() -> Reply {
     Reply {
         number: 0,
-        present: 5,
+        present: 6,
         value: if fault() == "other sizes" {
-            9_509
-        } else {
             9_507
+        } else {
+            9_509
         },
         second: 384,
     }

@@ -1,5 +1,5 @@
 //! The addresses and routes of one loopback.
-use crate::layout::{self, ADDRESSES_AT, ROUTES_AT, TABLES_AT};
+use crate::layout::{self, ADDRESSES_AT, COUNT_AT, ROUTES_AT, TABLES_AT};
 use crate::records::{Ask4, Event, Lifetimes, Route4, Select4, V4};
 use crate::rows::{AddressIter, RouteIter};
 use crate::{EVENT_BUFFER_WORDS, EVENT_WORDS, LISTING_BUFFER_WORDS, ROUTE_WORDS};
@@ -23,9 +23,10 @@ use core::{fmt, slice};
 /// Whether the device is up is the caller's to know: [`Self::up`] and
 /// [`Self::down`] say what a change does, and requests carry it.
 ///
-/// It has 38,028 bytes for the state, and 52,224 for events from its first
+/// It has 38,036 bytes for the state, and 52,224 for events from its first
 /// change on. The latter are scratch: a clone has none, and two are equal
-/// if their states are.
+/// if their addresses, routes and tables are, whatever [`Self::changes`]
+/// led to them.
 pub struct Addresses {
     state: Box<[u32; STATE_WORDS]>,
     /// Where the library writes its events: empty before the first change.
@@ -42,7 +43,8 @@ impl Addresses {
         }
     }
 
-    /// The state that [`Self::words`] gave.
+    /// The state that [`Self::words`] gave. [`Self::from_older_words`] takes
+    /// one that was kept with 9,507 words, by an older library.
     ///
     /// # Errors
     /// [`Refused::UNFIT_BUFFER`] for another length,
@@ -55,6 +57,32 @@ impl Addresses {
         })
     }
 
+    /// The state of words that an older library left, which
+    /// [`Self::from_words`] refuses for their length: 9,507, without the
+    /// change count. A count of no changes is put behind them, two words of
+    /// 0. Words of today's length are taken as they are.
+    ///
+    /// # Errors
+    /// As of [`Self::from_words`].
+    ///
+    /// ```
+    /// use naskrefim::{Addresses, Refused};
+    /// let mut lo = Addresses::new();
+    /// lo.up(0)?;
+    /// let kept = &lo.words()[..9_507];
+    /// assert_eq!(Addresses::from_words(kept), Err(Refused::UNFIT_BUFFER));
+    /// let taken = Addresses::from_older_words(kept)?;
+    /// assert_eq!((&taken, taken.changes()), (&lo, 0));
+    /// # Ok::<(), Refused>(())
+    /// ```
+    pub fn from_older_words(state: &[u32]) -> Result<Self, Refused> {
+        if state.len() == COUNT_AT {
+            Self::from_words(&[state, &[0; STATE_WORDS - COUNT_AT]].concat())
+        } else {
+            Self::from_words(state)
+        }
+    }
+
     /// All words of the state, to be kept and given to
     /// [`Self::from_words`].
     #[must_use]
@@ -62,7 +90,8 @@ impl Addresses {
         &self.state
     }
 
-    /// [`Self::from_words`] of little-endian bytes.
+    /// [`Self::from_words`] of little-endian bytes. Those that an older
+    /// library left, 38,028, are taken with eight bytes of 0 behind them.
     ///
     /// # Errors
     /// As there.
@@ -317,7 +346,8 @@ impl Addresses {
     }
 
     /// The routes of all listed tables, in the order of a dump.
-    /// [`Self::routes`] has them in the state's order, and needs no buffer.
+    /// [`Self::routes`] has them in the state's order, and needs no buffer;
+    /// [`Self::dump4_begin`] gives them in parts.
     #[must_use]
     pub fn dump4(&self) -> Vec<Route4> {
         let mut listing = vec![0; LISTING_BUFFER_WORDS];
@@ -467,7 +497,7 @@ fn answered(reply: Reply) -> Reply {
     reply.accepted().unwrap_or_else(impossible)
 }
 
-fn impossible<T>(refused: Refused) -> T {
+pub(crate) fn impossible<T>(refused: Refused) -> T {
     panic!("{refused}, of a well-formed state and a fit call")
 }
 
@@ -494,10 +524,10 @@ impl Clone for Addresses {
     }
 }
 
-/// Equal if all words of the state are.
+/// Equal if all words of the lists are: the change count is left out.
 impl PartialEq for Addresses {
     fn eq(&self, other: &Self) -> bool {
-        self.state == other.state
+        self.state[..COUNT_AT] == other.state[..COUNT_AT]
     }
 }
 
@@ -509,6 +539,7 @@ impl fmt::Debug for Addresses {
             .field("v4", &self.v4())
             .field("routes4", &self.routes().len())
             .field("tables4", &self.tables().collect::<Vec<_>>())
+            .field("changes", &self.changes())
             .finish()
     }
 }

@@ -16,11 +16,13 @@ use crate::Refused;
 pub struct Reply {
     /// 0, or why the call was refused.
     pub number: u32,
-    /// Whether `value` is there, of `source4` and `select4`.
+    /// Whether `value` is there, of `source4` and `select4`; the mark, of a
+    /// part of a listing.
     pub present: u32,
     /// What the call answers: see there.
     pub value: u32,
-    /// The valid lifetime, of `left`; the words written, of `read`.
+    /// The valid lifetime, of `left`; the words written, of `read`; whether
+    /// it reaches the end, of a part of a listing.
     pub second: u32,
 }
 
@@ -154,6 +156,20 @@ macro_rules! exported {
             /// [`Addresses::dump4`](crate::Addresses::dump4). `value` is
             /// the number of rows.
             dump4(state: read, listing: write;);
+            /// The first part of a listing, at most `rows` rows, for which
+            /// `listing` has room: see
+            /// [`Addresses::dump4_begin`](crate::Addresses::dump4_begin).
+            /// `value` is the number of rows, `present` the mark
+            /// ([`F_DUMP_INTR`](crate::F_DUMP_INTR)) or 0, `second` 1 if
+            /// they reach the end. All of `cursor`,
+            /// [`CURSOR_WORDS`](crate::CURSOR_WORDS), is written, and
+            /// nothing in it is looked at.
+            dump4_begin(state: read, listing: write, cursor: write; rows: u32);
+            /// The next part of a listing, from where `cursor` says, which
+            /// then says where this one ends: see
+            /// [`Addresses::dump4_next`](crate::Addresses::dump4_next).
+            /// Otherwise as [`dump4_begin`].
+            dump4_next(state: read, listing: write, cursor: write; rows: u32);
             /// The route to `ip` is written to `row`: see
             /// [`Addresses::lookup4`](crate::Addresses::lookup4).
             lookup4(state: read, row: write; ip: u32);
@@ -262,7 +278,7 @@ pub struct Sizes {
 /// use naskrefim::{EVENT_LIMIT, STATE_WORDS, sizes};
 /// let sizes = sizes();
 /// assert_eq!((sizes.state_words, sizes.event_rows), (STATE_WORDS, EVENT_LIMIT));
-/// assert_eq!(sizes.paper, 5);
+/// assert_eq!(sizes.paper, 6);
 /// ```
 #[must_use]
 pub fn sizes() -> Sizes {

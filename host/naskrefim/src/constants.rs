@@ -41,5 +41,9 @@ pub const F_CREATE: u16 = 0x400;
 /// `NLM_F_APPEND`.
 pub const F_APPEND: u16 = 0x800;
 
+/// `NLM_F_DUMP_INTR`, of a part of a listing: something has changed since
+/// it began.
+pub const F_DUMP_INTR: u16 = 0x10;
+
 /// The metrics of a route whose request names none.
 pub const NO_METRICS: Metrics = [0; 17];

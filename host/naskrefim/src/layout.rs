@@ -1,7 +1,7 @@
 //! Records as document 01's words, and back.
 use crate::records::{Ask4, Event, Kind, Life, Lifetimes, Metrics, Route4, Select4, V4};
 use crate::{ADD_ROUTE4_WORDS, ADD_V4_WORDS, DEL_ROUTE4_WORDS, DEL_V4_WORDS};
-use crate::{ADDRESS_LIMIT, ADDRESS_WORDS, EVENT_WORDS, ROUTE_LIMIT, ROUTE_WORDS};
+use crate::{ADDRESS_LIMIT, ADDRESS_WORDS, EVENT_WORDS, ROUTE_LIMIT, ROUTE_WORDS, TABLE_LIMIT};
 use crate::{Refused, Request};
 use alloc::vec::Vec;
 use core::net::Ipv4Addr;
@@ -10,6 +10,8 @@ use core::net::Ipv4Addr;
 pub(crate) const ADDRESSES_AT: usize = 3;
 pub(crate) const ROUTES_AT: usize = ADDRESSES_AT + ADDRESS_LIMIT * ADDRESS_WORDS;
 pub(crate) const TABLES_AT: usize = ROUTES_AT + ROUTE_LIMIT * ROUTE_WORDS;
+/// And its change count, the low word first.
+pub(crate) const COUNT_AT: usize = TABLES_AT + TABLE_LIMIT;
 
 /// The word of the prefix, or of the netmask, in the two requests.
 pub(crate) const ADD_V4_PREFIX: usize = 2;
@@ -33,7 +35,7 @@ fn label_words(label: &[u8]) -> [u32; 5] {
 }
 
 /// A count or an index as a word; one that doesn't fit is refused.
-fn count(n: usize) -> u32 {
+pub(crate) fn count(n: usize) -> u32 {
     u32::try_from(n).unwrap_or(u32::MAX)
 }
 
@@ -147,7 +149,7 @@ fn halves(stamp: u64) -> [u32; 2] {
     [stamp as u32, (stamp >> 32) as u32]
 }
 
-fn whole(low: u32, high: u32) -> u64 {
+pub(crate) fn whole(low: u32, high: u32) -> u64 {
     u64::from(low) | u64::from(high) << 32
 }
 

@@ -8,8 +8,8 @@
 //! slices, for hosts that keep the state elsewhere. [`Request`] is what an
 //! rtnetlink message asks for, as it comes off the socket, and
 //! [`Addresses::perform`] does it; [`Event::message`] is what those who
-//! listen are told. No function of this crate is unsafe, whatever it is
-//! given.
+//! listen are told. [`Parts`] lists the routes a few at a time while other
+//! calls go on. No function of this crate is unsafe, whatever it is given.
 //!
 //! ```
 //! use core::net::Ipv4Addr;
@@ -57,6 +57,8 @@
 //! | `add_route4` | 4,096 | 94,208 |
 //! | `del_route4` | 4,096 | 94,208 |
 //! | `dump4` | 8,192 | 77,824 |
+//! | `dump4_begin` | 36,864 | 110,592 |
+//! | `dump4_next` | 36,864 | 110,592 |
 //! | `lookup4` | 4,096 | 40,960 |
 //! | `lookup4_flow` | 4,096 | 40,960 |
 //! | `local4` | 4,096 | 40,960 |
@@ -84,6 +86,7 @@ mod boundary;
 mod constants;
 mod layout;
 mod netmask;
+mod parts;
 mod records;
 mod refused;
 mod request;
@@ -92,11 +95,12 @@ mod rows;
 pub use addresses::Addresses;
 pub use boundary::{Reply, Sizes, bytes, prefix, sizes, words};
 pub use constants::{
-    DEPRECATED, F_APPEND, F_CREATE, F_EXCL, F_REPLACE, FOREVER, NO_METRICS, NO_PREFIX_ROUTE,
-    PERMANENT, PROTO_KERNEL, SCOPE_HOST, SCOPE_LINK, SCOPE_NOWHERE, SCOPE_UNIVERSE, SECONDARY,
-    TABLE_DEFAULT, TABLE_LOCAL, TABLE_MAIN,
+    DEPRECATED, F_APPEND, F_CREATE, F_DUMP_INTR, F_EXCL, F_REPLACE, FOREVER, NO_METRICS,
+    NO_PREFIX_ROUTE, PERMANENT, PROTO_KERNEL, SCOPE_HOST, SCOPE_LINK, SCOPE_NOWHERE,
+    SCOPE_UNIVERSE, SECONDARY, TABLE_DEFAULT, TABLE_LOCAL, TABLE_MAIN,
 };
 pub use netmask::Netmask;
+pub use parts::{Cursor, Part, Parts};
 pub use records::{Ask4, Event, Kind, Life, Lifetimes, Metrics, Route4, Select4, V4};
 pub use refused::Refused;
 pub use request::Request;
@@ -122,13 +126,17 @@ pub const ROUTE_WORDS: usize = 32;
 pub const EVENT_WORDS: usize = 34;
 
 /// The words of a state: three counts, the address rows, the route rows,
-/// the tables.
+/// the tables, the change count's low and high word.
 pub const STATE_WORDS: usize =
-    3 + ADDRESS_LIMIT * ADDRESS_WORDS + ROUTE_LIMIT * ROUTE_WORDS + TABLE_LIMIT;
+    3 + ADDRESS_LIMIT * ADDRESS_WORDS + ROUTE_LIMIT * ROUTE_WORDS + TABLE_LIMIT + 2;
 /// The fewest words of an event buffer.
 pub const EVENT_BUFFER_WORDS: usize = EVENT_LIMIT * EVENT_WORDS;
 /// The fewest words of a listing buffer.
 pub const LISTING_BUFFER_WORDS: usize = ROUTE_LIMIT * ROUTE_WORDS;
+
+/// The words of the cursor of a listing that is taken in parts: the next
+/// place, and the start's change count as its low and its high word.
+pub const CURSOR_WORDS: usize = 3;
 
 /// The most bytes of the message of an [`Event`], and the fewest that
 /// [`words::write`] is lent for it.

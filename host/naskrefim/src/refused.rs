@@ -3,8 +3,9 @@ use core::fmt;
 use core::num::NonZero;
 
 /// A refusal: one of the numbers of documents 01 and 02, or the metrics
-/// error that a request carried in. Nothing was changed, except that the table which a
-/// request to add a route names may be listed now.
+/// error that a request carried in. Nothing was changed, except that the
+/// table which a request to add a route names may be listed now, and that
+/// counted as a change.
 ///
 /// ```
 /// use naskrefim::Refused;

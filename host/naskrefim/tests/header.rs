@@ -44,6 +44,7 @@ fn sizes_are_the_crates_and_the_librarys() {
         ("ADD_ROUTE4", ADD_ROUTE4_WORDS),
         ("DEL_ROUTE4", DEL_ROUTE4_WORDS),
         ("REQUEST_BUFFER", DEL_ROUTE4_WORDS),
+        ("CURSOR", CURSOR_WORDS),
     ] {
         assert_eq!(of(&format!("{name}_WORDS")), words, "{name}");
         assert_eq!(of(&format!("{name}_BYTES")), 4 * words, "{name}");
@@ -51,7 +52,9 @@ fn sizes_are_the_crates_and_the_librarys() {
     assert_eq!(of("MESSAGE_BYTES"), MESSAGE_BYTES);
     assert_eq!(of("ADDRESSES_AT"), 3);
     assert_eq!(of("ROUTES_AT"), 3 + ADDRESS_LIMIT * ADDRESS_WORDS);
-    assert_eq!(of("TABLES_AT"), STATE_WORDS - TABLE_LIMIT);
+    assert_eq!(of("TABLES_AT"), of("COUNT_AT") - TABLE_LIMIT);
+    assert_eq!(of("COUNT_AT"), STATE_WORDS - 2);
+    assert_eq!(of("DUMP_INTERRUPTED"), usize::from(F_DUMP_INTR));
     let sizes = sizes();
     assert_eq!(of("STATE_WORDS"), sizes.state_words);
     assert_eq!(of("EVENTS"), sizes.event_rows);
@@ -108,5 +111,5 @@ fn stack() {
         assert!(docs.lines().any(|line| line == row), "{row}");
         rows += 1;
     }
-    assert_eq!(rows, 20);
+    assert_eq!(rows, 22);
 }

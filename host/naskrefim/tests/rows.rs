@@ -75,7 +75,7 @@ fn rows_of_unlisted_tables_are_shown() {
     let mut lo = Addresses::new();
     lo.up(0).unwrap();
     let mut words = *lo.words();
-    let tables = STATE_WORDS - TABLE_LIMIT;
+    let tables = STATE_WORDS - 2 - TABLE_LIMIT;
     (words[2], words[tables + 1]) = (1, 0);
     let lo = Addresses::from_words(&words).unwrap();
     assert!(lo.tables().eq([TABLE_MAIN]));
@@ -88,7 +88,7 @@ fn a_clone_is_the_state_alone() {
     lo.up(0).unwrap();
     let mut copy = lo.clone();
     assert_eq!(copy, lo);
-    // what one was told doesn't count
+    // what one was told doesn't count, nor does the way there
     let own = Ipv4Addr::new(10, 1, 0, 5);
     let new = V4::new(own, own, 24, SCOPE_UNIVERSE);
     let told = copy.add_v4(new, Lifetimes::FOREVER, false, true, 0);
@@ -96,6 +96,7 @@ fn a_clone_is_the_state_alone() {
     assert_ne!(copy, lo);
     assert_eq!(copy.del_v4(Some(own), None, 0, None).unwrap().len(), 4);
     assert_eq!(copy, lo);
+    assert_eq!(copy.changes(), lo.changes() + 2);
     assert_eq!(lo.up(1), Ok(vec![]));
 
     let full = full();

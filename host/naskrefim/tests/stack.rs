@@ -38,6 +38,8 @@ fn day() -> (usize, usize) {
     }
     let rows = lo.addresses().len() + lo.dump4().len();
     assert_eq!(lo.up(0), Ok(vec![]));
+    let next = lo.dump4_begin(200).unwrap().next.unwrap();
+    assert_eq!(lo.dump4_next(next, 200).unwrap().routes.len(), 56);
     let copy = Addresses::from_bytes(&lo.to_bytes()).unwrap();
     assert_eq!(copy.clone(), lo);
     let to = Ipv4Addr::new(12, 0, 9, 7);

@@ -168,29 +168,51 @@ fn smallest(port: &mut dyn Port, case: &Case, difference: Difference) -> String 
     format!("{difference}{cut}\n{}", json::line(&small))
 }
 
-/// Takes out of the state each row without which the port and the model
+/// The case on the smallest state found on which the port and the model
 /// still part.
-pub fn shrink(port: &mut dyn Port, case: Case, found: Difference) -> (Case, Difference) {
-    let (mut case, mut found) = (case, found);
-    if case.state.len() != STATE_WORDS || !well_formed::state(&case.state) {
-        return (case, found);
+pub fn shrink(port: &mut dyn Port, mut case: Case, mut found: Difference) -> (Case, Difference) {
+    let state = std::mem::take(&mut case.state);
+    case.state = smallest_state(state, |state| {
+        let state = state.to_vec();
+        let candidate = Case {
+            state,
+            ..case.clone()
+        };
+        compare(port, &candidate)
+            .map_err(|other| found = other)
+            .is_err()
+    });
+    (case, found)
+}
+
+/// A well-formed state without its count, and without each row and table,
+/// as far as they `part` without it.
+pub fn smallest_state(mut state: Vec<u32>, mut part: impl FnMut(&[u32]) -> bool) -> Vec<u32> {
+    if state.len() != STATE_WORDS || !well_formed::state(&state) {
+        return state;
+    }
+    let mut candidate = state.clone();
+    words::set_change_count(&mut candidate, 0);
+    if part(&candidate) {
+        state.copy_from_slice(&candidate);
     }
     for which in 0..3 {
         let mut at = 0;
-        while at < case.state[which] as usize {
-            let mut fewer = words::decode(&case.state);
+        while at < state[which] as usize {
+            let mut fewer = words::decode(&state);
             match which {
                 0 => drop(fewer.addresses.remove(at)),
                 1 => drop(fewer.routes.remove(at)),
                 _ => drop(fewer.tables.remove(at)),
             }
-            let mut candidate = case.clone();
-            candidate.state = words::encode(&fewer);
-            match compare(port, &candidate) {
-                Ok(_) => at += 1,
-                Err(difference) => (case, found) = (candidate, difference),
+            candidate.copy_from_slice(&state);
+            words::encode_into(&fewer, &mut candidate);
+            if part(&candidate) {
+                state.copy_from_slice(&candidate);
+            } else {
+                at += 1;
             }
         }
     }
-    (case, found)
+    state
 }

@@ -80,7 +80,8 @@ pub fn effect(port: &mut dyn Port, case: &Case) -> Effect {
     }
 }
 
-fn shortened(words: &[u32], cut: usize) -> Vec<u8> {
+/// The bytes of `words` without the last `cut`.
+pub fn shortened(words: &[u32], cut: usize) -> Vec<u8> {
     let mut all = bytes(words);
     all.truncate(all.len().saturating_sub(cut));
     all

@@ -1,6 +1,7 @@
 //! Sentences of document 01 that can be read off single calls, held
 //! against the Rust on generated cases: what a refusal leaves, that calls
-//! keep a state well-formed, lookups by item 5, lifetimes by item 2.
+//! keep a state well-formed, lookups by item 5, lifetimes by item 2. What a
+//! call leaves has the change count of document 02, Paper 6.
 use crate::call::{Buffer, Call, Reply};
 use crate::compare::Case;
 use crate::generate::cases::{Cases, USUAL};
@@ -105,6 +106,9 @@ fn refusal(case: &Case, reply: &Reply, state: &[u32]) -> Result<(), String> {
     let mut expected = case.state.clone();
     expected[2] = tables.len() as u32;
     expected[TABLES_AT..TABLES_AT + tables.len()].copy_from_slice(&tables);
+    // document 02, Paper 6: "refused or not"
+    let count = words::change_count(&case.state).saturating_add(1);
+    words::set_change_count(&mut expected, count);
     if state == expected {
         Ok(())
     } else {

@@ -6,8 +6,10 @@ use crate::event::{Given, Model, WordWriter as _};
 use crate::generate::cases::{Cases, Weights};
 use crate::generate::events::Events;
 use crate::generate::messages::{MessageCase, Messages};
+use crate::generate::parts::{Runs, Step};
 use crate::message::read;
 use crate::model::model;
+use crate::part::{self, Lister, PartCase, Take};
 use crate::port::exact;
 use crate::rng::Rng;
 use crate::script::written;
@@ -80,6 +82,55 @@ pub fn events(count: usize, seed: u64) {
     }
 }
 
+/// Prints `count` parts of listings with their answers, few of them of long
+/// lists.
+pub fn parts(count: usize, seed: u64) {
+    let mut runs = Runs::new(seed);
+    let (mut printed, mut long) = (0, 0);
+    while printed < count {
+        let Ok(Step::Part(case)) = runs.next_step() else {
+            continue;
+        };
+        let is_long = case.state.get(1).is_some_and(|&routes| routes > LONG);
+        if case.cut != Default::default() || (is_long && long * PER_LONG >= printed) {
+            continue;
+        }
+        long += usize::from(is_long);
+        printed += 1;
+        println!("{}", part_line(&case));
+    }
+}
+
+/// Routes of a long list, and of how many cases one may have so many.
+const LONG: u32 = 40;
+const PER_LONG: usize = 20;
+
+/// A part of a listing with its answer.
+pub fn part_line(case: &PartCase) -> String {
+    let (mut listing, mut cursor) = (case.listing.clone(), case.cursor.clone());
+    let reply = part::Model.part(case.ask, &case.state, &mut listing, &mut cursor);
+    let rows = listing.chunks(ROUTE_WORDS).take(reply.value as usize);
+    let part = match case.ask.take {
+        Take::Begin => "begin",
+        Take::Next => "next",
+    };
+    format!(
+        "{{\"part\":\"{part}\",\"rows\":{},\"buffer\":{},\"cursor\":{},\"state\":{},\
+         \"expect\":{{\"number\":{},\"present\":{},\"value\":{},\"second\":{},\"rows\":{},\
+         \"cursor\":{}}}}}",
+        case.ask.rows,
+        case.listing.len(),
+        array(&case.cursor),
+        state_text(&case.state),
+        reply.number,
+        reply.present,
+        reply.value,
+        reply.second,
+        list(rows.map(array)),
+        array(&cursor)
+    )
+}
+
 /// One case with its answer.
 pub fn line(case: &Case) -> String {
     let mut state = case.state.clone();
@@ -138,10 +189,11 @@ fn state_text(state: &[u32]) -> String {
     if state.len() == STATE_WORDS && well_formed::state(state) {
         let lists = words::decode(state);
         return format!(
-            "{{\"addresses\":{},\"routes\":{},\"tables\":{}}}",
+            "{{\"addresses\":{},\"routes\":{},\"tables\":{},\"count\":{}}}",
             list(lists.addresses.iter().map(|r| array(r))),
             list(lists.routes.iter().map(|r| array(r))),
-            array(&lists.tables)
+            array(&lists.tables),
+            words::change_count(state)
         );
     }
     let places = state.iter().enumerate().filter(|(_, w)| **w != 0);

@@ -22,6 +22,8 @@ pub mod messages;
 pub mod model;
 pub mod netmask;
 pub mod pairs;
+pub mod part;
+pub mod parts;
 pub mod port;
 pub mod rfc;
 pub mod rng;

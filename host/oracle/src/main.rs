@@ -3,7 +3,7 @@
 use oracle::vectors::{MODELS, Makers};
 use oracle::{
     checks, coverage, document, events, examples, facts, faults, json, linux, messages, netmask,
-    pairs, rfc, vectors,
+    pairs, parts, rfc, vectors,
 };
 use std::process::ExitCode;
 use std::time::Instant;
@@ -18,6 +18,8 @@ const USAGE: &str = "usage: oracle COMMAND
   document [N] [SEED]    sentences of document 01 on N generated cases
   generator [N] [SEED]   what N generated cases reach
   pairs [N] [SEED]       document 01's claim about two runs, on N pairs
+  parts [N] [SEED]       listings taken in parts, on N steps of runs, and with
+                         planted faults
   messages [N] [SEED]    the reader of messages: by hand, on N generated ones,
                          and with planted faults
   events [N] [SEED]      the writer of events: by hand, on N generated ones,
@@ -29,6 +31,7 @@ const USAGE: &str = "usage: oracle COMMAND
                          of each call must be in it
   cases N SEED [--large PERCENT]
                          prints N random cases as JSON lines
+  part-cases N SEED      prints N parts of listings as JSON lines
   message-cases N SEED   prints N random messages as JSON lines
   event-cases N SEED     prints N random events as JSON lines
   message-list N SEED FOLDER
@@ -36,9 +39,11 @@ const USAGE: &str = "usage: oracle COMMAND
                          printed of them
   event-list N SEED FOLDER
                          the same of N events
+  part-list N SEED FOLDER
+                         the same of N parts of listings
   all                    all of examples, linux, rfc, facts, netmasks,
-                         document, generator, pairs, messages, events, selftest,
-                         and a list of answers replayed";
+                         document, generator, pairs, parts, messages, events,
+                         selftest, and a list of answers replayed";
 
 const CASES: usize = 30_000;
 const PAIRS: usize = 2_000;
@@ -93,6 +98,11 @@ fn command(arguments: &[String]) -> Result<bool, String> {
             most(2)?;
             Ok(pairs::run(number(rest, 0, PAIRS)?, number(rest, 1, SEED)?))
         }
+        "parts" => {
+            most(2)?;
+            let (count, seed) = (number(rest, 0, parts::STEPS)?, number(rest, 1, SEED)?);
+            Ok(parts::run(count, seed))
+        }
         "messages" => {
             most(2)?;
             let (count, seed) = (number(rest, 0, CASES)?, number(rest, 1, SEED)?);
@@ -119,29 +129,27 @@ fn command(arguments: &[String]) -> Result<bool, String> {
             replayed(&oracle::port::words(&data))
         }
         "cases" => cases(rest),
-        "message-cases" | "event-cases" => match rest {
+        "message-cases" | "event-cases" | "part-cases" => match rest {
             [_, _] => {
                 let (count, seed) = (number(rest, 0, 0)?, number(rest, 1, SEED)?);
-                if name == "event-cases" {
-                    json::events(count, seed);
-                } else {
-                    json::messages(count, seed);
+                match name.as_str() {
+                    "message-cases" => json::messages(count, seed),
+                    "event-cases" => json::events(count, seed),
+                    _ => json::parts(count, seed),
                 }
                 Ok(true)
             }
             _ => Err(USAGE.to_string()),
         },
-        "message-list" => match rest {
+        "message-list" | "event-list" | "part-list" => match rest {
             [_, _, folder] => {
                 let (count, seed) = (number(rest, 0, 0)?, number(rest, 1, SEED)?);
-                messages::list::write(count, seed, folder).map(|()| true)
-            }
-            _ => Err(USAGE.to_string()),
-        },
-        "event-list" => match rest {
-            [_, _, folder] => {
-                let (count, seed) = (number(rest, 0, 0)?, number(rest, 1, SEED)?);
-                events::list::write(count, seed, folder).map(|()| true)
+                let write = match name.as_str() {
+                    "message-list" => messages::list::write,
+                    "event-list" => events::list::write,
+                    _ => parts::list::write,
+                };
+                write(count, seed, folder).map(|()| true)
             }
             _ => Err(USAGE.to_string()),
         },
@@ -196,7 +204,7 @@ type Part = dyn Fn() -> Result<bool, String>;
 /// Everything, and one line of counts for each part.
 fn all() -> Result<bool, String> {
     let begin = Instant::now();
-    let parts: [(&str, &Part); 12] = [
+    let parts: [(&str, &Part); 13] = [
         ("examples", &|| Ok(checks::run("examples", examples::check))),
         ("linux", &|| Ok(checks::run("linux", linux::check))),
         ("rfc", &|| Ok(checks::run("rfc", rfc::check))),
@@ -205,6 +213,7 @@ fn all() -> Result<bool, String> {
         ("document", &|| Ok(document::run(CASES, SEED))),
         ("generator", &|| Ok(coverage::run(CASES, SEED))),
         ("pairs", &|| Ok(pairs::run(PAIRS, SEED))),
+        ("parts", &|| Ok(parts::run(parts::STEPS, SEED))),
         ("messages", &|| Ok(messages::run(CASES, SEED))),
         ("events", &|| Ok(events::run(CASES, SEED))),
         ("selftest", &|| Ok(faults::selftest(SEED))),

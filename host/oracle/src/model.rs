@@ -1,8 +1,10 @@
 //! The model: what each call does to lent words. 200, 201, 202, lifetimes
 //! that Linux turns down (22) and 203 in that order, then the Rust on the
-//! decoded lists, then back to words.
+//! decoded lists, then back to words, and the change count.
 use crate::call::{Call, Reply};
-use crate::words::{LIMITS, STATE_WORDS, decode, encode_into};
+use crate::words::{
+    BASE_WORDS, LIMITS, STATE_WORDS, change_count, decode, encode_into, set_change_count,
+};
 use crate::{fit, well_formed};
 use reference::{Answer, Lists, Outcome};
 
@@ -39,7 +41,7 @@ pub fn outcome(call: &Call, state: &[u32], buffer: usize) -> Result<Outcome, u32
 /// Writes the answer into the words, and gives the reply.
 pub fn settle(call: &Call, outcome: &Outcome, state: &mut [u32], buffer: &mut [u32]) -> Reply {
     if !matches!(call, Call::Left { .. }) {
-        encode_into(&outcome.lists, state);
+        leave(&outcome.lists, state);
     }
     match &outcome.answer {
         Answer::Refused(number) => Reply::refused(*number),
@@ -67,6 +69,17 @@ pub fn settle(call: &Call, outcome: &Outcome, state: &mut [u32], buffer: &mut [u
             second: *valid,
             ..Reply::default()
         },
+    }
+}
+
+/// What a call leaves: the words of `lists`, and a count that "goes up by
+/// one for each call, refused or not, that changes an address, a row or a
+/// table, and stops at its largest value" (document 02, Paper 6).
+pub fn leave(lists: &Lists, state: &mut [u32]) {
+    let before = state[..BASE_WORDS].to_vec();
+    encode_into(lists, state);
+    if state[..BASE_WORDS] != before {
+        set_change_count(state, change_count(state).saturating_add(1));
     }
 }
 

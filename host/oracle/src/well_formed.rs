@@ -1,10 +1,12 @@
 //! Document 01's paragraph "A state is well-formed when ..", clause by
 //! clause.
-use crate::words::{ADDRESSES_AT, LIMITS, ROUTES_AT, STATE_WORDS, TABLES_AT, address_at, route_at};
+use crate::words::{
+    ADDRESSES_AT, BASE_WORDS, LIMITS, ROUTES_AT, STATE_WORDS, TABLES_AT, address_at, route_at,
+};
 use reference::{AddressRow, RouteRow};
 use std::cmp::Reverse;
 
-/// Whether `state` (9,507 words) is well-formed.
+/// Whether `state` (9,509 words) is well-formed. Any change count is.
 pub fn state(state: &[u32]) -> bool {
     assert_eq!(state.len(), STATE_WORDS, "lengths are checked first");
     let counts = [0, 1, 2].map(|i| state[i] as usize);
@@ -18,7 +20,7 @@ pub fn state(state: &[u32]) -> bool {
     let [addresses, routes, tables] = counts;
     let unused_zero = zero(&state[ADDRESSES_AT + addresses * 20..ROUTES_AT])
         && zero(&state[ROUTES_AT + routes * 32..TABLES_AT])
-        && zero(&state[TABLES_AT + tables..]);
+        && zero(&state[TABLES_AT + tables..BASE_WORDS]);
     unused_zero
         && (0..addresses).all(|i| address(&address_at(state, i)))
         && routes_fit(&(0..routes).map(|i| route_at(state, i)).collect::<Vec<_>>())

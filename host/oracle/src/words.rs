@@ -1,4 +1,5 @@
-//! The state as document 01 lays it out: 9,507 words of 32 bits.
+//! The state: 9,507 words of 32 bits as document 01 lays them out, and
+//! behind them the two of the change count (document 02, Paper 6).
 use reference::{AddressRow, Lists, RouteRow};
 
 pub const ADDRESS_LIMIT: usize = 64;
@@ -14,7 +15,11 @@ pub const EVENT_WORDS: usize = 34;
 pub const ADDRESSES_AT: usize = 3;
 pub const ROUTES_AT: usize = ADDRESSES_AT + ADDRESS_LIMIT * ADDRESS_WORDS;
 pub const TABLES_AT: usize = ROUTES_AT + ROUTE_LIMIT * ROUTE_WORDS;
-pub const STATE_WORDS: usize = TABLES_AT + TABLE_LIMIT;
+/// The words of the three lists, and behind them the change count's low and
+/// high word.
+pub const BASE_WORDS: usize = TABLES_AT + TABLE_LIMIT;
+pub const COUNT_WORDS: usize = 2;
+pub const STATE_WORDS: usize = BASE_WORDS + COUNT_WORDS;
 
 /// The fewest words of an event buffer (384 rows) and of a listing buffer.
 pub const EVENT_BUFFER: usize = 384 * EVENT_WORDS;
@@ -25,16 +30,17 @@ pub fn empty() -> Vec<u32> {
     vec![0; STATE_WORDS]
 }
 
-/// The words of `lists`, which keep to the limits.
+/// The words of `lists`, which keep to the limits, with a change count of 0.
 pub fn encode(lists: &Lists) -> Vec<u32> {
     let mut state = empty();
     encode_into(lists, &mut state);
     state
 }
 
-/// Writes the words of `lists` over all of `state`.
+/// Writes the words of `lists` over those of the lists in `state`. The change
+/// count stays.
 pub fn encode_into(lists: &Lists, state: &mut [u32]) {
-    state.fill(0);
+    state[..BASE_WORDS].fill(0);
     state[0] = lists.addresses.len() as u32;
     state[1] = lists.routes.len() as u32;
     state[2] = lists.tables.len() as u32;
@@ -76,6 +82,24 @@ pub fn address_at(state: &[u32], i: usize) -> AddressRow {
 
 pub fn route_at(state: &[u32], i: usize) -> RouteRow {
     row_at(state, ROUTES_AT + i * ROUTE_WORDS)
+}
+
+/// How many calls have changed an address, a row or a table.
+pub fn change_count(state: &[u32]) -> u64 {
+    whole(state[BASE_WORDS], state[BASE_WORDS + 1])
+}
+
+pub fn set_change_count(state: &mut [u32], count: u64) {
+    state[BASE_WORDS..][..COUNT_WORDS].copy_from_slice(&halves(count));
+}
+
+/// A number's low and high word.
+pub fn halves(number: u64) -> [u32; COUNT_WORDS] {
+    [number as u32, (number >> 32) as u32]
+}
+
+pub fn whole(low: u32, high: u32) -> u64 {
+    u64::from(low) | u64::from(high) << 32
 }
 
 fn row_at<const N: usize>(state: &[u32], at: usize) -> [u32; N] {

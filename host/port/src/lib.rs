@@ -6,5 +6,6 @@ pub mod guarded;
 pub mod library;
 pub mod masks;
 pub mod messages;
+pub mod parts;
 pub mod records;
 pub mod typed;

@@ -6,7 +6,7 @@ use oracle::port::Bytes;
 use port::library::{OnBytes, OnWords};
 use port::messages::{self, Boundary, Summary};
 use port::typed::Typed;
-use port::{events, masks};
+use port::{events, masks, parts};
 use std::process::ExitCode;
 use std::time::{Duration, Instant, SystemTime};
 
@@ -16,23 +16,25 @@ const USAGE: &str = "usage: port [OPTION VALUE]..
   --cases N          N generated cases, and
   --pairs N          N pairs of runs, and
   --messages N       N messages, read and performed, N requests for an
-                     address with a netmask, and N events, written
+                     address with a netmask, N events, written, and N steps
+                     of runs in which listings are taken in parts
   --seed N           where they come from; a fresh seed if it isn't given
   --calls A,B,..     only these calls (then no pairs); read: messages; mask:
                      requests with a netmask, and all 2^32 netmasks
                      (with counts only those beside a good one); write:
-                     events
+                     events; part: listings taken in parts
   --boundary WHICH   bytes, words or addresses; all if it isn't given";
 
 /// What comes between two looks at the clock.
 const BATCH: usize = 500;
 const PAIRS_PER_BATCH: usize = 3;
 /// What is asked for beside the calls: that messages are read, requests with
-/// a netmask, that events are written.
-const OTHERS: [&str; 3] = [READ, MASK, WRITE];
+/// a netmask, that events are written, listings taken in parts.
+const OTHERS: [&str; 4] = [READ, MASK, WRITE, PART];
 const READ: &str = "read";
 const MASK: &str = "mask";
 const WRITE: &str = "write";
+const PART: &str = "part";
 
 struct Options {
     seconds: u64,
@@ -42,6 +44,7 @@ struct Options {
     read: bool,
     mask: bool,
     write: bool,
+    part: bool,
     /// One of [`BOUNDARIES`], or all.
     boundary: Option<String>,
 }
@@ -68,6 +71,7 @@ fn options(arguments: &[String]) -> Result<Options, String> {
         read: true,
         mask: true,
         write: true,
+        part: true,
         boundary: None,
     };
     if !arguments.len().is_multiple_of(2) {
@@ -85,7 +89,7 @@ fn options(arguments: &[String]) -> Result<Options, String> {
             "--calls" => {
                 options.calls = kinds(value)?;
                 let asked = OTHERS.map(|other| value.split(',').any(|name| name == other));
-                [options.read, options.mask, options.write] = asked;
+                [options.read, options.mask, options.write, options.part] = asked;
             }
             "--boundary" if BOUNDARIES.contains(&value.as_str()) => {
                 options.boundary = Some(value.clone());
@@ -131,6 +135,7 @@ fn run(options: &Options) -> Result<(), String> {
         messages: messages::Comparison::new(options.seed),
         masks: masks::Comparison::new(options.seed),
         events: events::Comparison::new(options.seed),
+        parts: parts::Comparison::new(options.seed),
     };
     let begin = Instant::now();
     let found = compare(&mut campaign, &mut others, options);
@@ -139,6 +144,7 @@ fn run(options: &Options) -> Result<(), String> {
         messages,
         masks,
         events,
+        parts,
     } = others;
     if options.read {
         let Summary {
@@ -160,6 +166,13 @@ fn run(options: &Options) -> Result<(), String> {
             events.numbers, events.calls
         );
     }
+    if options.part {
+        println!(
+            "parts of listings {:?}, {} with the mark, and {} calls between them; {} calls of the \
+             library",
+            parts.numbers, parts.marked, parts.between, parts.calls
+        );
+    }
     found.inspect(|()| println!("port: nothing found"))
 }
 
@@ -170,6 +183,11 @@ fn boundaries(options: &Options) -> Vec<Box<dyn Boundary>> {
         Box::new(Bytes(OnWords::default())),
         Box::new(Bytes(Typed::default())),
     ];
+    asked(options, all)
+}
+
+/// Of what there is for each boundary, that of those asked for.
+fn asked<T>(options: &Options, all: [T; 3]) -> Vec<T> {
     let named = BOUNDARIES.iter().zip(all);
     let asked =
         named.filter(|(name, _)| options.boundary.as_ref().is_none_or(|asked| asked == *name));
@@ -184,9 +202,8 @@ fn compared(options: &Options) -> String {
     }
     let asked = NAMES.iter().zip(options.calls).filter(|(_, asked)| *asked);
     let mut names: Vec<&str> = asked.map(|(name, _)| *name).collect();
-    let others = OTHERS
-        .into_iter()
-        .zip([options.read, options.mask, options.write]);
+    let of_others = [options.read, options.mask, options.write, options.part];
+    let others = OTHERS.into_iter().zip(of_others);
     names.extend(others.filter(|(_, asked)| *asked).map(|(name, _)| name));
     format!("only {}, on {on}, and no pairs of runs", names.join(", "))
 }
@@ -196,6 +213,7 @@ struct Others {
     messages: messages::Comparison,
     masks: masks::Comparison,
     events: events::Comparison,
+    parts: parts::Comparison,
 }
 
 fn compare(campaign: &mut Campaign, others: &mut Others, options: &Options) -> Result<(), String> {
@@ -203,9 +221,11 @@ fn compare(campaign: &mut Campaign, others: &mut Others, options: &Options) -> R
         messages,
         masks,
         events,
+        parts,
     } = others;
     campaign.by_hand()?;
     let mut lent = boundaries(options);
+    let mut listers = asked(options, parts::listers());
     if options.read {
         messages.swept(&mut lent)?;
     }
@@ -221,7 +241,8 @@ fn compare(campaign: &mut Campaign, others: &mut Others, options: &Options) -> R
         campaign.pairs(pairs)?;
         messages.generated(&mut lent, count(options.read))?;
         masks.generated(count(options.mask))?;
-        events.generated(&mut lent, count(options.write))
+        events.generated(&mut lent, count(options.write))?;
+        parts.generated(&mut lent, &mut listers, count(options.part))
     };
     match options.counts {
         Some(counts) => part(counts)?,
@@ -239,6 +260,9 @@ fn compare(campaign: &mut Campaign, others: &mut Others, options: &Options) -> R
     }
     if options.write && options.counts.is_none() {
         events.reached()?;
+    }
+    if options.part && options.counts.is_none() {
+        parts.reached()?;
     }
     Ok(())
 }

@@ -1,7 +1,7 @@
 //! Faults in what changing calls leave in the state and tell.
 use super::Fault;
 use crate::call::{Buffer, Call, Reply};
-use crate::model::{model, outcome};
+use crate::model::{leave, model, outcome};
 use crate::script::{FOREVER, written};
 use crate::words::{
     ADDRESS_WORDS, ADDRESSES_AT, EVENT_WORDS, LIMITS, ROUTES_AT, TABLES_AT, decode, encode,
@@ -164,7 +164,7 @@ fn deletion(
     if reply.number == 0 {
         let mut lists = decode(&words);
         after(&was, &mut lists);
-        encode_into(&lists, state);
+        leave(&lists, state);
     }
     reply
 }

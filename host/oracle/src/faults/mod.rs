@@ -1,10 +1,12 @@
 //! Planted faults: ports that go wrong in one way each. The comparison
 //! must find every one of them.
 mod answers;
+pub mod counts;
 mod effects;
 pub mod events;
 pub mod masks;
 pub mod messages;
+pub mod parts;
 mod refusals;
 
 use crate::call::{Call, Reply};
@@ -65,7 +67,13 @@ pub fn on_words() -> impl Iterator<Item = Fault> {
 }
 
 fn all() -> Vec<Fault> {
-    [answers::FAULTS, effects::FAULTS, refusals::FAULTS].concat()
+    [
+        answers::FAULTS,
+        effects::FAULTS,
+        refusals::FAULTS,
+        counts::FAULTS,
+    ]
+    .concat()
 }
 
 impl WordPort for Fault {

@@ -5,7 +5,7 @@ use crate::generate::states::arrange;
 use crate::model::{
     INVALID, NO_SPACE, UNFIT_BUFFER, UNFIT_REQUEST, UNFIT_STATE, model, outcome, passes, settle,
 };
-use crate::words::{EVENT_BUFFER, LIMITS, STATE_WORDS, decode, encode, encode_into};
+use crate::words::{BASE_WORDS, EVENT_BUFFER, LIMITS, STATE_WORDS, decode, encode, encode_into};
 use crate::{fit, well_formed};
 use reference::{Answer, Lists, Outcome};
 
@@ -187,7 +187,7 @@ fn unused_unchecked(call: &Call, state: &mut [u32], buffer: &mut [u32]) -> Reply
 /// Changes the lists, unless unused words hold something too.
 fn mend_lists(state: &mut [u32], mend: impl Fn(&mut Lists)) {
     let mut lists = decode(state);
-    if encode(&lists) == *state {
+    if encode(&lists)[..BASE_WORDS] == state[..BASE_WORDS] {
         mend(&mut lists);
         encode_into(&lists, state);
     }

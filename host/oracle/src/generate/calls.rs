@@ -3,6 +3,7 @@ use super::pools::{self, FOREVER, SECOND};
 use super::requests;
 use crate::call::Call;
 use crate::rng::Rng;
+use crate::words;
 use reference::{AddressRow, Lists, RouteRow};
 
 /// What a sequence remembers beside its state.
@@ -70,6 +71,44 @@ pub fn of_kind(rng: &mut Rng, code: u32, lists: &Lists, host: &mut Host) -> Call
             }
         }
         _ => left(rng, lists, host),
+    }
+}
+
+/// A call that mostly changes nothing: what is there already is asked for
+/// again, nothing is due, or there is nothing to take.
+pub fn idle(rng: &mut Rng, lists: &Lists, host: &mut Host) -> Call {
+    match rng.below(6) {
+        0 => {
+            host.up = true;
+            Call::Up { now: host.now }
+        }
+        1 => Call::Expire { now: 0 },
+        2 => Call::Down,
+        3 => match some_route(rng, lists) {
+            Some(row) => requests::again(rng, &row),
+            None => Call::Down,
+        },
+        _ => match some_address(rng, lists) {
+            Some(row) => again(&row, host),
+            None => Call::DelV4 {
+                request: vec![0; 11],
+            },
+        },
+    }
+}
+
+/// The address of a row asked for again with what it has, at the clock of
+/// its last change.
+fn again(row: &AddressRow, host: &Host) -> Call {
+    let mut request = row[..16].to_vec();
+    if row[6] & 0x80 != 0 {
+        // the seconds of one that never ends are kept
+        request[14] = FOREVER;
+    }
+    request.extend([1, u32::from(host.up)]);
+    Call::AddV4 {
+        request,
+        now: words::whole(row[18], row[19]),
     }
 }
 

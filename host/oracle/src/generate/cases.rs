@@ -1,13 +1,13 @@
 //! Whole cases: sequences from empty, states made directly, the limits,
 //! damage and wrong lengths, in turn.
 use super::calls::{self, Host};
+use super::runs::Run;
 use super::states::{self, Sizes};
-use super::{damage, limits};
+use super::{damage, limits, pools};
 use crate::call::{Buffer, Call};
-use crate::compare::{Case, filled};
-use crate::model::model;
+use crate::compare::Case;
 use crate::rng::Rng;
-use crate::words;
+use crate::words::{self, BASE_WORDS, STATE_WORDS};
 
 /// Where a case came from.
 #[derive(Clone, Copy, Debug, PartialEq, Eq)]
@@ -38,10 +38,10 @@ pub const USUAL: Weights = [50, 24, 4, 9, 5, 5, 3];
 /// An endless stream of cases.
 pub struct Cases {
     rng: Rng,
+    /// Change counts, and the calls that mostly change nothing.
+    aside: Rng,
     weights: Weights,
-    state: Vec<u32>,
-    host: Host,
-    left: usize,
+    run: Run,
     /// Clauses and request kinds come in turn, so that all come up.
     turn: usize,
 }
@@ -50,10 +50,9 @@ impl Cases {
     pub fn new(seed: u64, weights: Weights) -> Self {
         Self {
             rng: Rng::new(seed),
+            aside: Rng::new(seed ^ 0x10),
             weights,
-            state: words::empty(),
-            host: Host::default(),
-            left: 0,
+            run: Run::default(),
             turn: 0,
         }
     }
@@ -68,7 +67,7 @@ impl Cases {
             }
             left -= weight;
         }
-        let case = match origin {
+        let mut case = match origin {
             Origin::Sequence => self.step(),
             Origin::Direct => {
                 let sizes = Sizes::small(&mut self.rng);
@@ -86,27 +85,28 @@ impl Cases {
             Origin::UnfitRequest => self.unfit_request(),
             Origin::WrongLength => self.wrong_length(),
         };
+        if origin != Origin::Sequence && case.state.len() == STATE_WORDS {
+            words::set_change_count(&mut case.state, pools::change_count(&mut self.aside));
+        }
         (origin, case)
     }
 
     /// The next call of a sequence from empty.
     fn step(&mut self) -> Case {
-        if self.left == 0 {
-            self.left = 5 + self.rng.below(60);
-            self.state = words::empty();
-            self.host = Host::default();
+        if self.run.step(&mut self.rng) {
+            words::set_change_count(&mut self.run.state, pools::change_count(&mut self.aside));
         }
-        self.left -= 1;
-        let lists = words::decode(&self.state);
+        let lists = self.run.lists();
         let call = if lists.tables.is_empty() && self.rng.one_in(2) {
-            calls::of_kind(&mut self.rng, 1, &lists, &mut self.host)
+            self.run.draw(&mut self.rng, 1)
+        } else if self.aside.one_in(12) {
+            calls::idle(&mut self.aside, &lists, &mut self.run.host)
         } else {
-            calls::any(&mut self.rng, &lists, &mut self.host)
+            calls::any(&mut self.rng, &lists, &mut self.run.host)
         };
-        let case = Case::new(call, self.state.clone());
+        let case = Case::new(call, self.run.state.clone());
         let case = self.longer_at_times(case);
-        let mut buffer = filled(case.buffer.len());
-        model(&case.call, &mut self.state, &mut buffer);
+        self.run.make(&case.call);
         case
     }
 
@@ -174,7 +174,10 @@ impl Cases {
         }
         let buffer = case.buffer.len();
         match rng.below(6) {
-            0 => case.state.truncate(rng.pick(&[0, 1, 9506])),
+            0 => {
+                let lengths = [0, 1, BASE_WORDS, STATE_WORDS - 1];
+                case.state.truncate(rng.pick(&lengths));
+            }
             1 => case.state.push(rng.pick(&[0, 1])),
             2 if case.call.lent().is_some() => length_of_lent(rng, &mut case.call),
             3 if case.call.lent().is_some() => {

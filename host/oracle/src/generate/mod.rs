@@ -8,6 +8,7 @@ pub mod limits;
 pub mod masks;
 pub mod message_damage;
 pub mod messages;
+pub mod parts;
 pub mod pools;
 pub mod requests;
 pub mod runs;

@@ -94,6 +94,16 @@ pub fn subnet(rng: &mut Rng) -> [u32; 3] {
     [local, peer.unwrap_or(local), rng.pick(&PREFIXES)]
 }
 
+/// A change count: often one from which it soon carries or stops.
+pub fn change_count(rng: &mut Rng) -> u64 {
+    let small = rng.below(1000) as u64;
+    let any = rng.draw();
+    let carries = (any << 32).wrapping_sub(1 + small % 3);
+    let stops = u64::MAX - small % 3;
+    let low = u64::from(u32::MAX) - small % 3;
+    rng.pick(&[0, 0, small, low, low, carries, stops, stops, u64::MAX, any])
+}
+
 pub fn mask(len: u32) -> u32 {
     reference::mask(len as u8)
 }

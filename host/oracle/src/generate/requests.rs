@@ -110,6 +110,20 @@ fn routed(rng: &mut Rng, lists: &Lists) -> Call {
     Call::AddRoute4 { request }
 }
 
+/// The route of a row asked for again, with what it has.
+pub fn again(rng: &mut Rng, row: &RouteRow) -> Call {
+    let mut request = row[..12].to_vec();
+    request.extend([
+        row[12],
+        4 * row[13],
+        rng.pick(&[0x500, 0x500, 0x400, 0xc00]),
+    ]);
+    request.push(0);
+    request.extend(&row[15..]);
+    request.push(1);
+    Call::AddRoute4 { request }
+}
+
 pub fn add_route4(rng: &mut Rng, lists: &Lists, host: &Host) -> Call {
     if rng.one_in(6) {
         return routed(rng, lists);

@@ -1,6 +1,7 @@
 //! Short lists with one thing wrong in each, which a replayer must report.
 use super::{HEAD_WORDS, check};
 use crate::port::bytes;
+use crate::words::BASE_WORDS;
 
 /// How many of the list's first records a damaged list has: `up`, `up`
 /// again, `dump4`, a route added.
@@ -51,6 +52,7 @@ pub fn lists(data: &[u32]) -> Vec<(&'static str, Vec<u8>)> {
                 r[CHANGES_END] -= 2;
             }),
         ),
+        ("count", saying(UP, &|r| raise_word(r, BASE_WORDS))),
         ("event", saying(UP, &|r| raise(r, CHANGES_END, 2))),
         (
             "past",
@@ -75,6 +77,14 @@ pub fn lists(data: &[u32]) -> Vec<(&'static str, Vec<u8>)> {
 fn raise(record: &mut [u32], part: usize, i: usize) {
     let at = record[part] as usize + i;
     record[at] += 1;
+}
+
+/// One more in a state word that the call changes.
+fn raise_word(record: &mut [u32], place: usize) {
+    let [lent_end, changes_end] = [LENT_END, CHANGES_END].map(|i| record[i] as usize);
+    let (changes, _) = record[lent_end..changes_end].as_chunks_mut::<2>();
+    let change = changes.iter_mut().find(|change| change[0] == place as u32);
+    change.expect("the call changes that word")[1] += 1;
 }
 
 /// The head of a list of `count` records.

@@ -22,7 +22,7 @@ use crate::netmask;
 use crate::port::bytes;
 use crate::rng::Rng;
 use crate::script::written;
-use crate::words::{self, STATE_WORDS};
+use crate::words::{self, BASE_WORDS, STATE_WORDS};
 use replay::answers;
 use std::collections::BTreeMap;
 use std::fs;
@@ -185,7 +185,8 @@ impl Writer {
             tables: 3,
         };
         let lists = states::direct(rng, sizes);
-        let state = states::encoded(&lists);
+        let mut state = states::encoded(&lists);
+        words::set_change_count(&mut state, u64::MAX - 1);
         let mut host = Host::default();
         for clause in 0..damage::CLAUSES {
             let code = 1 + clause as u32 % 14;
@@ -204,7 +205,7 @@ impl Writer {
         }
         for code in 1..=15 {
             let call = calls::of_kind(rng, code, &lists, &mut host);
-            for length in [STATE_WORDS - 1, HELD_WORDS] {
+            for length in [BASE_WORDS, STATE_WORDS - 1, HELD_WORDS] {
                 let mut case = Case::new(call.clone(), state.clone());
                 case.state.resize(length, 0);
                 self.record(&case);

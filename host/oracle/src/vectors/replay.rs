@@ -5,6 +5,7 @@ use crate::compare::filled;
 use crate::faults::Run;
 use crate::model::model;
 use crate::netmask;
+use crate::words;
 use std::collections::BTreeMap;
 
 /// What makes the calls of a list: document 01's, and those with a netmask.
@@ -101,7 +102,7 @@ fn apply(words: &mut [u32], pairs: &[u32]) {
 
 fn call(code: u32, lent: &[u32], n: &[u32]) -> Result<Call, String> {
     let lent = lent.to_vec();
-    let now = || u64::from(n[0]) | u64::from(n[1]) << 32;
+    let now = || words::whole(n[0], n[1]);
     Ok(match code {
         1 => Call::Up { now: now() },
         2 => Call::Down,

@@ -1,4 +1,5 @@
 //! Listings taken in parts.
+use crate::addresses::impossible;
 use crate::layout::{self, COUNT_AT};
 use crate::rows::RouteIter;
 use crate::{Addresses, CURSOR_WORDS, F_DUMP_INTR, ROUTE_LIMIT, ROUTE_WORDS};
@@ -101,7 +102,7 @@ impl Parts {
             At::Cursor(cursor) => lo.dump4_next(cursor, self.rows),
             At::End => return None,
         }
-        .ok()?;
+        .unwrap_or_else(impossible);
         self.at = part.next.map_or(At::End, At::Cursor);
         Some(part)
     }

@@ -1,8 +1,8 @@
 //! Listings taken in parts, with calls between them.
 use core::net::Ipv4Addr;
 use naskrefim::{
-    Addresses, Ask4, CURSOR_WORDS, Cursor, F_CREATE, F_DUMP_INTR, F_REPLACE, FUZZ, Kind, Lifetimes,
-    Part, ROUTE_WORDS, Refused, Route4, SCOPE_UNIVERSE, STATE_WORDS, Select4, V4, bytes, words,
+    Addresses, Ask4, CURSOR_WORDS, Cursor, F_CREATE, F_DUMP_INTR, F_REPLACE, Kind, Lifetimes, Part,
+    Parts, ROUTE_WORDS, Refused, Route4, SCOPE_UNIVERSE, STATE_WORDS, Select4, V4, bytes, words,
 };
 
 /// Where a state's change count is.
@@ -83,7 +83,7 @@ fn what_changes_nothing_leaves_a_listing_whole() {
             };
             assert_eq!(lo.add_route4(&again, true), Ok(vec![]));
         }
-        3 => assert_eq!(lo.expire(8, FUZZ), Ok(vec![])),
+        3 => assert_eq!(lo.expire(8), Ok(vec![])),
         4 => assert_eq!(
             lo.add_v4(new.clone(), lifetimes, false, true, 8),
             Err(Refused::THERE_ALREADY)
@@ -125,8 +125,8 @@ fn every_change_interrupts() {
         &|lo| drop(lo.add_v4(new.clone(), lifetimes, true, true, 1)),
         &|lo| drop(lo.del_v4(Some(own), None, 0, None)),
         // only marks
-        &|lo| assert_eq!(lo.expire(10_000_000_000, FUZZ).unwrap().len(), 1),
-        &|lo| drop(lo.expire(20_000_000_000, FUZZ)),
+        &|lo| assert_eq!(lo.expire(10_000_000_000).unwrap().len(), 1),
+        &|lo| drop(lo.expire(20_000_000_000)),
         &|lo| drop(lo.add_route4(&ask(200), true)),
         &|lo| drop(lo.del_route4(&Select4::new(Ipv4Addr::new(11, 0, 3, 0), 24))),
         // refused, and lists its table
@@ -217,39 +217,57 @@ fn the_largest_count() {
     assert_eq!(lo.words()[COUNT], [0, 5]);
 }
 
-/// States that were kept before there was a change count, and before there
-/// were row counts.
+/// States that were kept before there was a change count.
 #[test]
-fn states_without_counts() {
+fn states_without_a_count() {
     let lo = with(2);
-    for (words, changes) in [
-        (9_507, 0),
-        (9_509, lo.changes()),
-        (STATE_WORDS, lo.changes()),
-    ] {
+    for (words, changes) in [(COUNT.start, 0), (STATE_WORDS, lo.changes())] {
         let kept = &lo.words()[..words];
         let taken = Addresses::from_older_words(kept).unwrap();
         assert_eq!((&taken, taken.changes()), (&lo, changes));
-        assert!(taken.tables().eq(lo.tables()));
-        if words < STATE_WORDS {
-            assert_eq!(Addresses::from_words(kept), Err(Refused::UNFIT_BUFFER));
-        }
         // what isn't well-formed there isn't here
-        for (at, word) in [(0, 65), (1, 257), (2, 33), (1, 0), (3, 9)] {
+        for (at, word) in [(0, 65), (1, 257), (2, 33), (1, 0)] {
             let mut unfit = kept.to_vec();
             unfit[at] = word;
             let refused = Addresses::from_older_words(&unfit);
-            let number = refused.map_or_else(Refused::number, |_| 0);
-            assert_eq!(
-                number,
-                if at == 3 { 0 } else { 201 },
-                "word {at}, {words} words"
-            );
+            assert_eq!(refused, Err(Refused::UNFIT_STATE), "word {at} of {words}");
         }
     }
-    for words in [0, 9_506, 9_508, 9_510, STATE_WORDS + 1] {
+    let kept = &lo.words()[..COUNT.start];
+    assert_eq!(Addresses::from_words(kept), Err(Refused::UNFIT_BUFFER));
+    let bytes = &lo.to_bytes()[..4 * COUNT.start];
+    assert_eq!(Addresses::from_bytes(bytes), Err(Refused::UNFIT_BUFFER));
+    let taken = Addresses::from_bytes(&[bytes, &[0; 8]].concat()).unwrap();
+    assert_eq!((&taken, taken.changes()), (&lo, 0));
+    for words in [0, 9_506, 9_508, STATE_WORDS + 1] {
         let refused = Addresses::from_older_words(&vec![0; words]);
         assert_eq!(refused, Err(Refused::UNFIT_BUFFER));
+    }
+}
+
+/// Part by part, and interrupted from the first change on.
+#[test]
+fn an_iterator_over_parts() {
+    let mut lo = with(8);
+    for change in [None, Some(1), Some(3)] {
+        let (whole, mut routes) = (lo.dump4(), Vec::new());
+        let mut marks = Vec::new();
+        let mut parts = Parts::of(3).unwrap();
+        while let Some(part) = parts.next(&lo) {
+            marks.push(part.interrupted);
+            routes.extend(part.routes);
+            if change == Some(marks.len()) {
+                lo.add_route4(&ask(200 + marks.len() as u8), true).unwrap();
+            }
+        }
+        assert!(parts.next(&lo).is_none());
+        let interrupted = change.map_or(marks.len(), |at| at);
+        assert!(marks[..interrupted].iter().all(|mark| !mark));
+        assert!(marks[interrupted..].iter().all(|mark| *mark));
+        assert_eq!(routes == whole, change.is_none());
+    }
+    for rows in [0, 257] {
+        assert_eq!(Parts::of(rows).unwrap_err(), Refused::UNFIT_REQUEST);
     }
 }
 
