@@ -284,17 +284,24 @@ fn overfull(call: &Call, state: &mut [u32], buffer: &mut [u32]) -> Reply {
     reply
 }
 
-/// The right row counts of a state in which nothing else is amiss, where it
-/// has others.
-fn miscounted(call: &Call, state: &[u32]) -> Option<Counts> {
+/// The state with right row counts, where it has others and nothing else is
+/// amiss.
+pub fn recounted(state: &[u32]) -> Option<Vec<u32>> {
     let within = || (0..3).all(|i| state[i] as usize <= LIMITS[i]);
-    if matches!(call, Call::Left { .. }) || state.len() != STATE_WORDS || !within() {
+    if state.len() != STATE_WORDS || !within() {
         return None;
     }
     let mut right = state.to_vec();
     words::recount(&mut right);
-    let wrong = right != *state && well_formed::state(&right);
-    wrong.then(|| row_counts(&decode(state)))
+    (right != *state && well_formed::state(&right)).then_some(right)
+}
+
+/// The right row counts of such a state that the call is lent.
+fn miscounted(call: &Call, state: &[u32]) -> Option<Counts> {
+    if matches!(call, Call::Left { .. }) {
+        return None;
+    }
+    recounted(state).map(|right| row_counts(&decode(&right)))
 }
 
 /// The model on right row counts, where `passes` lets others pass.
