@@ -110,15 +110,19 @@ fn wrong(checks: &mut Checks) {
         };
         s.lookup("127.0.0.1").reply.number
     };
-    for (name, place, count) in [
-        ("one too many", 1, 4),
-        ("one too few", 1, 2),
-        ("one where there is none", 0, 1),
-        ("one at a place not in use", 2, 1),
-        ("one at the last place", TABLE_LIMIT - 1, 1),
-    ] {
+    let wrong: [(&str, &[(usize, u32)]); 6] = [
+        ("P17 one too many", &[(1, 4)]),
+        ("P17 one too few", &[(1, 2)]),
+        ("P17 one where there is none", &[(0, 1)]),
+        ("P17 the right sum", &[(0, 3), (1, 0)]),
+        ("P17 one at a place not in use", &[(2, 1)]),
+        ("P17 one at the last place", &[(TABLE_LIMIT - 1, 1)]),
+    ];
+    for (name, counts) in wrong {
         let mut state = right.clone();
-        state[ROW_COUNTS_AT + place] = count;
+        for (place, count) in counts {
+            state[ROW_COUNTS_AT + place] = *count;
+        }
         checks.same(
             name,
             (number(&state), well_formed::state(&state)),
