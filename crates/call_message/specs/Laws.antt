@@ -26,7 +26,7 @@ use Rattle.netlink_refusal.specs.Order.{judged, lengths_of, body_of, number_for}
 use Rattle.call_read.specs.Answer.{answer_by}
 use Rattle.call_message.specs.declared.Asked.{Asked}
 use Rattle.call_message.specs.Message.{requested, replied, read_call}
-use Rattle.call_message.specs.Answer.{asked_by, Wrote}
+use Rattle.call_message.specs.Answer.{asked_by, Filled, Wrote}
 
 -- ---- the words of each request
 module _ (up : ℕ) (m : List ℕ) (l : List Attribute) where
@@ -125,10 +125,15 @@ known-type NewRoute = refl
 known-type DelRoute = refl
 
 -- a refusal that is handed on has written nothing
-pub wrote-refused : (t : ℕ) (r : Result Asked Refusal) (e : Refusal) (n : ℕ) (row w : List ℕ) → IsErr r × IsErrAnd r (λ x. x ≡ e) → Refusals.number_of e ≡ n → n ≢ 0
-    → Wrote t n row w r w
-wrote-refused t (Ok k) e n row w h f z = absurd h.1
-wrote-refused t (Err x) e n row w h f z = (ap Refusals.number_of h.1 ∙ f, (z, refl))
+pub filled-refused : (r : Result (Unit {0}) Refusal) (e : Refusal) (n : ℕ) (row w : List ℕ) → IsErr r × IsErrAnd r (λ x. x ≡ e) → Refusals.number_of e ≡ n → n ≢ 0
+    → Filled n row w r w
+filled-refused (Ok u) e n row w h f z = absurd h.1
+filled-refused (Err x) e n row w h f z = (ap Refusals.number_of h.1 ∙ f, (z, refl))
+
+pub wrote-refused : (t : ℕ) (r : Result Asked Refusal) (e : Refusal) (n k : ℕ) (row w w' : List ℕ) → IsErr r × IsErrAnd r (λ x. x ≡ e) → n ≡ k
+    → (Refusals.number_of e ≡ k) × ((k ≢ 0) × (w' ≡ w)) → Wrote t n row w r w'
+wrote-refused t (Ok a) e n k row w w' h f g = absurd h.1
+wrote-refused t (Err x) e n k row w w' h f g = (ap Refusals.number_of h.1 ∙ g.0 ∙ sym f, ((λ z. g.1.0 (sym f ∙ z)), g.1.1))
 
 -- ---- the answers
 module _ (room up : ℕ) (m w : List ℕ) where

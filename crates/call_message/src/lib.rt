@@ -12,7 +12,7 @@ ghost use Rattle.netlink.specs.Types.{number_of};
 ghost use Rattle.call_read.specs.Answer.{answer_by};
 ghost use Rattle.call_message.specs.Message.{read_call};
 ghost use Rattle.netlink_refusal.specs.Order.{body_of, number_for};
-ghost use Rattle.call_message.specs.Answer.{asked_by, request_of, Wrote};
+ghost use Rattle.call_message.specs.Answer.{asked_by, request_of, address_number, route_number, Filled, Wrote};
 
 use layout::{ADD_ROUTE4_WORDS, ADD_V4_WORDS, DEL_ROUTE4_WORDS, DEL_V4_WORDS};
 use netlink::MessageType;
@@ -29,15 +29,63 @@ pub struct Asked {
     pub words: u32,
 }
 
-// ---- each request at the front of the lent words
+// ---- the words of each request at the front of the lent words. By functions of their own, so that the memory of what is read ends before
+// the answer is made: what is built then makes the numbers of a reply at each request's own end
+#[inline(always)]
+fn write_new_addr(message: Message, up: u32, words: &mut [u32]) -> Result<(), Refusal>
+    requires { (24 ≤ length message.bytes.now) × (18 ≤ length words.old) }
+    ensures { Filled (address_number rtm_new_addr message.entry.bytes.now message.entry.body.now)
+        (new_addr up message.entry.bytes.now (attributes message.entry.body.now)) words.old result words.new }
+{
+    let mut fields = NewAddr::begun(message.bytes);
+    fields.read(message)?;
+    fields.write(message.bytes, up, words);
+    Ok(())
+}
+
+#[inline(always)]
+fn write_del_addr(message: Message, words: &mut [u32]) -> Result<(), Refusal>
+    requires { (24 ≤ length message.bytes.now) × (11 ≤ length words.old) }
+    ensures { Filled (address_number rtm_del_addr message.entry.bytes.now message.entry.body.now)
+        (del_addr message.entry.bytes.now (attributes message.entry.body.now)) words.old result words.new }
+{
+    let fields = DelAddr::read(message)?;
+    fields.write(message.bytes, words);
+    Ok(())
+}
+
+#[inline(always)]
+fn write_new_route(message: Message, up: u32, words: &mut [u32]) -> Result<(), Refusal>
+    requires { (28 ≤ length message.bytes.now) × (34 ≤ length words.old) }
+    ensures { Filled (route_number message.entry.bytes.now message.entry.body.now)
+        (new_route up message.entry.bytes.now (attributes message.entry.body.now)) words.old result words.new }
+{
+    let mut metrics = Metrics::new();
+    let route = Route::read(message, &mut metrics)?;
+    route.write_new(&metrics, message.bytes, up, words);
+    Ok(())
+}
+
+#[inline(always)]
+fn write_del_route(message: Message, words: &mut [u32]) -> Result<(), Refusal>
+    requires { (28 ≤ length message.bytes.now) × (49 ≤ length words.old) }
+    ensures { Filled (route_number message.entry.bytes.now message.entry.body.now)
+        (del_route message.entry.bytes.now (attributes message.entry.body.now)) words.old result words.new }
+{
+    let mut metrics = Metrics::new();
+    let route = Route::read(message, &mut metrics)?;
+    route.write_deleted(&metrics, message.bytes, words);
+    Ok(())
+}
+
+// ---- each request, of a message that its header ends
 #[inline(always)]
 fn new_addr(m: &[u8], end: usize, up: u32, words: &mut [u32]) -> Result<Asked, Refusal>
     requires { (end ≤ length m.now) × (18 ≤ length words.old) }
     ensures { Wrote rtm_new_addr (number_for rtm_new_addr m.now end) (new_addr up m.now (attributes (body_of rtm_new_addr m.now end))) words.old result words.new }
 {
     let message = Message::of(MessageType::NewAddr, m, end)?;
-    let fields = NewAddr::read(message)?;
-    words::store(words, 0, &fields.words(message.bytes, up));
+    write_new_addr(message, up, words)?;
     Ok(Asked {
         kind: message.kind,
         words: ADD_V4_WORDS as u32,
@@ -50,8 +98,7 @@ fn del_addr(m: &[u8], end: usize, words: &mut [u32]) -> Result<Asked, Refusal>
     ensures { Wrote rtm_del_addr (number_for rtm_del_addr m.now end) (del_addr m.now (attributes (body_of rtm_del_addr m.now end))) words.old result words.new }
 {
     let message = Message::of(MessageType::DelAddr, m, end)?;
-    let fields = DelAddr::read(message)?;
-    words::store(words, 0, &fields.words(message.bytes));
+    write_del_addr(message, words)?;
     Ok(Asked {
         kind: message.kind,
         words: DEL_V4_WORDS as u32,
@@ -64,9 +111,7 @@ fn new_route(m: &[u8], end: usize, up: u32, words: &mut [u32]) -> Result<Asked, 
     ensures { Wrote rtm_new_route (number_for rtm_new_route m.now end) (new_route up m.now (attributes (body_of rtm_new_route m.now end))) words.old result words.new }
 {
     let message = Message::of(MessageType::NewRoute, m, end)?;
-    let mut metrics = Metrics::new();
-    let route = Route::read(message, &mut metrics)?;
-    route.write_new(&metrics, message.bytes, up, words);
+    write_new_route(message, up, words)?;
     Ok(Asked {
         kind: message.kind,
         words: ADD_ROUTE4_WORDS as u32,
@@ -79,9 +124,7 @@ fn del_route(m: &[u8], end: usize, words: &mut [u32]) -> Result<Asked, Refusal>
     ensures { Wrote rtm_del_route (number_for rtm_del_route m.now end) (del_route m.now (attributes (body_of rtm_del_route m.now end))) words.old result words.new }
 {
     let message = Message::of(MessageType::DelRoute, m, end)?;
-    let mut metrics = Metrics::new();
-    let route = Route::read(message, &mut metrics)?;
-    route.write_deleted(&metrics, message.bytes, words);
+    write_del_route(message, words)?;
     Ok(Asked {
         kind: message.kind,
         words: DEL_ROUTE4_WORDS as u32,

@@ -34,12 +34,12 @@ pub extern "C" fn interface4_read(message: &[u8], request: &mut [u8], up: u32) -
     }
     let mut q = [0u32; DEL_ROUTE4_WORDS];
     let answer = interface4w_read(message, &mut q, up);
-    given::give_rows(&q, 1, answer.second, request);
+    given::give_request(&q, answer.second, request);
     answer
 }
 
 // The last paper of document 02 that landed.
-const PAPER: u32 = 7;
+const PAPER: u32 = 8;
 
 #[unsafe(no_mangle)]
 pub extern "C" fn interface4_sizes() -> Reply

@@ -9,13 +9,13 @@ use Rattle.lists.specs.All.{all_mono}
 use Rattle.lists.specs.Bools.{and_iff, and_left, test-case}
 use Rattle.netlink.specs.Codes.{rtm_new_addr, rtm_del_addr, ifa_address, ifa_local, ifa_label, ifa_broadcast, ifa_cacheinfo, ifa_flags, ifa_rt_priority, ifa_proto}
 use Rattle.netlink.specs.Attributes.{Attribute, last}
-use Rattle.netlink.specs.Reader.{address, number, byte, preferred_in, valid_in, label_words, label_or, lo, sized_in, sizes, given, or_else, flag, forever, message_flags, new_addr, del_addr}
+use Rattle.netlink.specs.Reader.{address, number, byte, preferred_in, valid_in, label_words, label_or, lo, sized_in, sizes, given, or_else, optional, flag, forever, message_flags, new_addr, del_addr}
 use Rattle.layout.specs.Flags.{has_bit}
 use Rattle.netlink.specs.Codes.{replace_bit, excl_bit}
 use Rattle.netlink_attributes.specs.Kept.{fits, long, placed, chosen, kept, part, flagged}
 use Rattle.netlink_address.specs.declared.new_addr.NewAddr.{NewAddr}
 use Rattle.netlink_address.specs.declared.del_addr.DelAddr.{DelAddr}
-use Rattle.netlink_address.specs.Steps.{short_label, some_address, words_in, new_addr_step, del_addr_step}
+use Rattle.netlink_address.specs.Steps.{short_label, some_address, marked_address, words_in, new_addr_step, del_addr_step}
 use Rattle.netlink_address.specs.Words.{new_addr_begun, del_addr_begun, new_addr_words, del_addr_words}
 
 and_true : (b : Bool) → b && true ≡ b
@@ -29,6 +29,9 @@ module _ (o : Math.Option (List ℕ)) where
 
   address-given : is_some (chosen some_address None o) ≡ given o
   address-given = elim o as (λ o. is_some (chosen some_address None o) ≡ given o) [ Math.none ↦ refl | Math.some p ↦ refl ]
+
+  pair-or : chosen marked_address (0 ∷ 0 ∷ []) o ≡ optional address o
+  pair-or = elim o as (λ o. chosen marked_address (0 ∷ 0 ∷ []) o ≡ optional address o) [ Math.none ↦ refl | Math.some p ↦ refl ]
 
   number-or : (f : List ℕ → ℕ) (d : ℕ) → chosen f d o ≡ or_else f d o
   number-or f d = elim o as (λ o. chosen f d o ≡ or_else f d o) [ Math.none ↦ refl | Math.some p ↦ refl ]
@@ -59,8 +62,8 @@ module _ (m : List ℕ) (l : List Attribute) where
   abbrev taken : NewAddr
   taken = fold new_addr_step (new_addr_begun m) l
 
-  is-sized : taken.is_sized ≡ all (sized_in rtm_new_addr) l
-  is-sized = part new_addr_step (λ s. s.is_sized) (λ b a. b && sized_in rtm_new_addr a) (λ s a. refl) (new_addr_begun m) l ∙ flagged (sized_in rtm_new_addr) true l
+  is-sized : taken.extras.is_sized ≡ all (sized_in rtm_new_addr) l
+  is-sized = part new_addr_step (λ s. s.extras.is_sized) (λ b a. b && sized_in rtm_new_addr a) (λ s a. refl) (new_addr_begun m) l ∙ flagged (sized_in rtm_new_addr) true l
 
   module _ (h : all (sized_in rtm_new_addr) l ≡ true) where
     local-is : taken.local ≡ chosen some_address None (last ifa_local l)
@@ -71,36 +74,36 @@ module _ (m : List ℕ) (l : List Attribute) where
     address-is = part new_addr_step (λ s. s.address) (placed ifa_address (long 4) some_address) (λ s a. refl) (new_addr_begun m) l
         ∙ kept ifa_address some_address (long 4) None l (all_mono (sized_in rtm_new_addr) (fits ifa_address (long 4)) l (λ a e. (fit a e).address) h)
 
-    broadcast-is : taken.broadcast ≡ chosen some_address None (last ifa_broadcast l)
-    broadcast-is = part new_addr_step (λ s. s.broadcast) (placed ifa_broadcast (long 4) some_address) (λ s a. refl) (new_addr_begun m) l
-        ∙ kept ifa_broadcast some_address (long 4) None l (all_mono (sized_in rtm_new_addr) (fits ifa_broadcast (long 4)) l (λ a e. (fit a e).broadcast) h)
+    broadcast-is : taken.extras.broadcast ≡ chosen marked_address (0 ∷ 0 ∷ []) (last ifa_broadcast l)
+    broadcast-is = part new_addr_step (λ s. s.extras.broadcast) (placed ifa_broadcast (long 4) marked_address) (λ s a. refl) (new_addr_begun m) l
+        ∙ kept ifa_broadcast marked_address (long 4) (0 ∷ 0 ∷ []) l (all_mono (sized_in rtm_new_addr) (fits ifa_broadcast (long 4)) l (λ a e. (fit a e).broadcast) h)
 
-    flags-is : taken.flags ≡ chosen number (get_or m 18 0) (last ifa_flags l)
-    flags-is = part new_addr_step (λ s. s.flags) (placed ifa_flags (long 4) number) (λ s a. refl) (new_addr_begun m) l
+    flags-is : taken.extras.flags ≡ chosen number (get_or m 18 0) (last ifa_flags l)
+    flags-is = part new_addr_step (λ s. s.extras.flags) (placed ifa_flags (long 4) number) (λ s a. refl) (new_addr_begun m) l
         ∙ kept ifa_flags number (long 4) (get_or m 18 0) l (all_mono (sized_in rtm_new_addr) (fits ifa_flags (long 4)) l (λ a e. (fit a e).flags) h)
 
-    proto-is : taken.proto ≡ chosen byte 0 (last ifa_proto l)
-    proto-is = part new_addr_step (λ s. s.proto) (placed ifa_proto (long 1) byte) (λ s a. refl) (new_addr_begun m) l
+    proto-is : taken.extras.proto ≡ chosen byte 0 (last ifa_proto l)
+    proto-is = part new_addr_step (λ s. s.extras.proto) (placed ifa_proto (long 1) byte) (λ s a. refl) (new_addr_begun m) l
         ∙ kept ifa_proto byte (long 1) 0 l (all_mono (sized_in rtm_new_addr) (fits ifa_proto (long 1)) l (λ a e. (fit a e).proto) h)
 
-    label-is : taken.label ≡ chosen words_in (label_words lo) (last ifa_label l)
-    label-is = part new_addr_step (λ s. s.label) (placed ifa_label short_label words_in) (λ s a. refl) (new_addr_begun m) l
+    label-is : taken.extras.label ≡ chosen words_in (label_words lo) (last ifa_label l)
+    label-is = part new_addr_step (λ s. s.extras.label) (placed ifa_label short_label words_in) (λ s a. refl) (new_addr_begun m) l
         ∙ kept ifa_label words_in short_label (label_words lo) l (all_mono (sized_in rtm_new_addr) (fits ifa_label short_label) l (λ a e. (fit a e).label) h)
 
-    priority-is : taken.priority ≡ chosen number 0 (last ifa_rt_priority l)
-    priority-is = part new_addr_step (λ s. s.priority) (placed ifa_rt_priority (long 4) number) (λ s a. refl) (new_addr_begun m) l
+    priority-is : taken.extras.priority ≡ chosen number 0 (last ifa_rt_priority l)
+    priority-is = part new_addr_step (λ s. s.extras.priority) (placed ifa_rt_priority (long 4) number) (λ s a. refl) (new_addr_begun m) l
         ∙ kept ifa_rt_priority number (long 4) 0 l (all_mono (sized_in rtm_new_addr) (fits ifa_rt_priority (long 4)) l (λ a e. (fit a e).priority) h)
 
-    preferred-is : taken.preferred ≡ chosen preferred_in 4294967295 (last ifa_cacheinfo l)
-    preferred-is = part new_addr_step (λ s. s.preferred) (placed ifa_cacheinfo (long 16) preferred_in) (λ s a. refl) (new_addr_begun m) l
+    preferred-is : taken.extras.preferred ≡ chosen preferred_in 4294967295 (last ifa_cacheinfo l)
+    preferred-is = part new_addr_step (λ s. s.extras.preferred) (placed ifa_cacheinfo (long 16) preferred_in) (λ s a. refl) (new_addr_begun m) l
         ∙ kept ifa_cacheinfo preferred_in (long 16) 4294967295 l (all_mono (sized_in rtm_new_addr) (fits ifa_cacheinfo (long 16)) l (λ a e. (fit a e).cacheinfo) h)
 
-    valid-is : taken.valid ≡ chosen valid_in 4294967295 (last ifa_cacheinfo l)
-    valid-is = part new_addr_step (λ s. s.valid) (placed ifa_cacheinfo (long 16) valid_in) (λ s a. refl) (new_addr_begun m) l
+    valid-is : taken.extras.valid ≡ chosen valid_in 4294967295 (last ifa_cacheinfo l)
+    valid-is = part new_addr_step (λ s. s.extras.valid) (placed ifa_cacheinfo (long 16) valid_in) (λ s a. refl) (new_addr_begun m) l
         ∙ kept ifa_cacheinfo valid_in (long 16) 4294967295 l (all_mono (sized_in rtm_new_addr) (fits ifa_cacheinfo (long 16)) l (λ a e. (fit a e).cacheinfo) h)
 
   -- the sizes are right where every attribute has its size and a local one is there
-  pub new_addr-sizes : taken.is_sized && is_some taken.local ≡ sizes rtm_new_addr l
+  pub new_addr-sizes : taken.extras.is_sized && is_some taken.local ≡ sizes rtm_new_addr l
   unfolding sizes
   new_addr-sizes =
       test-case (all (sized_in rtm_new_addr) l)
@@ -117,12 +120,7 @@ module _ (m : List ℕ) (l : List Attribute) where
       let address-word : unwrap_or taken.address (unwrap_or taken.local 0) ≡ or_else address (or_else address 0 (last ifa_local l)) (last ifa_address l) =
       (λ i. unwrap_or (address-is w i) (local-word i)) ∙ address-or (last ifa_address l) (or_else address 0 (last ifa_local l))
       in
-      let has-broadcast : flag (is_some taken.broadcast) ≡ flag (given (last ifa_broadcast l)) =
-      ap (λ (o : Option ℕ). flag (is_some o)) (broadcast-is w) ∙ ap flag (address-given (last ifa_broadcast l))
-      in
-      let broadcast-word : unwrap_or taken.broadcast 0 ≡ or_else address 0 (last ifa_broadcast l) =
-      ap (λ (o : Option ℕ). unwrap_or o 0) (broadcast-is w) ∙ address-or (last ifa_broadcast l) 0
-      in
+      let broadcast-row = broadcast-is w ∙ pair-or (last ifa_broadcast l) in
       let flags-word = flags-is w ∙ number-or (last ifa_flags l) number (get_or m 18 0) in
       let proto-word = proto-is w ∙ number-or (last ifa_proto l) byte 0 in
       let label-row = label-is w ∙ label-or (last ifa_label l) lo in
@@ -133,8 +131,8 @@ module _ (m : List ℕ) (l : List Attribute) where
       local-word i
       ∷ address-word i
       ∷ get_or m 17 0
-      ∷ has-broadcast i
-      ∷ broadcast-word i
+      ∷ get_or (broadcast-row i) 0 0
+      ∷ get_or (broadcast-row i) 1 0
       ∷ get_or m 19 0
       ∷ flags-word i
       ∷ proto-word i
@@ -171,13 +169,13 @@ module _ (l : List Attribute) where
       ∙ sym (and_true (all (sized_in rtm_del_addr) l))
 
   module _ (h : all (sized_in rtm_del_addr) l ≡ true) where
-    deleted-local : deleted.local ≡ chosen some_address None (last ifa_local l)
-    deleted-local = part del_addr_step (λ s. s.local) (placed ifa_local (long 4) some_address) (λ s a. refl) del_addr_begun l
-        ∙ kept ifa_local some_address (long 4) None l (all_mono (sized_in rtm_del_addr) (fits ifa_local (long 4)) l (λ a e. (fit-deleted a e).local) h)
+    deleted-local : deleted.local ≡ chosen marked_address (0 ∷ 0 ∷ []) (last ifa_local l)
+    deleted-local = part del_addr_step (λ s. s.local) (placed ifa_local (long 4) marked_address) (λ s a. refl) del_addr_begun l
+        ∙ kept ifa_local marked_address (long 4) (0 ∷ 0 ∷ []) l (all_mono (sized_in rtm_del_addr) (fits ifa_local (long 4)) l (λ a e. (fit-deleted a e).local) h)
 
-    deleted-address : deleted.address ≡ chosen some_address None (last ifa_address l)
-    deleted-address = part del_addr_step (λ s. s.address) (placed ifa_address (long 4) some_address) (λ s a. refl) del_addr_begun l
-        ∙ kept ifa_address some_address (long 4) None l (all_mono (sized_in rtm_del_addr) (fits ifa_address (long 4)) l (λ a e. (fit-deleted a e).address) h)
+    deleted-address : deleted.address ≡ chosen marked_address (0 ∷ 0 ∷ []) (last ifa_address l)
+    deleted-address = part del_addr_step (λ s. s.address) (placed ifa_address (long 4) marked_address) (λ s a. refl) del_addr_begun l
+        ∙ kept ifa_address marked_address (long 4) (0 ∷ 0 ∷ []) l (all_mono (sized_in rtm_del_addr) (fits ifa_address (long 4)) l (λ a e. (fit-deleted a e).address) h)
 
     deleted-has_label : deleted.has_label ≡ chosen (λ p. true) false (last ifa_label l)
     deleted-has_label = part del_addr_step (λ s. s.has_label) (placed ifa_label short_label (λ p. true)) (λ s a. refl) del_addr_begun l
@@ -191,17 +189,15 @@ module _ (l : List Attribute) where
   unfolding sizes del_addr
   del_addr-words m h =
       let w : all (sized_in rtm_del_addr) l ≡ true = and_left (all (sized_in rtm_del_addr) l) true h in
-      let has-local = ap (λ (o : Option ℕ). flag (is_some o)) (deleted-local w) ∙ ap flag (address-given (last ifa_local l)) in
-      let local-word = ap (λ (o : Option ℕ). unwrap_or o 0) (deleted-local w) ∙ address-or (last ifa_local l) 0 in
-      let has-address = ap (λ (o : Option ℕ). flag (is_some o)) (deleted-address w) ∙ ap flag (address-given (last ifa_address l)) in
-      let address-word = ap (λ (o : Option ℕ). unwrap_or o 0) (deleted-address w) ∙ address-or (last ifa_address l) 0 in
+      let local-row = deleted-local w ∙ pair-or (last ifa_local l) in
+      let address-row = deleted-address w ∙ pair-or (last ifa_address l) in
       let has-label = ap flag (deleted-has_label w ∙ label-given (last ifa_label l)) in
       let label-row = deleted-label w ∙ label-or (last ifa_label l) [] in
       λ i.
-      has-local i
-      ∷ local-word i
-      ∷ has-address i
-      ∷ address-word i
+      get_or (local-row i) 0 0
+      ∷ get_or (local-row i) 1 0
+      ∷ get_or (address-row i) 0 0
+      ∷ get_or (address-row i) 1 0
       ∷ get_or m 17 0
       ∷ has-label i
       ∷ get_or (label-row i) 0 0

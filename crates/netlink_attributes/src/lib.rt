@@ -1,7 +1,8 @@
 // Attributes of a netlink message in lent bytes, taken one after the other in one pass.
 #![tactic(auto)]
 
-ghost use Rattle.std.specs.Prelude.{◌≡◌, ◌+◌, ◌<◌, length};
+ghost use Rattle.std.specs.Prelude.{◌≡◌, ◌+◌, ◌<◌, ◌≤◌, ◌%◌, ⊤, length, MatchOption};
+ghost use Rattle.netlink.specs.Attributes.{u16};
 
 pub mod bytes;
 pub mod fields;
@@ -41,6 +42,22 @@ impl<'a> Attributes<'a> {
     }
 }
 
+// The bytes of an attribute that holds one number, as most do.
+const NUMBER: usize = 8;
+
+// The code of such an attribute, where it is below 256, as all with a field are.
+#[inline(always)]
+fn number_code(p: &[u8]) -> Option<usize>
+    requires { 4 ≤ length p.now }
+    ensures { MatchOption result ⊤ (λ n. (u16 p.now 0 ≡ 8) × (n ≡ u16 p.now 2 % 16384)) }
+{
+    if usize::from(u16::from_le_bytes([p[0], p[1]])) == NUMBER && p[3] == 0 {
+        Some(usize::from(p[2]))
+    } else {
+        None
+    }
+}
+
 impl<'a> Iterator for Attributes<'a> {
     ghost use Rattle.std.specs.Iterator.{item_count};
     ghost use Rattle.netlink_attributes.specs.Steps.{ahead, Gives};
@@ -51,9 +68,20 @@ impl<'a> Iterator for Attributes<'a> {
 
     ghost remaining = { item_count ahead };
 
-    // The tests stand in front of the slices, not in a `get`, so that what is built steps from header to header by an addition alone.
+    // First one that holds a number: what takes it knows the payload's size, and the next one's place waits for no length. The tests
+    // stand in front of the slices, not in a `get`, so that what is built steps from header to header by an addition alone.
     #[inline]
     fn next(&mut self) -> Option<Attribute<'a>> {
+        if self.at + NUMBER <= self.bytes.len() {
+            let left = &self.bytes[self.at..];
+            if let Some(code) = number_code(left) {
+                self.at += NUMBER;
+                return Some(Attribute {
+                    code,
+                    payload: &left[HEADER..NUMBER],
+                });
+            }
+        }
         if self.is_short() {
             return None;
         }

@@ -31,11 +31,14 @@ impl<'a> Message<'a> {
         ensures refuses { Refuses result (cond (leb (attributes_at (number_of kind)) end) 0 204) }
         ensures parts { IfOk result (Parts kind m.now end) }
     {
-        let body = m.get(kind.attributes_at()..end).ok_or(Refusal::BadLength)?;
+        let at = kind.attributes_at();
+        if end < at {
+            return Err(Refusal::BadLength);
+        }
         Ok(Message {
             kind,
             bytes: m,
-            body,
+            body: &m[at..end],
         })
     }
 

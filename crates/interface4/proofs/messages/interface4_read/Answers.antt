@@ -15,8 +15,8 @@ pub returns-then-request-lt-REQUEST_BYTES : goal.returns-then-request-lt-REQUEST
 returns-then-request-lt-REQUEST_BYTES c =
     record { value = c.from.ensures ∙ ap reply_of (sym (unread (length c.args.request.now) c.args.up c.args.message.now c.if-request-lt-REQUEST_BYTES.true)); request_after = unread-rows (length c.args.request.now) c.args.up c.args.message.now c.if-request-lt-REQUEST_BYTES.true c.args.request.now }
 
-pub give_rows-requires : goal.give_rows-requires
-give_rows-requires c =
+pub give_request-requires : goal.give_request-requires
+give_request-requires c =
     let few : c.interface4w_read-answer.result.second ≤ del_route4_size = omega (arith, ap (λ (r : Reply). r.second) c.interface4w_read-answer.ensures.value, (counted del_route4_size c.args.up c.args.message.now).few) in
     (omega (arith, few), omega (arith, few, c.if-request-lt-REQUEST_BYTES.false))
 
@@ -27,5 +27,5 @@ returns c =
     record {
       value = c.interface4w_read-answer.ensures.value ∙ on-words-reply;
       request_after = on-words-rows (length c.args.request.now) c.args.up c.args.message.now room _ _ c.args.request.now _ _ (ap (λ (r : Reply). r.second) c.interface4w_read-answer.ensures.value) c.interface4w_read-answer.ensures.request_after
-          c.give_rows.ensures.out_after;
+          c.give_request.ensures;
     }

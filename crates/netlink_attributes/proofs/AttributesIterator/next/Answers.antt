@@ -1,12 +1,29 @@
 use Rattle.std.proofs.Common.{arith, sym, ap, ◌∙◌, ◌≡◌, ◌%◌, length-drop, refl}
-use Rattle.netlink.specs.Attributes.{padded}
+use Rattle.netlink.specs.Attributes.{padded, u16}
 use Rattle.netlink_attributes.specs.Steps.{rest}
-use Rattle.netlink_attributes.specs.StepLaws.{nothing, is-short, begins, fewer, length-is, code-is}
+use Rattle.netlink_attributes.specs.StepLaws.{nothing, is-short, begins, fewer, length-is, code-is, left-is}
 use Rattle.netlink_attributes.proofs.AttributesIterator.next.Goals as goal
 
 pub returns-then-is_short-clause-steps : goal.returns-then-is_short-clause-steps
 returns-then-is_short-clause-steps c =
     (is-short (rest c.args.self.now) (sym c.is_short.ensures ∙ c.if-is_short.true), refl)
+
+pub returns-in-Some-clause-steps : goal.returns-in-Some-clause-steps
+returns-in-Some-clause-steps c =
+    let l = c.args.self.now.bytes.now in
+    let at = c.args.self.now.at in
+    let said = c.in-Some.ensures in
+    let n = sym said.0 ∙ ap (λ x. u16 x 0) (left-is l at) in
+    let code = said.1 ∙ ap (λ x. u16 x 2 % 16384) (left-is l at) in
+    begins l at _ 8 c.in-Some.code 8 n (omega arith) (omega (arith, c.if-self.true)) code refl (omega arith)
+
+pub returns-in-Some-clause-goes : goal.returns-in-Some-clause-goes
+returns-in-Some-clause-goes c =
+    record {
+      on = λ _. (tt, tt, fewer (rest c.args.self.now) _ _ (returns-in-Some-clause-steps c));
+      keeps = tt;
+      rests = λ _. tt;
+    }
 
 pub returns-then-length-lt-HEADER-clause-steps : goal.returns-then-length-lt-HEADER-clause-steps
 returns-then-length-lt-HEADER-clause-steps c =
