@@ -20,6 +20,9 @@ use text::Text;
 // The bytes of a state.
 const STATE_BYTES: usize = 4 * STATE_WORDS;
 
+// One more, so that an input with too many is seen.
+const INPUT_BYTES: usize = STATE_BYTES + 1;
+
 // The rows of the listing of a state, in lent words.
 fn listed<'a>(s: Stored<'_>, listing: &'a mut [u32; LISTING_BUFFER]) -> &'a [RouteRow]
     requires { well_formed s.words.now ≡ true }
@@ -91,10 +94,10 @@ fn print_bytes(rt: &(impl Print + Eprint), bytes: &[u8]) {
     write(rt, &text[..k]);
 }
 
-// Prints what an input says, on standard output. One byte more than a state is read, so that an input with too many is seen. An input
-// that can't be read is no short one: nothing is printed of it, and standard error says why, as it does of a write that fails.
+// Prints what an input says, on standard output. An input that can't be read is no short one: nothing is printed of it, and standard
+// error says why, as it does of a write that fails.
 pub fn print(rt: &(impl Print + Eprint), input: &mut impl Read, name: &str) {
-    let mut bytes = [0u8; 38029];
+    let mut bytes = [0u8; INPUT_BYTES];
     match streams::read_full(input, &mut bytes) {
         Ok(n) => print_bytes(rt, &bytes[..n]),
         Err(e) => streams::fail(rt, name, &e),
