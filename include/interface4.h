@@ -78,16 +78,20 @@ extern "C" {
  * and the tables' numbers (32). What isn't used is 0; all 0 is a state. Behind
  * them the low and the high word of the change count, any of which will do: it
  * goes up by one with each call, refused or not, that changes an address, a
- * route or a table, and stops at 2^64 - 1.
+ * route or a table, and stops at 2^64 - 1. Behind that 32 row counts: at a
+ * table's place how many routes it has, 0 at the places not in use; a state
+ * with a wrong one is met by 201. Every call keeps them right.
  *
- * A state of an older library, 9,507 words without a change count, is met by
- * 200. It is taken over by putting two words of 0 behind it.
+ * States of older libraries, 9,507 words (no change count) or 9,509 (no row
+ * counts), are met by 200. They are taken over by putting behind them what is
+ * missing: two words of 0 for the change count, and the row counts.
  */
-#define INTERFACE4_STATE_WORDS 9509
+#define INTERFACE4_STATE_WORDS 9541
 #define INTERFACE4_ADDRESSES_AT 3
 #define INTERFACE4_ROUTES_AT 1283
 #define INTERFACE4_TABLES_AT 9475
 #define INTERFACE4_COUNT_AT 9507
+#define INTERFACE4_ROW_COUNTS_AT 9509
 /* The fewest words of a buffer for events, for a listing, for one route. */
 #define INTERFACE4_EVENT_BUFFER_WORDS 13056
 #define INTERFACE4_LISTING_BUFFER_WORDS 8192
@@ -122,7 +126,7 @@ extern "C" {
 #define INTERFACE4_ADDRESS_BYTES 80
 #define INTERFACE4_ROUTE_BYTES 128
 #define INTERFACE4_EVENT_BYTES 136
-#define INTERFACE4_STATE_BYTES 38036
+#define INTERFACE4_STATE_BYTES 38164
 #define INTERFACE4_CURSOR_BYTES 12
 #define INTERFACE4_EVENT_BUFFER_BYTES 52224
 #define INTERFACE4_LISTING_BUFFER_BYTES 32768
@@ -147,7 +151,7 @@ extern "C" {
 #define INTERFACE4_MESSAGE_BYTES 216
 
 /* The last of document 02's papers that this header knows: see interface4_sizes. */
-#define INTERFACE4_PAPER 7
+#define INTERFACE4_PAPER 8
 
 /* A lifetime that never ends. */
 #define INTERFACE4_FOREVER UINT32_MAX
@@ -221,8 +225,8 @@ typedef struct interface4_reply {
 #define INTERFACE4_STACK_UP 184320
 #define INTERFACE4_STACK_DOWN 40960
 #define INTERFACE4_STACK_ADD_V4 135168
-#define INTERFACE4_STACK_DEL_V4 94208
-#define INTERFACE4_STACK_EXPIRE 94208
+#define INTERFACE4_STACK_DEL_V4 98304
+#define INTERFACE4_STACK_EXPIRE 98304
 #define INTERFACE4_STACK_ADD_ROUTE4 94208
 #define INTERFACE4_STACK_DEL_ROUTE4 94208
 #define INTERFACE4_STACK_DUMP4 77824

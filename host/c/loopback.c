@@ -231,6 +231,11 @@ static void on_words(void)
   refused("33 tables", interface4w_check(W(state)), 201);
   state[2] = 2;
   refused("no change count", interface4w_check(state, INTERFACE4_COUNT_AT), 200);
+  refused("no row counts", interface4w_check(state, INTERFACE4_ROW_COUNTS_AT), 200);
+  is("the routes of 255", state[INTERFACE4_ROW_COUNTS_AT + 1], 6);
+  state[INTERFACE4_ROW_COUNTS_AT + 1] = 5;
+  refused("a wrong row count", interface4w_check(W(state)), 201);
+  state[INTERFACE4_ROW_COUNTS_AT + 1] = 6;
 
   told("add_route4", interface4w_add_route4(W(state), W(route), W(events)), 0, 1, 0);
   is("its event", events[0], INTERFACE4_NEW_ROUTE4);
@@ -244,6 +249,7 @@ static void on_words(void)
   is("its first event", events[0], INTERFACE4_DEL_ADDR4);
   told("down", interface4w_down(W(state), W(events)), 0, 0, 0);
   is("the routes that are left", state[1], 2);
+  is("of 255", state[INTERFACE4_ROW_COUNTS_AT + 1], 2);
 }
 
 static void on_bytes(void)

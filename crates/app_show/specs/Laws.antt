@@ -7,9 +7,9 @@ use Rattle.refusal.specs.Refusal.{number_of, unless}
 use Rattle.refusal.specs.Laws.{failed}
 use Rattle.std.proofs.Common.{sym, ap, ◌∙◌, append-nil, arith, take_at, length-take-le, eq-eqb, ne_eqb}
 use Rattle.lists.specs.Lists.{Row, flat, put, chop}
-use Rattle.lists.specs.Bools.{cond-true, cond-false}
+use Rattle.lists.specs.Bools.{and_left, cond-true, cond-false}
 use Rattle.lists.specs.Rows.{sized, length-flat, chop-flat}
-use Rattle.definition.specs.Words.{base_size, state_size, base, decode, well_formed, state_of, formed}
+use Rattle.definition.specs.Words.{base_size, state_size, base, decode, well_formed, state_of, counts_true, formed}
 use Rattle.definition.proofs.Preservation.Step.{base-long}
 use Rattle.definition.specs.Reference.Source.{dump4}
 use Rattle.definition.specs.Preservation.Encode.{good-decode}
@@ -48,6 +48,10 @@ shown-other b h = cond-false (eqb (length b) (4 * state_size)) (shown_words (wor
 -- of words that are read from as many bytes the first ones are those of the lists
 pub base-read : (w b : List ℕ) → w ≡ words_of b → length b ≡ 4 * state_size → length (base w) ≡ base_size
 base-read w b e h = base-long w (omega (arith, ap length e, length-words_of b, h))
+
+-- and of a well-formed state these are well-formed
+pub lists-formed : (w : List ℕ) → formed w ≡ true → well_formed (base w) ≡ true
+lists-formed w h = and_left (well_formed (base w)) (counts_true w) h
 
 -- bytes that a check refuses
 pub refused : {A : Type 0} (P : A → Type 0) (t : Result A Refusal) (e : Refusal) (b : List ℕ) (pass : Bool) (why : Refusal) → IsErr t × IsErrAnd t (λ x. x ≡ e)

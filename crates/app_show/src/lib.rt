@@ -52,8 +52,7 @@ fn read_state(bytes: &[u8]) -> Result<[u32; STATE_WORDS], Refusal>
     unless(bytes.len() == STATE_BYTES, Refusal::WrongLength)?;
     let mut s = [0u32; STATE_WORDS];
     endian::words_of(bytes, &mut s);
-    let fit = state_well_formed::well_formed(&s[..BASE_WORDS]);
-    unless(fit, Refusal::Malformed)?;
+    unless(state_well_formed::formed(&s), Refusal::Malformed)?;
     Ok(s)
 }
 

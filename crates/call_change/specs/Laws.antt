@@ -1,21 +1,20 @@
 -- A changing call's answer and what it leaves, by its checks and by what the step below it left of the words that it was lent.
 -- Assumes nothing.
-use Rattle.std.specs.Prelude.{ℕ, ◌≤◌, ◌≡◌, ◌≢◌, refl, Bool, true, false, ◌&&◌, ◌||◌, List, [], ◌++◌, eqb, ltb, length, Ok, Err, IsErrAnd}
+use Rattle.std.specs.Prelude.{ℕ, ◌≤◌, ◌≡◌, ◌≢◌, refl, Bool, true, false, ◌&&◌, ◌||◌, List, [], eqb, ltb, length, Ok, Err, IsErrAnd}
 use Rattle.std.specs.Prelude.{Result as Answer}
-use Rattle.std.proofs.Common.{arith, sym, ap, subst, ◌∙◌, take_at, ne_eqb, eq-eqb, leb-true}
+use Rattle.std.proofs.Common.{arith, sym, ap, subst, ◌∙◌, ne_eqb, eq-eqb, leb-true}
 use Rattle.std.proofs.Math.Bool.{and-false}
 use Rattle.lists.specs.Lists.{Row, flat, put}
 use Rattle.lists.specs.Put.{put-no-rows}
 use Rattle.lists.specs.Bools.{and_right}
 use Rattle.definition.specs.State.{State}
-use Rattle.definition.specs.Words.{base_size, state_size, encode, base, table_count, changed, counted, leaves}
+use Rattle.definition.specs.Words.{state_size, well_formed, base, table_count, leaves}
 use Rattle.definition.specs.Call.{Call, Reply, Numbers, numbers}
 use Rattle.definition.specs.Step.{Result, Semantics, checked, answered, result, roomy, outcome, perform, request_is, events_fit, event_room, step}
 use Rattle.definition.specs.Reference.Addresses.{Outcome}
-use Rattle.definition.specs.Preservation.Encode.{length-encode}
-use Rattle.definition.proofs.Preservation.Step.{Held, acted}
+use Rattle.definition.proofs.Preservation.Step.{Held, base-leaves, step-held, acted}
 use Rattle.definition_parts.specs.Rule.{has_events, altered}
-use Rattle.definition_parts.proofs.Counting.{step-words}
+use Rattle.definition_parts.proofs.Counting.{step-words, step-idle}
 use Rattle.state.specs.Represents.{Represents, holds-encodable}
 use Rattle.call_read.specs.Laws.{Passed, call-refused, call-passed, exit, refuses_some}
 use Rattle.call_read.specs.Answer.{answer_by, valuing, refused_by}
@@ -24,6 +23,7 @@ use Rattle.refusal.specs.declared.Refusal.TheVariants.{WrongLength, Full}
 use Rattle.refusal.specs.Refusal.{number_of, Refuses}
 use Rattle.call_change.specs.Answer.{Answers}
 use Rattle.call_change.specs.Ran.{told_some}
+use Rattle.call_change.specs.Count.{leaving}
 
 -- ---- the checks of a call by a request of so many words
 module _ (size : ℕ) (q : Row) (w : List ℕ) where
@@ -73,7 +73,7 @@ pub record Left (x : Result) (v ev ev' : List ℕ) (r : Answer ℕ Refusal) : Ty
   pub events : ev' ≡ put 0 (flat x.reply.rows) ev
 
 left-lists : {v : List ℕ} {st : State} (w : List ℕ) → Represents v st → v ≡ base (leaves w st)
-left-lists {st = st} w h = h.words ∙ sym (take_at (encode st) (counted (changed w st) w) base_size (length-encode st (holds-encodable h)))
+left-lists {st = st} w h = h.words ∙ sym (base-leaves w st (holds-encodable h))
 
 module _ (o : Outcome) (w : List ℕ) {v ev ev' : List ℕ} {r : Answer ℕ Refusal} where
   pub left-made : roomy o ≡ true → Represents v (result o) → Refuses r (answered o).number → answer_by valuing r ≡ numbers (answered o) → ev' ≡ put 0 (flat (answered o).rows) ev
@@ -88,17 +88,28 @@ some-told : (r : Answer ℕ Refusal) (x : Reply) → answer_by valuing r ≡ num
 some-told (Ok n) x e = ap (λ (m : Numbers). ltb 0 m.value) e
 some-told (Err d) x e = ap (λ (m : Numbers). ltb 0 m.value) e
 
--- behind the lists the change is counted, as the rule for the call says
+-- the words that a call leaves, by the lists that its step left and by the rule for the call
+pub left-words : (c : Call) {w v ev ev' : List ℕ} {r : Answer ℕ Refusal} (b : Bool) → Held w → Left (step c w) v ev ev' r → altered c w (step c w).reply v ≡ b
+    → leaving b w v ≡ (step c w).words
+left-words c {w} {v} true h t e =
+    sym (rw e at (step-words c w v h t.lists))
+left-words c {w} {v} false h t e = sym (step-idle c w v h t.lists e)
+
+pub left-formed : (c : Call) {w v ev ev' : List ℕ} {r : Answer ℕ Refusal} → Held w → Left (step c w) v ev ev' r → well_formed v ≡ true
+left-formed c {w} h t = ap well_formed t.lists ∙ (step-held c w h).well
+
+-- behind the lists all is settled, as that rule says
 pub counts : (c : Call) {w v w' ev ev' : List ℕ} {r : Answer ℕ Refusal} (other : Bool) → Held w → Left (step c w) v ev ev' r
     → ((x : Reply) → altered c w x v ≡ (has_events x && other) || ltb (table_count w) (table_count v))
-    → w' ≡ v ++ counted ((told_some r && other) || ltb (table_count w) (table_count v)) w
+    → (well_formed v ≡ true → w' ≡ leaving ((told_some r && other) || ltb (table_count w) (table_count v)) w v)
     → Answers (step c w) w' ev ev' r
 counts c {w} {v} {r = r} other h t rule e =
     record {
       refuses = t.refuses;
       says = t.says;
       words =
-          e ∙ ap (λ (b : Bool). v ++ counted ((b && other) || ltb (table_count w) (table_count v)) w) (some-told r (step c w).reply t.says)
-          ∙ ap (λ (b : Bool). v ++ counted b w) (sym (rule (step c w).reply)) ∙ sym (step-words c w v h t.lists);
+          e (left-formed c h t)
+          ∙ ap (λ (b : Bool). leaving ((b && other) || ltb (table_count w) (table_count v)) w v) (some-told r (step c w).reply t.says)
+          ∙ left-words c _ h t (rule (step c w).reply);
       events = t.events;
     }

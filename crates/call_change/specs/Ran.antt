@@ -1,12 +1,13 @@
 -- What a step on a change that had told nothing was, by what it left in the places that it was lent.
-use Rattle.std.specs.Prelude.{ℕ, ◌≡◌, Bool, false, ◌&&◌, ◌||◌, List, ◌++◌, Ok, Err, ltb, length}
+use Rattle.std.specs.Prelude.{ℕ, ◌≡◌, Bool, true, false, ◌&&◌, ◌||◌, List, Ok, Err, ltb, length}
 use Rattle.std.specs.Prelude.{Result as Answer}
 use denote.Ref.{MutBor}
 use Rattle.std.specs.Fn.{Once, FnOnceTakesAtMut, FnOnceReturnsAtMut}
-use Rattle.definition.specs.Words.{base_size, base, table_count, counted}
+use Rattle.definition.specs.Words.{base_size, well_formed, base, table_count}
 use Rattle.refusal.specs.declared.Refusal.{Refusal}
 use Rattle.step_events.specs.declared.change.Change.{Change}
 use Rattle.call_change.specs.declared.Ended.{Ended}
+use Rattle.call_change.specs.Count.{leaving}
 
 -- a change of the words w and the event buffer ev, of which nothing is told
 pub record Begins (w ev : List ℕ) (a : Change) : Type 0 where
@@ -57,9 +58,9 @@ module _ {F : Type 0} (g : Step F) (f : F) where
     pub rows : from.events.ghost_name ≡ to.events.ghost_name → ev' ≡ to.events.now
     pub answer : r ≡ telling to gave
 
-  -- the same on the words of a state: what was lent are those of the lists, which become `lists`; behind them a change is counted
+  -- the same on the words of a state: what was lent are those of the lists, which become `lists`; what is behind them is settled
   pub record Counts (other : Bool) (w w' ev ev' : List ℕ) (r : Answer ℕ Refusal) : Type 0 where
     pub lists : List ℕ
     pub long : length lists ≡ base_size
     pub ran : Ran (base w) lists ev ev' r
-    pub words : w' ≡ lists ++ counted ((told_some r && other) || ltb (table_count w) (table_count lists)) w
+    pub words : well_formed lists ≡ true → w' ≡ leaving ((told_some r && other) || ltb (table_count w) (table_count lists)) w lists

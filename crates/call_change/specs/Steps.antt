@@ -1,6 +1,6 @@
 -- The answers of calls, by what the step below each comes to.
 -- Assumes nothing.
-use Rattle.std.specs.Prelude.{ℕ, ◌≤◌, ◌≡◌, refl, Bool, true, ◌&&◌, ◌||◌, List, ◌++◌, length, Ok, Err}
+use Rattle.std.specs.Prelude.{ℕ, ◌≤◌, ◌≡◌, refl, Bool, true, ◌&&◌, ◌||◌, List, length, Ok, Err}
 use denote.Ref.{MutBor}
 use Rattle.std.specs.Prelude.{Result as Answer}
 use Rattle.std.proofs.Common.{arith, sym, ap, subst, ◌∙◌, leb-true}
@@ -10,12 +10,11 @@ use Rattle.lists.specs.Count.{count_most}
 use Rattle.lists.specs.Bools.{and_iff, test-case, cond-true, cond-false}
 use Rattle.lists.specs.Put.{put-no-rows}
 use Rattle.definition.specs.State.{State, Out, sizes}
-use Rattle.definition.specs.Words.{within, base_size, base, state_of, counted}
+use Rattle.definition.specs.Words.{within, base_size, well_formed, base, state_of}
 use Rattle.definition.specs.Call.{Call, Reply}
 use Rattle.definition.specs.Step.{Result, Checks, semantics, outcome, roomy, event_room, step}
 use Rattle.definition.proofs.Preservation.Step.{acted}
 use Rattle.definition_parts.specs.Rule.{has_events, more_tables, fewer_routes, row_changes, altered}
-use Rattle.definition_parts.proofs.Counting.{step-words}
 use Rattle.definition.specs.Reference.Addresses.{Outcome, goes, refused, down, same_address}
 use Rattle.definition.specs.Preservation.Shrinking.{potential, live}
 use Rattle.definition.proofs.Preservation.Peaks.{down-roomy}
@@ -31,7 +30,8 @@ use Rattle.refusal.specs.declared.Refusal.{Refusal}
 use Rattle.refusal.specs.declared.Refusal.TheVariants.{Errno, Full}
 use Rattle.call_read.specs.Answer.{valuing}
 use Rattle.call_change.specs.Answer.{Answers}
-use Rattle.call_change.specs.Laws.{Left, left-made, left-full, counts}
+use Rattle.call_change.specs.Count.{leaving}
+use Rattle.call_change.specs.Laws.{Left, left-made, left-full, left-words, left-formed, counts}
 use Rattle.call_change.specs.Ran.{Step, Begins, Ran, Counts, telling}
 
 -- ---- room for what a step may emit: 384 rows suffice
@@ -100,7 +100,7 @@ pub counts-answers : (c : Call) {w w' ev ev' : List ℕ} {r : Answer ℕ Refusal
     → Answers (step c w) w' ev ev' r
 counts-answers c {w} {ev = ev} {ev'} {r} {other = other} o p e rule t m comes =
     let left = subst (λ (x : Result). Left x t.lists ev ev' r) (sym (call-passed (semantics c) w p ∙ e)) (ran-left o p t.ran m comes) in
-    counts c other (record { long = p.long; well = p.well }) left (λ x. rule x t.lists) t.words
+    counts c other p.well left (λ x. rule x t.lists) t.words
 
 -- a step that no rule refuses, and that keeps to the limits, comes to what it emits
 pub whole_goes : (st : State) {o : Out} {a b : Change} {d : Answer (Unit {0}) Refusal} → within o.peak ≡ true → d ≡ Ok tt → Emits o a b → ComesWhole st (goes o) a b d
@@ -120,13 +120,13 @@ row-rule q now w e x v = ap (λ (b : Bool). (has_events x && b) || more_tables w
 
 -- down, whose change is told by fewer routes
 pub down-answers : (w ev : List ℕ) (room : ℕ) {v w' : List ℕ} → Passed (semantics (Call.down room)).checks w → Represents v (down (state_of w)).state
-    → (length v ≡ base_size → w' ≡ v ++ counted (fewer_routes w v) w) → Answers (step (Call.down room) w) w' ev ev (Ok 0)
+    → (length v ≡ base_size → well_formed v ≡ true → w' ≡ leaving (fewer_routes w v) w v) → Answers (step (Call.down room) w) w' ev ev (Ok 0)
 down-answers w ev room {v} p h e =
     let left = subst (λ (x : Result). Left x v ev ev (Ok 0)) (sym (call-passed (semantics (Call.down room)) w p)) (down-left w ev p h) in
     let long : length v ≡ base_size = ap length h.words ∙ length-encode (down (state_of w)).state (holds-encodable h) in
     record {
       refuses = left.refuses;
       says = left.says;
-      words = e long ∙ sym (step-words (Call.down room) w v (record { long = p.long; well = p.well }) left.lists);
+      words = e long (left-formed (Call.down room) p.well left) ∙ left-words (Call.down room) _ p.well left refl;
       events = left.events;
     }

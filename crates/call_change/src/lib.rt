@@ -84,8 +84,8 @@ fn told_some(told: Result<usize, Refusal>) -> bool
     told.is_ok_and(|n| 0 < n)
 }
 
-// The same on the words of a state, and what it changed counted: a step tells a row of whatever it changes but tables. `other` says that
-// the row told isn't the one that was there.
+// The same on the words of a state, and what is behind the lists settled where they changed: a step tells a row of whatever it changes
+// but tables. `other` says that the row told isn't the one that was there.
 fn changed<F: FnOnce(&mut Change<'_, '_>) -> Result<(), Refusal>>(
     state: &mut [u32],
     events: &mut [u32],
@@ -99,7 +99,7 @@ fn changed<F: FnOnce(&mut Change<'_, '_>) -> Result<(), Refusal>>(
     let tables = state[TABLE_COUNT];
     let told = stepped(&mut state[..BASE_WORDS], events, step);
     if (told_some(told) & other) | (tables < state[TABLE_COUNT]) {
-        state_count::count(state);
+        state_count::settle(state);
     }
     told
 }
@@ -140,7 +140,7 @@ pub fn down_lent(state: &mut [u32], room: usize, events: &mut [u32]) -> Result<u
     let routes = state[ROUTE_COUNT];
     down_held(&mut state[..BASE_WORDS]);
     if state[ROUTE_COUNT] < routes {
-        state_count::count(state);
+        state_count::settle(state);
     }
     Ok(0)
 }

@@ -19,7 +19,7 @@ use Rattle.refusal.specs.declared.Refusal.{Refusal}
 use Rattle.refusal.specs.declared.Refusal.TheVariants.{Malformed, Errno}
 use Rattle.refusal.specs.Refusal.{number_of, Refuses, unless}
 use Rattle.definition.specs.State.{State}
-use Rattle.definition.specs.Words.{base_size, state_size, base, state_of, formed}
+use Rattle.definition.specs.Words.{base_size, state_size, well_formed, base, state_of, counts_true, formed}
 use Rattle.definition.specs.Call.{Reply, refusal, valued, written, optionally, found_row}
 use Rattle.definition.specs.Step.{Result, refuses, Checks, Semantics, checked, reading, perform, finding}
 use Rattle.definition.specs.Reference.Source.{present}
@@ -27,7 +27,7 @@ use Rattle.definition.specs.Reference.Lookup as Lookup
 use Rattle.definition.specs.Reference.Lookup.{lookup_in}
 use Rattle.definition.proofs.Preservation.Numbers.{OfFound, lookup-number}
 use Rattle.definition.specs.Preservation.Encode.{Admissible}
-use Rattle.definition.proofs.Preservation.Step.{base-long, good-held, checked-held, checked-passes, acted, perform-case}
+use Rattle.definition.proofs.Preservation.Step.{Held, base-long, good-held, checked-held, checked-passes, acted, perform-case}
 use Rattle.lists.specs.Library.{own, lent_ok}
 use Rattle.rows_lookup.specs.Answer.{answered}
 use Rattle.row_address.specs.V4.{optional_of}
@@ -78,7 +78,7 @@ state-long n b e f g = eqb-true n state_size (and_left (eqb n state_size) b (unl
 
 -- the second: the first words hold a state
 pub formed-held : (w : List ℕ) (e : Refusal) {r : Answer (Unit {0}) Refusal} {a : Unit {0}} → length w ≡ state_size → r ≡ Ok a → r ≡ unless (formed w) e → represents (base w) ≡ true
-formed-held w e l f g = formed-represents (base w) (base-long w l) (unless-went (formed w) e f g)
+formed-held w e l f g = formed-represents (base w) (base-long w l) (and_left (well_formed (base w)) (counts_true w) (unless-went (formed w) e f g))
 
 -- a request behind both
 pub passing : {A : Type 0} (r : Answer A Refusal) (w : List ℕ) → length w ≡ state_size → represents (base w) ≡ true
@@ -90,7 +90,7 @@ passing (Err e) w l h = tt
 pub record Passed (k : Checks) (w : List ℕ) : Type 0 where
   pub zero : checked k w ≡ 0
   pub long : length w ≡ state_size
-  pub well : formed w ≡ true
+  pub well : Held w
   pub room : k.buffers ≡ true
   pub handed : k.row ≡ true
   pub fit : k.request ≡ 0
@@ -105,7 +105,7 @@ passed k w c e =
     record {
       zero = z;
       long = h.long;
-      well = h.well;
+      well = h;
       room = p.room;
       handed = p.handed;
       fit = p.fit;

@@ -25,8 +25,7 @@ pub fn checked<T: Drop>(s: &[u32], buffers: bool, request: Result<T, Refusal>) -
     ensures passes { IfOk result (λ t. (length s.now ≡ state_size) × (represents (base s.now) ≡ true) × (request ≡ Ok t)) }
 {
     refusal::unless((s.len() == STATE_WORDS) & buffers, Refusal::WrongLength)?;
-    let formed = state_well_formed::well_formed(&s[..BASE_WORDS]);
-    refusal::unless(formed, Refusal::Malformed)?;
+    refusal::unless(state_well_formed::formed(s), Refusal::Malformed)?;
     request
 }
 

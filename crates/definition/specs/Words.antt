@@ -1,11 +1,11 @@
--- The state as 9,509 words, and when words are a state (document 01, "The state, words of 32 bits"; document 02, Paper 6, for the
--- change count behind the lists).
-use Rattle.std.specs.Prelude.{ℕ, suc, ◌+◌, ◌*◌, ◌-◌, ◌/◌, ◌%◌, Bool, cond, not, ◌&&◌, List, [], ◌∷◌, ◌++◌, eqb, leb, ltb, length, get_or, take, drop}
-use Rattle.lists.specs.Lists.{Row, all, pairwise, eq_row, all_zero, flat, pad, span, chop}
+-- The state as 9,541 words, and when words are a state (document 01, "The state, words of 32 bits"; document 02, Papers 6 and 8, for
+-- the change count and the row counts behind the lists).
+use Rattle.std.specs.Prelude.{ℕ, suc, ◌+◌, ◌*◌, ◌-◌, ◌/◌, ◌%◌, Bool, cond, not, ◌&&◌, List, [], ◌∷◌, ◌++◌, eqb, leb, ltb, length, get_or, take, drop, map}
+use Rattle.lists.specs.Lists.{Row, all, keep, pairwise, eq_row, all_zero, flat, pad, span, chop}
 use Rattle.layout.specs.Address as Address
 use Rattle.layout.specs.Route as Route
 use Rattle.layout.specs.Address.{fit_address}
-use Rattle.layout.specs.Route.{fit_route, before}
+use Rattle.layout.specs.Route.{fit_route, before, table}
 use Rattle.definition.specs.State.{State, Sizes}
 
 -- ---- the limits, which the port adds
@@ -42,12 +42,15 @@ tables_at = routes_at + routes_size
 abbrev pub base_size : ℕ
 base_size = tables_at + table_limit
 
--- the words behind them, of which the lists know nothing: the change count's low and high word
+-- the words behind them: the change count's low and high word, and a row count for each place in the list of tables
 abbrev pub count_size : ℕ
 count_size = 2
 
+abbrev pub row_counts_at : ℕ
+row_counts_at = base_size + count_size
+
 abbrev pub behind_size : ℕ
-behind_size = count_size
+behind_size = count_size + table_limit
 
 abbrev pub state_size : ℕ
 state_size = base_size + behind_size
@@ -123,8 +126,22 @@ base w = take base_size w
 abbrev pub state_of : List ℕ → State
 state_of w = decode (base w)
 
+-- ---- the row counts (document 02, Paper 8)
+-- how many of the rows are a table's
+abbrev pub rows_of_table : ℕ → List Row → ℕ
+rows_of_table t rows = length (keep (λ r. eqb (table r) t) rows)
+
+-- "Store the count beside each listed table, 32 words at the end of the state": at a table's place in the list the number of its rows,
+-- 0 at the places not in use. Rows of tables that aren't listed are counted nowhere.
+unfoldable pub row_counts : State → List ℕ
+row_counts st = pad table_limit (map (λ t. rows_of_table t st.routes) st.tables)
+
+unfoldable pub counts_true : List ℕ → Bool
+counts_true w = eq_row (drop row_counts_at w) (row_counts (state_of w))
+
+-- "A wrong count makes a state not well-formed"
 abbrev pub formed : List ℕ → Bool
-formed w = well_formed (base w)
+formed w = well_formed (base w) && counts_true w
 
 -- ---- the change count (document 02, Paper 6): 64 bits in the two words behind the lists; any count is well-formed
 abbrev pub largest_count : ℕ
@@ -148,4 +165,4 @@ counted changes w =
 
 -- the words that a call on w leaves, where the state becomes st
 abbrev pub leaves : List ℕ → State → List ℕ
-leaves w st = encode st ++ counted (changed w st) w
+leaves w st = encode st ++ (counted (changed w st) w ++ row_counts st)

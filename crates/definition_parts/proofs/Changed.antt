@@ -2,12 +2,12 @@
 -- count goes up by that rule.
 -- Assumes nothing.
 use Rattle.std.specs.Prelude.{ℕ, ◌≡◌, refl, Bool, true, false, not, ◌&&◌, ◌||◌, List, ◌++◌, ltb, length, get_or, drop}
-use Rattle.std.proofs.Common.{sym, ap, subst, ◌∙◌, arith, take_all, take-append-drop, length-drop, get_or-take, le-ltb}
-use Rattle.lists.specs.Lists.{eq_row, first, span}
+use Rattle.std.proofs.Common.{sym, ap, ap₂, subst, ◌∙◌, arith, take-append-drop, get_or-take, le-ltb}
+use Rattle.lists.specs.Lists.{eq_row, first}
 use Rattle.lists.specs.Bools.{cond-case, not_so}
 use Rattle.lists.specs.All.{eq_row-true, eq_row-refl}
 use Rattle.definition.specs.State.{State}
-use Rattle.definition.specs.Words.{base_size, count_size, state_size, encode, decode, base, state_of, changed, counted, leaves, route_count, table_count}
+use Rattle.definition.specs.Words.{base_size, encode, decode, base, state_of, row_counts, changed, counted, leaves, route_count, table_count}
 use Rattle.definition.specs.Call.{Call, Reply, refusal, written}
 use Rattle.definition.specs.Step.{Result, Checks, Action, changes, replies, lists, checked, answered, result, roomy, outcome, semantics, step}
 use Rattle.definition.specs.Reference.Addresses.{Outcome, goes, up, down, add_v4, same_address}
@@ -16,7 +16,7 @@ use Rattle.definition.specs.Reference.Routes.{add_route4, del_route4_request}
 use Rattle.definition.specs.Preservation.Fit.{fit-state}
 use Rattle.definition.specs.Preservation.Encode.{Admissible, encodable, decode-encode, encode-decode}
 use Rattle.definition.proofs.Preservation.Change.{Acts, lawful}
-use Rattle.definition.proofs.Preservation.Step.{Held, base-long, good-held, good-result, base-leaves, checked-sound, acted, perform-case}
+use Rattle.definition.proofs.Preservation.Step.{Held, base-long, good-held, good-result, base-leaves, decode-leaves, counted-idle, checked-sound, acted, perform-case}
 use Rattle.definition_parts.specs.Rule.{has_events, more_tables, fewer_routes, row_changes, Rule, never, by_routes, by_events, by_row, rule_of, tells, altered}
 use Rattle.definition_parts.proofs.Altered.Says.{Says}
 use Rattle.definition_parts.proofs.Altered.Up.{up-says, down-says}
@@ -92,7 +92,7 @@ ruled (Call.select4 dstPresent dst scope) w h = refl
 -- ---- of every call on well-formed words, refused or not
 pub record Counted (c : Call) (w : List ℕ) (r : Result) : Type 0 where
   pub changes : not (eq_row (base w) (base r.words)) ≡ altered c w r.reply (base r.words)
-  pub words : r.words ≡ base r.words ++ counted (altered c w r.reply (base r.words)) w
+  pub words : r.words ≡ base r.words ++ (counted (altered c w r.reply (base r.words)) w ++ row_counts (state_of r.words))
 
 -- a refusal that leaves every word
 tells-idle : (x : Rule) (w : List ℕ) (n : ℕ) → tells x w (refusal n) (base w) ≡ false
@@ -107,45 +107,47 @@ tells-idle x w n = go x
     go by_events = tables
     go (by_row q now) = tables
 
-stays-counted : (c : Call) (w : List ℕ) (r : Reply) → length w ≡ state_size → tells (rule_of c) w r (base w) ≡ false
+stays-counted : (c : Call) (w : List ℕ) (r : Reply) → Held w → tells (rule_of c) w r (base w) ≡ false
     → Counted c w (record { reply = r; words = w })
-unfolding counted span
-stays-counted c w r l e =
+stays-counted c w r h e =
     record {
       changes = ap not (eq_row-refl (base w)) ∙ sym e;
       words =
           rw e
-          (sym (ap (λ (behind : List ℕ). base w ++ behind) (take_all count_size (drop base_size w) (simp length-drop (omega arith))) ∙ take-append-drop base_size w));
+          (sym (rw (← h.counts, counted-idle w) (take-append-drop base_size w)));
     }
 
 changed-is : (w : List ℕ) (st : State) → changed w st ≡ not (eq_row (base w) (encode st))
 unfolding changed
 changed-is w st = refl
 
-left-counted : (c : Call) (w : List ℕ) (r : Reply) (st : State) → base (leaves w st) ≡ encode st → changed w st ≡ altered c w r (encode st)
+left-counted : (c : Call) (w : List ℕ) (r : Reply) (st : State) → Admissible st → changed w st ≡ altered c w r (encode st)
     → Counted c w (record { reply = r; words = leaves w st })
-left-counted c w r st e s =
+left-counted c w r st g s =
+    let e = base-leaves w st (encodable g) in
     let same : changed w st ≡ altered c w r (base (leaves w st)) = s ∙ ap (altered c w r) (sym e) in
     record {
       changes = ap (λ (v : List ℕ). not (eq_row (base w) v)) e ∙ sym (changed-is w st) ∙ same;
-      words = ap (λ (v : List ℕ). v ++ counted (changed w st) w) (sym e) ∙ ap (λ (b : Bool). base (leaves w st) ++ counted b w) same;
+      words =
+          ap (λ (v : List ℕ). v ++ (counted (changed w st) w ++ row_counts st)) (sym e)
+          ∙ ap₂ (λ (b : Bool) (s : State). base (leaves w st) ++ (counted b w ++ row_counts s)) same (sym (decode-leaves w st g));
     }
 
 outcome-counted : (c : Call) (w : List ℕ) (o : Outcome) → Held w → (roomy o ≡ true → Admissible (result o)) → Ruled c w o → Counted c w (outcome o w)
 outcome-counted c w o h g s =
     cond-case (Counted c w) (roomy o)
-    (λ e. left-counted c w (answered o) (result o) (base-leaves w (result o) (g e)) (changed-says w h (result o) (altered c w (answered o) (encode (result o))) (g e) s))
-    (λ e. stays-counted c w (refusal 203) h.long (tells-idle (rule_of c) w 203))
+    (λ e. left-counted c w (answered o) (result o) (g e) (changed-says w h (result o) (altered c w (answered o) (encode (result o))) (g e) s))
+    (λ e. stays-counted c w (refusal 203) h (tells-idle (rule_of c) w 203))
 
 pub step-counted : (c : Call) (w : List ℕ) → Held w → Counted c w (step c w)
 step-counted c w h =
     perform-case (Counted c w) w (semantics c) (λ z. go (semantics c).action (lawful c).acts (ruled c w h) z)
-    (λ n e z. stays-counted c w (refusal n) h.long (tells-idle (rule_of c) w n))
+    (λ n e z. stays-counted c w (refusal n) h (tells-idle (rule_of c) w n))
   where
     k : Checks
     k = (semantics c).checks
 
     go : (a : Action) → Acts k a → RuledBy c w a → checked k w ≡ 0 → Counted c w (acted a w)
     go (changes listed f) l r z = outcome-counted c w (f (state_of w)) h (good-result (f (state_of w)) (checked-sound k w z l).kept) r
-    go (replies f) l r z = stays-counted c w (f (state_of w)) h.long (ap (λ (x : Rule). tells x w (f (state_of w)) (base w)) r)
-    go (lists f) l r z = stays-counted c w (written (f (state_of w))) h.long (ap (λ (x : Rule). tells x w (written (f (state_of w))) (base w)) r)
+    go (replies f) l r z = stays-counted c w (f (state_of w)) h (ap (λ (x : Rule). tells x w (f (state_of w)) (base w)) r)
+    go (lists f) l r z = stays-counted c w (written (f (state_of w))) h (ap (λ (x : Rule). tells x w (written (f (state_of w))) (base w)) r)

@@ -28,7 +28,7 @@ pub record Counts : Type 0 where
   pub count : List ℕ
 
 abbrev start : ℕ → ℕ → List ℕ
-start low high = zeros 9507 ++ (low ∷ high ∷ [])
+start low high = zeros 9507 ++ (low ∷ high ∷ zeros 32)
 
 abbrev runs : List Call → List ℕ → List ℕ → List ℕ → Counts
 runs [] w ns vs = record { numbers = ns; values = vs; lists = take 3 w; count = take 2 (drop 9507 w) }
@@ -119,11 +119,11 @@ host = 255 ∷ ip 127 0 0 1 ∷ 32 ∷ 0 ∷ 0 ∷ 2 ∷ 2 ∷ 254 ∷ 1 ∷ ip 
 abbrev broadcast : Row
 broadcast = 255 ∷ ip 127 255 255 255 ∷ 32 ∷ 0 ∷ 0 ∷ 3 ∷ 2 ∷ 253 ∷ 1 ∷ ip 127 0 0 1 ∷ 0 ∷ 0 ∷ 1 ∷ 0 ∷ 0 ∷ zeros 17
 
--- the words after `up`, with a change count of 1
+-- the words after `up`, with a change count of 1 and three rows of the second table
 abbrev up_words : List ℕ
 up_words =
     1 ∷ 3 ∷ 2 ∷ ip 127 0 0 1 ∷ ip 127 0 0 1 ∷ 8 ∷ 0 ∷ 0 ∷ 254 ∷ 128 ∷ 0 ∷ 2 ∷ 28524
-    ∷ (zeros 1270 ++ (network ++ (host ++ (broadcast ++ (zeros 8096 ++ (254 ∷ 255 ∷ (zeros 30 ++ (1 ∷ 0 ∷ []))))))))
+    ∷ (zeros 1270 ++ (network ++ (host ++ (broadcast ++ (zeros 8096 ++ (254 ∷ 255 ∷ (zeros 30 ++ (1 ∷ 0 ∷ 0 ∷ 3 ∷ zeros 30))))))))
 
 pub up-leaves : (step up (start 0 0)).words ≡ up_words
 unfolding computing
@@ -199,7 +199,7 @@ refusals =
     ∷ dump4_begin_call 31 (0 ∷ 0 ∷ 0 ∷ []) 1 (start 0 0)
     ∷ dump4_begin_call 8160 (0 ∷ 0 ∷ 0 ∷ []) 257 (start 0 0)
     -- 201, before 202: a count of addresses over 64
-    ∷ dump4_begin_call 0 (5 ∷ 5 ∷ 5 ∷ []) 0 (65 ∷ zeros 9508)
+    ∷ dump4_begin_call 0 (5 ∷ 5 ∷ 5 ∷ []) 0 (65 ∷ zeros 9540)
     -- 202: no row asked for, or over 256
     ∷ dump4_begin_call 0 (5 ∷ 5 ∷ 5 ∷ []) 0 (start 0 0)
     ∷ dump4_next_call 8192 (5 ∷ 5 ∷ 5 ∷ []) 257 (start 0 0)

@@ -1,17 +1,18 @@
 -- What the change count tells of a call and of a run: `count-rises`, `count-tells`.
 -- Assumes nothing.
-use Rattle.std.specs.Prelude.{ℕ, suc, ◌+◌, ◌*◌, ◌<◌, ◌≤◌, ◌≡◌, refl, Bool, true, false, cond, not, ◌&&◌, List, [], ◌∷◌, ltb, get_or, drop}
+use Rattle.std.specs.Prelude.{ℕ, suc, ◌+◌, ◌*◌, ◌<◌, ◌≤◌, ◌≡◌, refl, Bool, true, false, cond, not, ◌&&◌, List, [], ◌∷◌, ◌++◌, ltb, length, get_or, drop}
 use Rattle.std.proofs.Common.{sym, ap, ap₂, subst, ◌∙◌, arith, drop_at, get_or-take, lt-ltb}
+use Rattle.std.proofs.Math.ListN.{get_or-append}
 use Rattle.lists.specs.Lists.{eq_row, span}
 use Rattle.lists.specs.Bools.{cond_map, cond-case, fails}
 use Rattle.lists.specs.All.{eq_row-refl, eq_row-true}
 use Rattle.definition.specs.State.{State}
-use Rattle.definition.specs.Words.{base_size, count_size, encode, decode, base, state_of, largest_count, change_count, count_words, changed, counted, leaves}
+use Rattle.definition.specs.Words.{base_size, count_size, encode, decode, base, state_of, row_counts, largest_count, change_count, count_words, changed, counted, leaves}
 use Rattle.definition.specs.Call.{Call}
 use Rattle.definition.specs.Step.{Result, Checks, Action, changes, replies, lists, checked, result, roomy, semantics, step}
 use Rattle.definition.specs.Preservation.Encode.{Admissible, encodable, length-encode, decode-encode}
 use Rattle.definition.proofs.Preservation.Change.{Acts, lawful}
-use Rattle.definition.proofs.Preservation.Step.{Held, good-result, base-leaves, leaves-decode, checked-held, checked-sound, acted, perform-case}
+use Rattle.definition.proofs.Preservation.Step.{Held, good-result, length-counted, base-leaves, leaves-decode, checked-held, checked-sound, acted, perform-case}
 use Rattle.definition_parts.specs.Statement.{Act, words_after, CountRises, CountTells, Unchanged}
 
 -- ---- a call: the count doesn't fall, and stands below the largest only where every word stays
@@ -42,8 +43,15 @@ unfolding span
 held-number w =
     ap₂ (λ (a b : ℕ). a + b * 4294967296) (get_or-take count_size (drop base_size w) 0 0 (omega arith)) (get_or-take count_size (drop base_size w) 1 0 (omega arith))
 
-left-number : (w : List ℕ) (st : State) → Admissible st → change_count (leaves w st) ≡ number_in (counted (changed w st) w)
-left-number w st g = ap number_in (drop_at (encode st) (counted (changed w st) w) base_size (length-encode st (encodable g)))
+-- whatever stands behind them
+number-front : (l m : List ℕ) → length l ≡ count_size → number_in (l ++ m) ≡ number_in l
+number-front l m h =
+    ap₂ (λ (a b : ℕ). a + b * 4294967296) (get_or-append l m 0 0 (omega arith)) (get_or-append l m 0 1 (omega arith))
+
+left-number : (w : List ℕ) (st : State) → Held w → Admissible st → change_count (leaves w st) ≡ number_in (counted (changed w st) w)
+left-number w st h g =
+    ap number_in (drop_at (encode st) (counted (changed w st) w ++ row_counts st) base_size (length-encode st (encodable g)))
+    ∙ number-front (counted (changed w st) w) (row_counts st) (length-counted (changed w st) w h.long)
 
 counted-rises-by : (b : Bool) (w : List ℕ) → number_in (counted b w) ≡ cond (b && ltb (change_count w) largest_count) (suc (change_count w)) (change_count w)
 unfolding counted
@@ -54,10 +62,10 @@ counted-rises-by b w =
 leaves-rises : (w : List ℕ) (st : State) → Held w → Admissible st → Rises w (leaves w st)
 unfolding changed
 leaves-rises w st h g =
-    left-number w st g
+    left-number w st h g
     ∙ counted-rises-by (changed w st) w
     ∙ ap (λ (v : List ℕ). cond (not (eq_row (base w) v) && ltb (change_count w) largest_count) (suc (change_count w)) (change_count w))
-    (sym (base-leaves w st g))
+    (sym (base-leaves w st (encodable g)))
 
 -- a change below the largest is one more
 counted-one : (w : List ℕ) → change_count w < largest_count → number_in (counted true w) ≡ suc (change_count w)
@@ -81,18 +89,18 @@ unchanged w st e = eq_row-true (base w) (encode st) (not-false (eq_row (base w) 
 -- the words that a state leaves are the old ones where those of its lists are
 leaves-same : (w : List ℕ) (st : State) → Held w → Admissible st → base (leaves w st) ≡ base w → leaves w st ≡ w
 leaves-same w st h g e =
-    let is : state_of w ≡ st = ap decode (sym e ∙ base-leaves w st g) ∙ decode-encode st (encodable g) in
+    let is : state_of w ≡ st = ap decode (sym e ∙ base-leaves w st (encodable g)) ∙ decode-encode st (encodable g) in
     ap (leaves w) (sym is) ∙ leaves-decode w h
 
 leaves-tells : (w : List ℕ) (st : State) → Held w → Admissible st → Tells w (leaves w st)
 leaves-tells w st h g =
     record {
-      rises = omega (arith, left-number w st g, counted-rises (changed w st) w);
+      rises = omega (arith, left-number w st h g, counted-rises (changed w st) w);
       same = λ e k.
           let idle : changed w st ≡ false =
-          fails (changed w st) (λ t. omega (arith, left-number w st g, counted-one w k, ap (λ (b : Bool). number_in (counted b w)) t))
+          fails (changed w st) (λ t. omega (arith, left-number w st h g, counted-one w k, ap (λ (b : Bool). number_in (counted b w)) t))
           in
-          leaves-same w st h g (base-leaves w st g ∙ sym (unchanged w st idle));
+          leaves-same w st h g (base-leaves w st (encodable g) ∙ sym (unchanged w st idle));
     }
 
 -- what holds of the words that stay, and of those that a state leaves, holds of a call, whatever the words
@@ -114,7 +122,7 @@ pub step-tells : (c : Call) (w : List ℕ) → Tells w (step c w).words
 step-tells c w = step-case (Tells w) c w (stays-tells w) (leaves-tells w)
 
 -- a call that leaves the words of the lists leaves them all
-step-same : (c : Call) (w : List ℕ) → base (step c w).words ≡ base w → (step c w).words ≡ w
+pub step-same : (c : Call) (w : List ℕ) → base (step c w).words ≡ base w → (step c w).words ≡ w
 step-same c w = step-case (λ (v : List ℕ). base v ≡ base w → v ≡ w) c w (λ e. refl) (leaves-same w)
 
 -- one call after the other

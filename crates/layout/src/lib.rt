@@ -64,14 +64,17 @@ pub const ROUTES_AT: usize = ADDRESSES_AT + ADDRESS_LIMIT * ADDRESS_WORDS;
 
 pub const TABLES_AT: usize = ROUTES_AT + ROUTE_LIMIT * ROUTE_WORDS;
 
-// The words of the three lists; behind them the change count's low and high word; and those of a state.
+// The words of the three lists; behind them the change count's low and high word, and a row count for each place in the list of
+// tables; and those of a state.
 pub const BASE_WORDS: usize = TABLES_AT + TABLE_LIMIT;
 
 pub const COUNT_LOW: usize = BASE_WORDS;
 
 pub const COUNT_HIGH: usize = COUNT_LOW + 1;
 
-pub const STATE_WORDS: usize = COUNT_HIGH + 1;
+pub const ROW_COUNTS_AT: usize = COUNT_HIGH + 1;
+
+pub const STATE_WORDS: usize = ROW_COUNTS_AT + TABLE_LIMIT;
 
 // The buffers: the event rows that a call may need at most, and a listing of all routes.
 pub const EVENT_ROWS: usize = 384;

@@ -1,15 +1,16 @@
 -- What the definitions say of lists, in the library's words.
 -- Assumes nothing.
-use Rattle.std.specs.Prelude.{ℕ, ◌≡◌, ◌<◌, refl, Bool, true, false, cond, ◌||◌, ◌&&◌, List, [], ◌∷◌, filter, Option, Some, None, Result, Ok, Err, position, length, nat_lt}
-use Rattle.std.proofs.Common.{ap, sym, one-add, arith}
+use Rattle.std.specs.Prelude.{ℕ, ◌≡◌, ◌<◌, refl, Bool, true, false, cond, ◌||◌, ◌&&◌, List, [], ◌∷◌, filter, Option, Some, None, Result, Ok, Err, position, length, get_or, nat_lt}
+use Rattle.std.proofs.Common.{ap, sym, ◌∙◌, one-add, arith}
 use Rattle.std.proofs.lemmas.Bool.{ltb-true, ltb-false}
 use Rattle.std.proofs.Math.Option as Own
 use Rattle.std.proofs.Math.Option.{none, some}
+use Rattle.std.proofs.Math.ListN.{get_elem?}
 use Rattle.std.specs.List.{find, list_any, list_all, position_or_len}
 use Rattle.std.proofs.lemmas.List.Recursion.{is_position_or_len}
 use denote.Ref.{Bor}
 use Rattle.lists.specs.Lists.{all, any, keep, first}
-use Rattle.lists.specs.Place.{place_of, place_le}
+use Rattle.lists.specs.Place.{place_of, place_le, first-at, nothing-from, something_at}
 
 -- the definitions' option of the library's
 abbrev pub own : {A : Type 0} → Option A → Own.Option A
@@ -59,9 +60,17 @@ module _ {A : Type 0} (p : A → Bool) where
       go n true t e = let same : n ≡ i = cc in (sym same, omega (arith, ltb-true n (length l) t))
       go n false t e = cc
 
+  pub found-first : (l : List A) (i : ℕ) (d : A) → position p l ≡ Some i → first p l ≡ some (get_or l i d)
+  found-first l i d h =
+      let at = found-place l i h in
+      first-at p l ∙ ap (get_elem? l) (sym at.0) ∙ something_at l i d at.1
+
   pub missing-place : (l : List A) → position p l ≡ None → place_of p l ≡ length l
   missing-place l h = go (position_or_len p l) (nat_lt (position_or_len p l) (length l)) refl h (place_position l)
     where
       go : (n : ℕ) (b : Bool) → nat_lt n (length l) ≡ b → cond b (Some n) None ≡ None → place_of p l ≡ n → place_of p l ≡ length l
       go n true t e f = cc
       go n false t e f = omega (arith, ltb-false n (length l) t, place_le p l)
+
+  pub missing-first : (l : List A) → position p l ≡ None → first p l ≡ none
+  missing-first l h = first-at p l ∙ nothing-from l (place_of p l) (omega (arith, missing-place l h))

@@ -38,6 +38,9 @@ unfolding zeros
 zeros_append zero n = ap zeros (sym (zero-add n))
 zeros_append (suc m) n = ap (λ (l : List ℕ). 0 ∷ l) (zeros_append m n) ∙ ap zeros (sym (suc-add m n))
 
+pub drop-zeros : (m n : ℕ) → drop m (zeros (m + n)) ≡ zeros n
+drop-zeros m n = ap (drop m) (sym (zeros_append m n)) ∙ drop_at (zeros m) (zeros n) m (length-zeros m)
+
 -- ---- pad
 pub pad_nil : (n : ℕ) → pad n [] ≡ zeros n
 unfolding pad

@@ -168,7 +168,7 @@ fn refusals(rt: &impl Print) {
     let a = row(0x0a020006, 0x0a020006, 24, 0, 1);
     let chosen = Answer(call_records::select4_words(&s[1..], 0, 0, 0));
     let primary = Answer(call_records::primary_of_words(&s[1..], &a).map(Some));
-    let _ = println!(rt; "a state of 9,506 words: {chosen} {primary}");
+    let _ = println!(rt; "a state without its first word: {chosen} {primary}");
     let primary = Answer(call_records::primary_of_words(&s, &a[1..]).map(Some));
     let _ = println!(rt; "a row of 19 words: {primary}");
     let chosen = Answer(call_records::select4_words(&s, 0, 0, 256));

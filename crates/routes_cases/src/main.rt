@@ -24,6 +24,7 @@ fn main(rt: HostRuntime) {
         "nothing",
         "unordered",
         "kind4",
+        "counts",
         ".",
     ] {
         print(&rt, path);

@@ -1,11 +1,12 @@
-// The change count, in the two words behind a state's lists (document 02, Paper 6).
+// What stands behind a state's lists: the change count, in two words (document 02, Paper 6), and the row counts, made anew where a call
+// changed something (Paper 8).
 #![tactic(auto)]
 
-ghost use Rattle.std.specs.Prelude.{◌≡◌, ◌+◌, ◌*◌, true, length};
+ghost use Rattle.std.specs.Prelude.{◌≡◌, ◌+◌, ◌*◌, ◌++◌, true, length};
 ghost use Rattle.lists.specs.Lists.{put};
-ghost use Rattle.definition.specs.Words.{base_size, state_size, change_count, counted};
+ghost use Rattle.definition.specs.Words.{base_size, state_size, base, state_of, well_formed, change_count, counted, row_counts};
 
-use layout::{COUNT_HIGH, COUNT_LOW};
+use layout::{BASE_WORDS, COUNT_HIGH, COUNT_LOW, ROW_COUNTS_AT};
 
 // At the largest it stops.
 pub const LARGEST: u64 = u64::MAX;
@@ -26,7 +27,7 @@ pub fn read(state: &[u32]) -> u64
 }
 
 // One change more.
-pub fn count(state: &mut [u32])
+fn count(state: &mut [u32])
     requires { length state.old ≡ state_size }
     ensures { state.new ≡ put base_size (counted true state.old) state.old }
 {
@@ -35,4 +36,14 @@ pub fn count(state: &mut [u32])
     };
     state[COUNT_LOW] = (after % 4_294_967_296) as u32;
     state[COUNT_HIGH] = (after / 4_294_967_296) as u32;
+}
+
+// The lists have changed: that is counted, and so are the rows of each table.
+pub fn settle(state: &mut [u32])
+    requires { length state.old ≡ state_size }
+    ensures { well_formed (base state.old) ≡ true → state.new ≡ base state.old ++ (counted true state.old ++ row_counts (state_of state.old)) }
+{
+    count(state);
+    let counts = state_tally::row_counts(&state[..BASE_WORDS]);
+    words::store(state, ROW_COUNTS_AT, &counts);
 }

@@ -5,7 +5,7 @@ use Rattle.std.proofs.Math.Path.{refl, sym}
 use Rattle.std.proofs.Common.{ap, ◌∙◌, arith, le-leb, length-drop, length-take-le}
 use Rattle.std.proofs.Math.Nat.{mul-div_cancel_left}
 use Rattle.std.specs.Simd.{first_chunks}
-use Rattle.rows.specs.Rows.{chunks-chop}
+use Rattle.state_tally.specs.Cut.{part-size, cut}
 use Rattle.std.proofs.Math.Bool.{true, false}
 use Rattle.std.proofs.lemmas.Bool.{lt-leb}
 use Rattle.lists.specs.Lists.{Row, all, span, chop, all_zero}
@@ -52,9 +52,6 @@ module _ (w : List ℕ) where
       off false b c d = refl
 
 -- ---- the parts as the code lends them
-part-size : (a k : ℕ) → a + k - a ≡ k
-part-size a k = omega arith
-
 pub unused-tests : (w : List ℕ) {a r t : ℕ} {x y z : Bool} → length w ≡ base_size → a ≡ get_or w 0 0 → r ≡ get_or w 1 0 → t ≡ get_or w 2 0
     → x ≡ all_zero (take (routes_at - (3 + 20 * a)) (drop (3 + 20 * a) w)) → y ≡ all_zero (take (tables_at - (routes_at + 32 * r)) (drop (routes_at + 32 * r) w))
     → z ≡ all_zero (take (length w - (tables_at + t)) (drop (tables_at + t) w)) → (x && y && z) ≡ unused_zero w
@@ -64,19 +61,6 @@ unused-tests w {a} {r} {t} l ea er et ex ey ez =
     let sr : tables_at - (routes_at + 32 * r) ≡ routes_size - 32 * r = omega arith in
     let st : length w - (tables_at + t) ≡ table_limit - t = omega arith in
     rw (ex, ey, ez, sa, sr, st, ea, er, et)
-
--- rows cut from the words, as the code lends them
-cut : (at k n : ℕ) (w : List ℕ) (l : List Row) → 0 < k → at + k * n ≤ length w → l ≡ first_chunks k (length (take (at + k * n - at) (drop at w)) / k) (take (at + k * n - at) (drop at w)) → l ≡ chop k n (drop at w)
-unfolding span
-cut at k n w l p b e =
-    let part : take (at + k * n - at) (drop at w) ≡ take (k * n) (drop at w) = ap (λ (m : ℕ). take m (drop at w)) (part-size at (k * n)) in
-    let long : length (take (k * n) (drop at w)) ≡ k * n = length-take-le (k * n) (drop at w) (rw length-drop (omega arith)) in
-    let many : length (take (k * n) (drop at w)) / k ≡ n = ap (λ (m : ℕ). m / k) long ∙ mul-div_cancel_left n p in
-    e
-    ∙ ap (λ (x : List ℕ). first_chunks k (length x / k) x) part
-    ∙ ap (λ (m : ℕ). first_chunks k m (take (k * n) (drop at w))) many
-    ∙ chunks-chop k n (take (k * n) (drop at w))
-    ∙ chop-part at k n w b
 
 pub form_parts : (w : List ℕ) {na nr nt : ℕ} {la lr : List Row} {a r n u : Bool} → length w ≡ base_size → na ≡ get_or w 0 0 → nr ≡ get_or w 1 0 → nt ≡ get_or w 2 0 → na ≤ 64 → nr ≤ 256 → nt ≤ 32
     → la ≡ first_chunks 20 (length (take (3 + 20 * na - 3) (drop 3 w)) / 20) (take (3 + 20 * na - 3) (drop 3 w))

@@ -1,12 +1,13 @@
 // Whether words are a well-formed state. Every call asks it: each row in use is looked at, a route beside the next one, and
-// where that has no later place, beside those of its own place behind it; the words not in use are scanned.
+// where that has no later place, beside those of its own place behind it; the words not in use are scanned; and the rows of each table
+// are counted.
 #![tactic(auto)]
 
 ghost use Rattle.std.specs.Prelude.{◌≡◌, true, not, ◌&&◌, ◌∷◌, ◌+◌, ◌*◌, ◌≤◌, ◌<◌, eqb, length, drop};
 ghost use Rattle.lists.specs.Lists.{Row, all, among, eq_row};
 ghost use Rattle.layout.specs.Address.{fit_address};
 ghost use Rattle.layout.specs.Route.{fit_route};
-ghost use Rattle.definition.specs.Words.{state_size, formed, ordered, distinct, none_twice, unused_zero, well_formed, address_count, route_count, table_count, base_size};
+ghost use Rattle.definition.specs.Words.{state_size, base, counts_true, formed, ordered, distinct, none_twice, unused_zero, well_formed, address_count, route_count, table_count, base_size};
 ghost use Rattle.definition.specs.Step.{checks};
 ghost use Rattle.refusal.specs.Refusal.{Refuses};
 ghost use Rattle.state_well_formed.specs.Place.{in_place};
@@ -14,8 +15,8 @@ ghost use Rattle.state_well_formed.specs.Twice.{marked};
 
 use layout::{
     ADDRESS_COUNT, ADDRESS_LIMIT, ADDRESS_WORDS, ADDRESSES_AT, AddressRow, BASE_WORDS, ROUTE_COUNT,
-    ROUTE_LIMIT, ROUTE_WORDS, ROUTES_AT, RouteRow, STATE_WORDS, TABLE_COUNT, TABLE_LIMIT,
-    TABLES_AT,
+    ROUTE_LIMIT, ROUTE_WORDS, ROUTES_AT, ROW_COUNTS_AT, RouteRow, STATE_WORDS, TABLE_COUNT,
+    TABLE_LIMIT, TABLES_AT,
 };
 use refusal::Refusal;
 
@@ -129,7 +130,8 @@ fn unused_zero(s: &[u32]) -> bool
     words::all_zero(&s[a..ROUTES_AT]) & words::all_zero(&s[r..TABLES_AT]) & words::all_zero(&s[t..])
 }
 
-pub fn well_formed(s: &[u32]) -> bool
+// The words of the lists.
+fn well_formed(s: &[u32]) -> bool
     requires { length s.now ≡ base_size }
     ensures { result ≡ well_formed s.now }
 {
@@ -155,6 +157,23 @@ pub fn well_formed(s: &[u32]) -> bool
         & unused_zero(s)
 }
 
+// The row counts behind them.
+fn counts_true(s: &[u32]) -> bool
+    requires { (length s.now ≡ state_size) × (well_formed (base s.now) ≡ true) }
+    ensures { result ≡ counts_true s.now }
+{
+    let counts = state_tally::row_counts(&s[..BASE_WORDS]);
+    s[ROW_COUNTS_AT..] == counts[..]
+}
+
+// Of words that are as many as a state's.
+pub fn formed(s: &[u32]) -> bool
+    requires { length s.now ≡ state_size }
+    ensures { result ≡ formed s.now }
+{
+    well_formed(&s[..BASE_WORDS]) && counts_true(s)
+}
+
 // What any words get: WrongLength where they are not as many as a state's, Malformed where they are not well-formed.
 pub fn check(s: &[u32]) -> Result<(), Refusal>
     ensures { Refuses result (checks (eqb (length s.now) state_size) (formed s.now) 0) }
@@ -162,5 +181,5 @@ pub fn check(s: &[u32]) -> Result<(), Refusal>
     if s.len() != STATE_WORDS {
         return Err(Refusal::WrongLength);
     }
-    refusal::unless(well_formed(&s[..BASE_WORDS]), Refusal::Malformed)
+    refusal::unless(formed(s), Refusal::Malformed)
 }

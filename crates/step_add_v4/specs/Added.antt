@@ -1,14 +1,13 @@
 -- add_v4 by its cases: an address that is there, changed or refused, and a new one.
 -- Assumes nothing.
 use Rattle.std.specs.Prelude.{ℕ, ◌≡◌, ◌≢◌, refl, true, false, [], Some, None, Ok, Err, eqb, get_or}
-use Rattle.std.proofs.Common.{sym, ap, ◌∙◌, arith, eq-eqb, ne_eqb}
+use Rattle.std.proofs.Common.{ap, ◌∙◌, eq-eqb, ne_eqb}
 use Rattle.std.specs.List.{position}
-use Rattle.std.proofs.Math.Option.{none, some}
-use Rattle.std.proofs.Math.ListN.{get_elem?}
+use Rattle.std.proofs.Math.Option.{some}
 use Rattle.lists.specs.Bools.{test-case, cond-true, cond-false}
 use Rattle.lists.specs.Lists.{Row, first}
-use Rattle.lists.specs.Place.{place_of, first-at, nothing-from, something_at}
-use Rattle.lists.specs.Library.{found-place, missing-place}
+use Rattle.lists.specs.Place.{place_of}
+use Rattle.lists.specs.Library.{found-place, found-first, missing-first}
 use Rattle.layout.specs.Request.{replace_asked, up_at_add_v4}
 use Rattle.definition.specs.State.{State}
 use Rattle.definition.specs.Words.{within}
@@ -29,9 +28,7 @@ module _ (q : Row) (clock : ℕ) (st : State) where
     at_place = (found-place (same_address q) st.addresses i found).0
 
     there : first (same_address q) st.addresses ≡ some (get_or st.addresses i [])
-    there =
-        first-at (same_address q) st.addresses ∙ ap (get_elem? st.addresses) (sym at_place)
-        ∙ something_at st.addresses i [] (found-place (same_address q) st.addresses i found).1
+    there = found-first (same_address q) st.addresses i [] found
 
     pub added-change : replace_asked q ≡ 1 → {a b : Change} {r : Answer}
         → Comes (goes (change_v4 q (get_or st.addresses i []) clock st)) a b r → Comes (add_v4 q clock st) a b r
@@ -47,10 +44,7 @@ module _ (q : Row) (clock : ℕ) (st : State) where
       → {a b : Change} {r : Answer} → Comes (goes (new_address new (eqb (up_at_add_v4 q) 1) st)) a b r → Comes (add_v4 q clock st) a b r
   unfolding add_v4
   added_new missing new e c =
-      let absent : first (same_address q) st.addresses ≡ none =
-      first-at (same_address q) st.addresses ∙ nothing-from st.addresses (place_of (same_address q) st.addresses) (omega (arith, missing-place (same_address q) st.addresses missing))
-      in
-      rw absent (rw e at c)
+      rw (missing-first (same_address q) st.addresses missing) (rw e at c)
 
 -- ---- the loopback's
 -- a refusal of the reference's is a step that does nothing

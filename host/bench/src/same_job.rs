@@ -1,19 +1,20 @@
 //! The Rust doing the port's job: lent words in, lent words out. They are
 //! checked, the lists are decoded, the unchanged Rust answers, and what a
 //! changing call left and told is written back; if that changed a word of the
-//! lists, the change count goes up. Rows are compared only where they are
-//! alike. 203 is read off the lengths after the call, which is one case short
-//! of exact: a changed priority at 256 routes.
+//! lists, the change count goes up and the row counts are made anew. Rows are
+//! compared only where they are alike. 203 is read off the lengths after the
+//! call, which is one case short of exact: a changed priority at 256 routes.
 //!
 //! Two ways: as one writes it, and tuned: unused words or-ed together in
 //! place of a search for one that isn't 0 (which no compiler vectorises), no
 //! list decoded that the call doesn't read, only rows that fell away
-//! cleared, only words in use compared.
+//! cleared, only words in use compared, a row's table looked for only among
+//! those with its low byte.
 use oracle::call::{Buffer, Call, Reply};
 use oracle::fit;
 use oracle::words::{
-    ADDRESSES_AT, BASE_WORDS, LIMITS, ROUTES_AT, STATE_WORDS, TABLES_AT, change_count,
-    set_change_count,
+    ADDRESSES_AT, BASE_WORDS, LIMITS, ROUTES_AT, ROW_COUNTS_AT, STATE_WORDS, TABLE_LIMIT,
+    TABLES_AT, change_count, set_change_count,
 };
 use reference::{Arguments, Native};
 
@@ -72,6 +73,8 @@ pub fn call<const TUNED: bool>(call: &Call, state: &mut [u32], buffer: &mut [u32
         write::<TUNED>(&native, state);
         if before != in_use::<TUNED>(state) {
             set_change_count(state, change_count(state).saturating_add(1));
+            let counts = row_counts::<TUNED>(state);
+            state[ROW_COUNTS_AT..].copy_from_slice(&counts);
         }
     }
     let [number, present, value, second] = told.write(buffer);
@@ -158,6 +161,37 @@ pub fn well_formed<const TUNED: bool>(state: &[u32]) -> bool {
         && rows::<20>(addresses)[..a].iter().all(address)
         && routes_fit(&rows::<32>(routes)[..r])
         && (1..t).all(|i| !tables[..i].contains(&tables[i]))
+        && state[ROW_COUNTS_AT..] == row_counts::<TUNED>(state)
+}
+
+/// How many rows each listed table has, of lists within their limits.
+fn row_counts<const TUNED: bool>(state: &[u32]) -> [u32; TABLE_LIMIT] {
+    let [_, r, t] = counts(state);
+    let rows = &rows::<32>(&state[ROUTES_AT..])[..r];
+    let tables = &state[TABLES_AT..][..t];
+    let mut counted = [0; TABLE_LIMIT];
+    if !TUNED {
+        for (count, table) in counted.iter_mut().zip(tables) {
+            *count = rows.iter().map(|row| u32::from(row[0] == *table)).sum();
+        }
+        return counted;
+    }
+    // the last place with each low byte and 0, and before each place the one
+    // before it
+    let (mut last, mut before) = ([0_u8; 256], [0_u8; TABLE_LIMIT + 1]);
+    for (place, table) in (1_u8..).zip(tables) {
+        before[usize::from(place)] = std::mem::replace(&mut last[(table & 255) as usize], place);
+    }
+    for row in rows {
+        let mut place = usize::from(last[(row[0] & 255) as usize]);
+        while place > 0 && tables[place - 1] != row[0] {
+            place = before[place].into();
+        }
+        if place > 0 {
+            counted[place - 1] += 1;
+        }
+    }
+    counted
 }
 
 fn zero<const TUNED: bool>(words: &[u32]) -> bool {

@@ -10,6 +10,7 @@ use oracle::model::model;
 use oracle::netmask::{self, Masked};
 use oracle::part::{self, Ask, Lister, Take};
 use oracle::port::{self, Bytes, Model, WordPort, make};
+use oracle::words::{BASE_WORDS, ROW_COUNTS_AT};
 use std::slice::{from_raw_parts, from_raw_parts_mut};
 
 #[repr(C)]
@@ -181,8 +182,14 @@ fn run<E: Element>(call: Call, lent: Lent<E>) -> Reply {
             lent.state.as_mut_ptr().sub(1).write(E::default());
         },
         "the count not written back" if changing && !E::ALIGNED => {
-            let count = before.len().saturating_sub(8);
-            lent.state[count..].copy_from_slice(&before[count..]);
+            let counts = 4 * BASE_WORDS..4 * ROW_COUNTS_AT;
+            if let Some(count) = before.get(counts.clone()) {
+                lent.state[counts].copy_from_slice(count);
+            }
+        }
+        "the row counts not written back" if changing && !E::ALIGNED => {
+            let counts = before.len().min(4 * ROW_COUNTS_AT);
+            lent.state[counts..].copy_from_slice(&before[counts..]);
         }
         "writes the request" => lent.request.fill(E::default()),
         "writes what it reads" if !changing => lent.state.fill(E::default()),
@@ -482,11 +489,11 @@ pub extern "C" fn prefix(mask: u32) -> Reply {
 pub extern "C" fn sizes() -> Reply {
     Reply {
         number: 0,
-        present: 7,
+        present: 8,
         value: if fault() == "other sizes" {
-            9_507
-        } else {
             9_509
+        } else {
+            9_541
         },
         second: 384,
     }

@@ -1,7 +1,8 @@
-//! The planner's status page: the routes a few rows at a time while guests go
-//! on with their calls, and once more where one of them changed something.
+//! The planner's status page: how many routes each table has, then the routes
+//! a few rows at a time while guests go on with their calls, and once more
+//! where one of them changed something.
 use core::net::Ipv4Addr;
-use naskrefim::{Addresses, Ask4, Parts, Refused};
+use naskrefim::{Addresses, Ask4, Parts, Refused, Table};
 
 /// Rows at a time.
 const ROWS: usize = 2;
@@ -53,6 +54,10 @@ fn listed<'a>(
     guests: &mut impl Iterator<Item = &'a Guest>,
 ) -> Result<bool, Refused> {
     println!("the routes, {} changes so far:", lo.changes());
+    let tables: Vec<Table> = lo.tables().collect();
+    for Table { table, rows } in &tables {
+        println!("  table {table} has {rows}");
+    }
     let (start, mut shown) = (lo.dump4(), Vec::new());
     let mut parts = Parts::of(ROWS)?;
     while let Some(part) = parts.next(lo) {
@@ -69,6 +74,10 @@ fn listed<'a>(
         }
     }
     assert_eq!(shown, start, "what there was at the start");
+    for Table { table, rows } in tables {
+        let own = shown.iter().filter(|route| route.table == table);
+        assert_eq!(own.count(), rows, "as its count says");
+    }
     println!("  that is all");
     Ok(true)
 }

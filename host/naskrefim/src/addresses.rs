@@ -7,9 +7,8 @@ use crate::{Refused, Reply, Request, STATE_WORDS, words};
 use alloc::boxed::Box;
 use alloc::vec;
 use alloc::vec::Vec;
-use core::iter::Copied;
+use core::fmt;
 use core::net::Ipv4Addr;
-use core::{fmt, slice};
 
 /// The IPv4 addresses of a guest's loopback and its routing tables: at most
 /// 64 addresses, 256 routes and 32 tables.
@@ -23,7 +22,7 @@ use core::{fmt, slice};
 /// Whether the device is up is the caller's to know: [`Self::up`] and
 /// [`Self::down`] say what a change does, and requests carry it.
 ///
-/// It has 38,036 bytes for the state, and 52,224 for events from its first
+/// It has 38,164 bytes for the state, and 52,224 for events from its first
 /// change on. The latter are scratch: a clone has none, and two are equal
 /// if their addresses, routes and tables are, whatever [`Self::changes`]
 /// led to them.
@@ -44,7 +43,7 @@ impl Addresses {
     }
 
     /// The state that [`Self::words`] gave. [`Self::from_older_words`] takes
-    /// one that was kept with 9,507 words, by an older library.
+    /// one that an older library left, which has fewer words.
     ///
     /// # Errors
     /// [`Refused::UNFIT_BUFFER`] for another length,
@@ -57,32 +56,6 @@ impl Addresses {
         })
     }
 
-    /// The state of words that an older library left, which
-    /// [`Self::from_words`] refuses for their length: 9,507, without the
-    /// change count. A count of no changes is put behind them, two words of
-    /// 0. Words of today's length are taken as they are.
-    ///
-    /// # Errors
-    /// As of [`Self::from_words`].
-    ///
-    /// ```
-    /// use naskrefim::{Addresses, Refused};
-    /// let mut lo = Addresses::new();
-    /// lo.up(0)?;
-    /// let kept = &lo.words()[..9_507];
-    /// assert_eq!(Addresses::from_words(kept), Err(Refused::UNFIT_BUFFER));
-    /// let taken = Addresses::from_older_words(kept)?;
-    /// assert_eq!((&taken, taken.changes()), (&lo, 0));
-    /// # Ok::<(), Refused>(())
-    /// ```
-    pub fn from_older_words(state: &[u32]) -> Result<Self, Refused> {
-        if state.len() == COUNT_AT {
-            Self::from_words(&[state, &[0; STATE_WORDS - COUNT_AT]].concat())
-        } else {
-            Self::from_words(state)
-        }
-    }
-
     /// All words of the state, to be kept and given to
     /// [`Self::from_words`].
     #[must_use]
@@ -91,7 +64,8 @@ impl Addresses {
     }
 
     /// [`Self::from_words`] of little-endian bytes. Those that an older
-    /// library left, 38,028, are taken with eight bytes of 0 behind them.
+    /// library left, 38,028 or 38,036, are taken as words by
+    /// [`Self::from_older_words`].
     ///
     /// # Errors
     /// As there.
@@ -472,26 +446,6 @@ impl Addresses {
         RouteIter::of(&self.state[ROUTES_AT..TABLES_AT], self.state[1])
     }
 
-    /// The listed tables, the oldest first.
-    ///
-    /// ```
-    /// use naskrefim::{Addresses, Refused, TABLE_LOCAL, TABLE_MAIN};
-    /// let mut lo = Addresses::new();
-    /// lo.up(0)?;
-    /// assert!(lo.tables().eq([TABLE_MAIN, TABLE_LOCAL]));
-    /// # Ok::<(), Refused>(())
-    /// ```
-    pub fn tables(&self) -> Copied<slice::Iter<'_, u32>> {
-        let tables = &self.state[TABLES_AT..][..self.state[2] as usize];
-        tables.iter().copied()
-    }
-
-    /// Whether `table` is listed.
-    #[must_use]
-    pub fn has_table4(&self, table: u32) -> bool {
-        self.tables().any(|listed| listed == table)
-    }
-
     /// The state, and a buffer for events.
     fn lent(&mut self) -> (&mut [u32], &mut [u32]) {
         if self.events.is_empty() {
@@ -546,7 +500,8 @@ impl Clone for Addresses {
     }
 }
 
-/// Equal if all words of the lists are: the change count is left out.
+/// Equal if all words of the lists are: the change count is left out. The row
+/// counts follow from the lists.
 impl PartialEq for Addresses {
     fn eq(&self, other: &Self) -> bool {
         self.state[..COUNT_AT] == other.state[..COUNT_AT]

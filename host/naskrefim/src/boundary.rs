@@ -279,7 +279,7 @@ pub struct Sizes {
 /// use naskrefim::{EVENT_LIMIT, STATE_WORDS, sizes};
 /// let sizes = sizes();
 /// assert_eq!((sizes.state_words, sizes.event_rows), (STATE_WORDS, EVENT_LIMIT));
-/// assert_eq!(sizes.paper, 7);
+/// assert_eq!(sizes.paper, 8);
 /// ```
 #[must_use]
 pub fn sizes() -> Sizes {

@@ -12,6 +12,8 @@ pub(crate) const ROUTES_AT: usize = ADDRESSES_AT + ADDRESS_LIMIT * ADDRESS_WORDS
 pub(crate) const TABLES_AT: usize = ROUTES_AT + ROUTE_LIMIT * ROUTE_WORDS;
 /// And its change count, the low word first.
 pub(crate) const COUNT_AT: usize = TABLES_AT + TABLE_LIMIT;
+/// And the row counts of its tables.
+pub(crate) const ROW_COUNTS_AT: usize = COUNT_AT + 2;
 
 /// The word of the prefix, or of the netmask, in the two requests.
 pub(crate) const ADD_V4_PREFIX: usize = 2;

@@ -52,8 +52,8 @@
 //! | `up` | 94,208 | 184,320 |
 //! | `down` | 4,096 | 40,960 |
 //! | `add_v4` | 45,056 | 135,168 |
-//! | `del_v4` | 4,096 | 94,208 |
-//! | `expire` | 4,096 | 94,208 |
+//! | `del_v4` | 4,096 | 98,304 |
+//! | `expire` | 4,096 | 98,304 |
 //! | `add_route4` | 4,096 | 94,208 |
 //! | `del_route4` | 4,096 | 94,208 |
 //! | `dump4` | 8,192 | 77,824 |
@@ -91,6 +91,7 @@ mod records;
 mod refused;
 mod request;
 mod rows;
+mod tables;
 
 pub use addresses::Addresses;
 pub use boundary::{Reply, Sizes, bytes, prefix, sizes, words};
@@ -105,6 +106,7 @@ pub use records::{Ask4, Event, Kind, Life, Lifetimes, Metrics, Route4, Select4, 
 pub use refused::Refused;
 pub use request::Request;
 pub use rows::{AddressIter, RouteIter};
+pub use tables::Table;
 
 /// The file that was linked.
 pub const LIBRARY: &str = env!("NASKREFIM_LINKED");
@@ -126,9 +128,9 @@ pub const ROUTE_WORDS: usize = 32;
 pub const EVENT_WORDS: usize = 34;
 
 /// The words of a state: three counts, the address rows, the route rows,
-/// the tables, the change count's low and high word.
+/// the tables, the change count's low and high word, the tables' row counts.
 pub const STATE_WORDS: usize =
-    3 + ADDRESS_LIMIT * ADDRESS_WORDS + ROUTE_LIMIT * ROUTE_WORDS + TABLE_LIMIT + 2;
+    3 + ADDRESS_LIMIT * ADDRESS_WORDS + ROUTE_LIMIT * ROUTE_WORDS + TABLE_LIMIT + 2 + TABLE_LIMIT;
 /// The fewest words of an event buffer.
 pub const EVENT_BUFFER_WORDS: usize = EVENT_LIMIT * EVENT_WORDS;
 /// The fewest words of a listing buffer.

@@ -3,7 +3,7 @@
 use core::net::Ipv4Addr;
 use naskrefim::{
     ALLOWANCE_LIMIT, Addresses, Ask4, Event, FOREVER, FUZZ, Kind, Lifetimes, Metrics, Refused,
-    STATE_WORDS, Select4, V4,
+    STATE_WORDS, Select4, TABLE_LIMIT, V4,
 };
 
 const SECOND: u64 = 1_000_000_000;
@@ -224,9 +224,10 @@ fn words_are_kept_and_taken_up_again() {
         Addresses::from_bytes(&lo.to_bytes()[1..]),
         Err(Refused::UNFIT_BUFFER)
     );
-    // up to the last table; behind it is the change count, and any is
-    // well-formed
-    for at in [0, 2, 1288, STATE_WORDS - 3] {
+    // up to the last table, and the row counts; between them is the change
+    // count, and any is well-formed
+    let counts = STATE_WORDS - TABLE_LIMIT;
+    for at in [0, 2, 1288, counts - 3, counts, counts + 2, STATE_WORDS - 1] {
         let mut words = *lo.words();
         words[at] = 77;
         assert_eq!(Addresses::from_words(&words), Err(Refused::UNFIT_STATE));

@@ -55,7 +55,8 @@ fn sizes_are_the_crates_and_the_librarys() {
     assert_eq!(of("ADDRESSES_AT"), 3);
     assert_eq!(of("ROUTES_AT"), 3 + ADDRESS_LIMIT * ADDRESS_WORDS);
     assert_eq!(of("TABLES_AT"), of("COUNT_AT") - TABLE_LIMIT);
-    assert_eq!(of("COUNT_AT"), STATE_WORDS - 2);
+    assert_eq!(of("COUNT_AT"), of("ROW_COUNTS_AT") - 2);
+    assert_eq!(of("ROW_COUNTS_AT"), STATE_WORDS - TABLE_LIMIT);
     assert_eq!(of("DUMP_INTERRUPTED"), usize::from(F_DUMP_INTR));
     let sizes = sizes();
     assert_eq!(of("STATE_WORDS"), sizes.state_words);

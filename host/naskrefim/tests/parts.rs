@@ -218,14 +218,20 @@ fn the_largest_count() {
     assert_eq!(lo.words()[COUNT], [0, 5]);
 }
 
-/// States that were kept before there was a change count.
+/// States that were kept before there was a change count, or row counts.
 #[test]
-fn states_without_a_count() {
+fn states_of_older_libraries() {
     let lo = with(2);
-    for (words, changes) in [(COUNT.start, 0), (STATE_WORDS, lo.changes())] {
+    let changes = lo.changes();
+    for (words, changes) in [
+        (COUNT.start, 0),
+        (COUNT.end, changes),
+        (STATE_WORDS, changes),
+    ] {
         let kept = &lo.words()[..words];
         let taken = Addresses::from_older_words(kept).unwrap();
         assert_eq!((&taken, taken.changes()), (&lo, changes));
+        assert!(taken.tables().eq(lo.tables()));
         // what isn't well-formed there isn't here
         for (at, word) in [(0, 65), (1, 257), (2, 33), (1, 0)] {
             let mut unfit = kept.to_vec();
@@ -234,13 +240,18 @@ fn states_without_a_count() {
             assert_eq!(refused, Err(Refused::UNFIT_STATE), "word {at} of {words}");
         }
     }
-    let kept = &lo.words()[..COUNT.start];
-    assert_eq!(Addresses::from_words(kept), Err(Refused::UNFIT_BUFFER));
-    let bytes = &lo.to_bytes()[..4 * COUNT.start];
-    assert_eq!(Addresses::from_bytes(bytes), Err(Refused::UNFIT_BUFFER));
-    let taken = Addresses::from_bytes(&[bytes, &[0; 8]].concat()).unwrap();
-    assert_eq!((&taken, taken.changes()), (&lo, 0));
-    for words in [0, 9_506, 9_508, STATE_WORDS + 1] {
+    for words in [COUNT.start, COUNT.end] {
+        let kept = &lo.words()[..words];
+        assert_eq!(Addresses::from_words(kept), Err(Refused::UNFIT_BUFFER));
+        let bytes = &lo.to_bytes()[..4 * words];
+        assert_eq!(Addresses::from_bytes(bytes), Err(Refused::UNFIT_BUFFER));
+    }
+    // what no run reaches: a row of a table that isn't listed
+    let mut kept = lo.words()[..COUNT.end].to_vec();
+    (kept[2], kept[COUNT.start - 31]) = (1, 0);
+    let taken = Addresses::from_older_words(&kept).unwrap();
+    assert!(taken.tables().eq(lo.tables().take(1)));
+    for words in [0, 9_506, 9_508, 9_510, STATE_WORDS - 1, STATE_WORDS + 1] {
         let refused = Addresses::from_older_words(&vec![0; words]);
         assert_eq!(refused, Err(Refused::UNFIT_BUFFER));
     }

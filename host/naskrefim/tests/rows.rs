@@ -52,9 +52,15 @@ fn a_full_one_shows_all_its_rows() {
         Ipv4Addr::new(10, 63, 0, 5)
     );
     // the oldest first: `up` brings 254 and 255
-    let tables: Vec<u32> = lo.tables().collect();
+    let tables: Vec<u32> = lo.tables().map(|t| t.table).collect();
     assert_eq!(tables[..4], [TABLE_MAIN, TABLE_LOCAL, 100, 101]);
     assert!(tables.iter().all(|table| lo.has_table4(*table)));
+    for Table { table, rows } in lo.tables() {
+        let own = lo.routes().filter(|r| r.table == table);
+        assert_eq!(rows, own.count(), "{table}");
+    }
+    assert_eq!(lo.tables().map(|t| t.rows).sum::<usize>(), ROUTE_LIMIT);
+    assert_eq!(lo.tables().next_back().unwrap().table, 129);
     assert!(!lo.has_table4(TABLE_DEFAULT));
     // the state's order, from both ends
     let place = |r: &Route4| (r.dst, !r.len, !r.table, !r.tos, r.priority);
@@ -75,11 +81,30 @@ fn rows_of_unlisted_tables_are_shown() {
     let mut lo = Addresses::new();
     lo.up(0).unwrap();
     let mut words = *lo.words();
-    let tables = STATE_WORDS - 2 - TABLE_LIMIT;
+    let counts = STATE_WORDS - TABLE_LIMIT;
+    let tables = counts - 2 - TABLE_LIMIT;
     (words[2], words[tables + 1]) = (1, 0);
-    let lo = Addresses::from_words(&words).unwrap();
-    assert!(lo.tables().eq([TABLE_MAIN]));
+    let refused = Addresses::from_words(&words);
+    assert_eq!(refused, Err(Refused::UNFIT_STATE), "three rows of 255");
+    words[counts + 1] = 0;
+    let mut lo = Addresses::from_words(&words).unwrap();
+    let main = Table {
+        table: TABLE_MAIN,
+        rows: 0,
+    };
+    assert!(lo.tables().eq([main]));
     assert_eq!((lo.routes().len(), lo.dump4().len()), (3, 0));
+    // a refused route lists its table, and they are counted
+    let ask = Ask4 {
+        table: TABLE_LOCAL,
+        ..Ask4::new(Ipv4Addr::LOCALHOST, 33)
+    };
+    assert_eq!(lo.add_route4(&ask, true), Err(Refused::INVALID));
+    let local = Table {
+        table: TABLE_LOCAL,
+        rows: 3,
+    };
+    assert!(lo.tables().eq([main, local]));
 }
 
 #[test]
@@ -123,5 +148,7 @@ fn it_says_what_it_holds() {
     lo.up(0).unwrap();
     let said = format!("{lo:?}");
     assert!(said.contains("127.0.0.1") && said.contains("routes4: 3"));
-    assert!(said.contains("tables4: [254, 255]"));
+    assert!(
+        said.contains("tables4: [Table { table: 254, rows: 0 }, Table { table: 255, rows: 3 }]")
+    );
 }

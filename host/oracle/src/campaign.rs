@@ -9,7 +9,7 @@ use crate::pairs;
 use crate::port::{Port, Words};
 use crate::rng::Rng;
 use crate::words::{self, STATE_WORDS};
-use crate::{examples, facts, json, linux, rfc, script, well_formed};
+use crate::{examples, facts, json, linux, rfc, script, tables, well_formed};
 use std::collections::BTreeMap;
 
 /// How much to compare.
@@ -141,7 +141,13 @@ pub fn by_hand() -> Vec<Case> {
             quiet: true,
             ..Checks::default()
         };
-        for check in [examples::check, linux::check, rfc::check, facts::check] {
+        for check in [
+            examples::check,
+            linux::check,
+            rfc::check,
+            facts::check,
+            tables::check,
+        ] {
             check(&mut checks);
         }
         assert_eq!(checks.failed, 0, "the Rust gives the examples");
@@ -185,7 +191,7 @@ pub fn shrink(port: &mut dyn Port, mut case: Case, mut found: Difference) -> (Ca
     (case, found)
 }
 
-/// A well-formed state without its count, and without each row and table,
+/// A well-formed state without its change count, and without each row and table,
 /// as far as they `part` without it.
 pub fn smallest_state(mut state: Vec<u32>, mut part: impl FnMut(&[u32]) -> bool) -> Vec<u32> {
     if state.len() != STATE_WORDS || !well_formed::state(&state) {

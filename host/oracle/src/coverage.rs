@@ -162,7 +162,8 @@ fn answer(case: &mut Case) -> crate::call::Reply {
 const FIELDS: [u32; 7] = [3, 4, 5, 6, 7, 10, 14];
 
 fn expected_unfit() -> usize {
-    TIMES * (damage::CLAUSES + FIELDS.len() * 10 + 2 * 10)
+    let row_counts = damage::row_counts().count();
+    TIMES * (damage::CLAUSES + row_counts + FIELDS.len() * 10 + 2 * 10)
 }
 
 /// Damages every clause, every kind of request, and the rows handed in, and
@@ -201,6 +202,12 @@ fn unfit(seed: u64) -> usize {
             },
         );
         let state = words::encode(&lists);
+        for (place, by) in damage::row_counts() {
+            let code = 1 + (place % 11) as u32;
+            let call = calls::of_kind(&mut rng, code, &lists, &mut host);
+            let wrong = damage::miscounted(&state, place, by);
+            expect(&call, wrong, UNFIT_STATE, "a wrong row count");
+        }
         for code in FIELDS {
             for _ in 0..10 {
                 let mut call = calls::of_kind(&mut rng, code, &lists, &mut host);

@@ -1,7 +1,7 @@
 //! Sentences of document 01 that can be read off single calls, held
 //! against the Rust on generated cases: what a refusal leaves, that calls
 //! keep a state well-formed, lookups by item 5, lifetimes by item 2. What a
-//! call leaves has the change count of document 02, Paper 6.
+//! call leaves has the counts of document 02, Papers 6 and 8.
 use crate::call::{Buffer, Call, Reply};
 use crate::compare::Case;
 use crate::generate::cases::{Cases, USUAL};
@@ -109,6 +109,8 @@ fn refusal(case: &Case, reply: &Reply, state: &[u32]) -> Result<(), String> {
     // document 02, Paper 6: "refused or not"
     let count = words::change_count(&case.state).saturating_add(1);
     words::set_change_count(&mut expected, count);
+    // Paper 8: rows that were there are counted with the table
+    words::recount(&mut expected);
     if state == expected {
         Ok(())
     } else {

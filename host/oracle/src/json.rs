@@ -14,7 +14,7 @@ use crate::port::exact;
 use crate::rng::Rng;
 use crate::script::written;
 use crate::well_formed;
-use crate::words::{self, EVENT_WORDS, ROUTE_WORDS, STATE_WORDS};
+use crate::words::{self, EVENT_WORDS, ROUTE_WORDS, ROW_COUNTS_AT, STATE_WORDS};
 use std::fmt::Write as _;
 
 const SMALL: Weights = [50, 26, 0, 0, 6, 6, 4];
@@ -190,11 +190,12 @@ fn state_text(state: &[u32]) -> String {
     if state.len() == STATE_WORDS && well_formed::state(state) {
         let lists = words::decode(state);
         return format!(
-            "{{\"addresses\":{},\"routes\":{},\"tables\":{},\"count\":{}}}",
+            "{{\"addresses\":{},\"routes\":{},\"tables\":{},\"count\":{},\"row_counts\":{}}}",
             list(lists.addresses.iter().map(|r| array(r))),
             list(lists.routes.iter().map(|r| array(r))),
             array(&lists.tables),
-            words::change_count(state)
+            words::change_count(state),
+            array(&state[ROW_COUNTS_AT..])
         );
     }
     let places = state.iter().enumerate().filter(|(_, w)| **w != 0);

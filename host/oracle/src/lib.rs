@@ -28,6 +28,7 @@ pub mod port;
 pub mod rfc;
 pub mod rng;
 pub mod script;
+pub mod tables;
 pub mod vectors;
 pub mod well_formed;
 pub mod words;

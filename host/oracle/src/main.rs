@@ -3,7 +3,7 @@
 use oracle::vectors::{MODELS, Makers};
 use oracle::{
     checks, coverage, document, events, examples, facts, faults, json, linux, messages, netmask,
-    pairs, parts, rfc, vectors,
+    pairs, parts, rfc, tables, vectors,
 };
 use std::process::ExitCode;
 use std::time::Instant;
@@ -13,6 +13,7 @@ const USAGE: &str = "usage: oracle COMMAND
   linux                  the known differences from Linux, the Rust's side
   rfc                    the known differences from RFCs, the Rust's side
   facts                  what else the Rust does that is easily missed
+  tables                 the row counts kept with the tables, by hand
   netmasks               Paper 4's rule on all 2^32 masks, and planted faults
                          in the calls with a mask
   document [N] [SEED]    sentences of document 01 on N generated cases
@@ -41,9 +42,10 @@ const USAGE: &str = "usage: oracle COMMAND
                          the same of N events
   part-list N SEED FOLDER
                          the same of N parts of listings
-  all                    all of examples, linux, rfc, facts, netmasks,
-                         document, generator, pairs, parts, messages, events,
-                         selftest, and a list of answers replayed";
+  all                    all of examples, linux, rfc, facts, tables,
+                         netmasks, document, generator, pairs, parts,
+                         messages, events, selftest, and a list of answers
+                         replayed";
 
 const CASES: usize = 30_000;
 const PAIRS: usize = 2_000;
@@ -79,6 +81,7 @@ fn command(arguments: &[String]) -> Result<bool, String> {
         "linux" => most(0).map(|()| checks::run("linux", linux::check)),
         "rfc" => most(0).map(|()| checks::run("rfc", rfc::check)),
         "facts" => most(0).map(|()| checks::run("facts", facts::check)),
+        "tables" => most(0).map(|()| checks::run("tables", tables::check)),
         "netmasks" => most(0).map(|()| checks::run("netmasks", netmask::check)),
         "document" => {
             most(2)?;
@@ -204,11 +207,12 @@ type Part = dyn Fn() -> Result<bool, String>;
 /// Everything, and one line of counts for each part.
 fn all() -> Result<bool, String> {
     let begin = Instant::now();
-    let parts: [(&str, &Part); 13] = [
+    let parts: [(&str, &Part); 14] = [
         ("examples", &|| Ok(checks::run("examples", examples::check))),
         ("linux", &|| Ok(checks::run("linux", linux::check))),
         ("rfc", &|| Ok(checks::run("rfc", rfc::check))),
         ("facts", &|| Ok(checks::run("facts", facts::check))),
+        ("tables", &|| Ok(checks::run("tables", tables::check))),
         ("netmasks", &|| Ok(checks::run("netmasks", netmask::check))),
         ("document", &|| Ok(document::run(CASES, SEED))),
         ("generator", &|| Ok(coverage::run(CASES, SEED))),

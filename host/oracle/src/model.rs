@@ -1,6 +1,7 @@
 //! The model: what each call does to lent words. 200, 201, 202, lifetimes
 //! that Linux turns down (22) and 203 in that order, then the Rust on the
-//! decoded lists, then back to words, and the change count.
+//! decoded lists, then back to words with their row counts, and the change
+//! count.
 use crate::call::{Call, Reply};
 use crate::words::{
     BASE_WORDS, LIMITS, STATE_WORDS, change_count, decode, encode_into, set_change_count,
@@ -72,9 +73,10 @@ pub fn settle(call: &Call, outcome: &Outcome, state: &mut [u32], buffer: &mut [u
     }
 }
 
-/// What a call leaves: the words of `lists`, and a count that "goes up by
-/// one for each call, refused or not, that changes an address, a row or a
-/// table, and stops at its largest value" (document 02, Paper 6).
+/// What a call leaves: the words of `lists` with their row counts, and a
+/// change count that "goes up by one for each call, refused or not, that
+/// changes an address, a row or a table, and stops at its largest value"
+/// (document 02, Paper 6). It compares the lists alone.
 pub fn leave(lists: &Lists, state: &mut [u32]) {
     let before = state[..BASE_WORDS].to_vec();
     encode_into(lists, state);

@@ -1,12 +1,14 @@
 //! Document 01's paragraph "A state is well-formed when ..", clause by
-//! clause.
+//! clause, and of document 02's Paper 8 "A wrong count makes a state not
+//! well-formed".
 use crate::words::{
-    ADDRESSES_AT, BASE_WORDS, LIMITS, ROUTES_AT, STATE_WORDS, TABLES_AT, address_at, route_at,
+    ADDRESSES_AT, BASE_WORDS, LIMITS, ROUTES_AT, ROW_COUNTS_AT, STATE_WORDS, TABLES_AT, address_at,
+    decode, route_at, row_counts,
 };
 use reference::{AddressRow, RouteRow};
 use std::cmp::Reverse;
 
-/// Whether `state` (9,509 words) is well-formed. Any change count is.
+/// Whether `state` (9,541 words) is well-formed. Any change count is.
 pub fn state(state: &[u32]) -> bool {
     assert_eq!(state.len(), STATE_WORDS, "lengths are checked first");
     let counts = [0, 1, 2].map(|i| state[i] as usize);
@@ -25,6 +27,7 @@ pub fn state(state: &[u32]) -> bool {
         && (0..addresses).all(|i| address(&address_at(state, i)))
         && routes_fit(&(0..routes).map(|i| route_at(state, i)).collect::<Vec<_>>())
         && distinct(&state[TABLES_AT..TABLES_AT + tables])
+        && state[ROW_COUNTS_AT..] == row_counts(&decode(state))
 }
 
 /// Whether an address row could stand in a well-formed state.

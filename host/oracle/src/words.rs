@@ -1,5 +1,6 @@
 //! The state: 9,507 words of 32 bits as document 01 lays them out, and
-//! behind them the two of the change count (document 02, Paper 6).
+//! behind them the two of the change count and the 32 row counts (document
+//! 02, Papers 6 and 8).
 use reference::{AddressRow, Lists, RouteRow};
 
 pub const ADDRESS_LIMIT: usize = 64;
@@ -15,11 +16,12 @@ pub const EVENT_WORDS: usize = 34;
 pub const ADDRESSES_AT: usize = 3;
 pub const ROUTES_AT: usize = ADDRESSES_AT + ADDRESS_LIMIT * ADDRESS_WORDS;
 pub const TABLES_AT: usize = ROUTES_AT + ROUTE_LIMIT * ROUTE_WORDS;
-/// The words of the three lists, and behind them the change count's low and
-/// high word.
+/// The words of the three lists, behind them the change count's low and high
+/// word, and a row count for each place in the list of tables.
 pub const BASE_WORDS: usize = TABLES_AT + TABLE_LIMIT;
 pub const COUNT_WORDS: usize = 2;
-pub const STATE_WORDS: usize = BASE_WORDS + COUNT_WORDS;
+pub const ROW_COUNTS_AT: usize = BASE_WORDS + COUNT_WORDS;
+pub const STATE_WORDS: usize = ROW_COUNTS_AT + TABLE_LIMIT;
 
 /// The fewest words of an event buffer (384 rows) and of a listing buffer.
 pub const EVENT_BUFFER: usize = 384 * EVENT_WORDS;
@@ -37,8 +39,8 @@ pub fn encode(lists: &Lists) -> Vec<u32> {
     state
 }
 
-/// Writes the words of `lists` over those of the lists in `state`. The change
-/// count stays.
+/// Writes the words of `lists` over those of the lists in `state`, and their
+/// row counts. The change count stays.
 pub fn encode_into(lists: &Lists, state: &mut [u32]) {
     state[..BASE_WORDS].fill(0);
     state[0] = lists.addresses.len() as u32;
@@ -49,6 +51,23 @@ pub fn encode_into(lists: &Lists, state: &mut [u32]) {
     put(rows, lists.addresses.as_flattened());
     put(routes, lists.routes.as_flattened());
     put(tables, &lists.tables);
+    state[ROW_COUNTS_AT..].copy_from_slice(&row_counts(lists));
+}
+
+/// "The count beside each listed table" (document 02, Paper 8): how many rows
+/// it has, and 0 at places of the list that are not in use.
+pub fn row_counts(lists: &Lists) -> [u32; TABLE_LIMIT] {
+    let mut counts = [0; TABLE_LIMIT];
+    for (count, table) in counts.iter_mut().zip(&lists.tables) {
+        *count = lists.routes.iter().filter(|row| row[0] == *table).count() as u32;
+    }
+    counts
+}
+
+/// Puts the row counts right, in a state whose lists keep to their limits.
+pub fn recount(state: &mut [u32]) {
+    let counts = row_counts(&decode(state));
+    state[ROW_COUNTS_AT..].copy_from_slice(&counts);
 }
 
 fn put(words: &mut [u32], values: &[u32]) {

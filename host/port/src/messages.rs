@@ -44,8 +44,8 @@ impl Comparison {
     pub fn swept(&mut self, boundaries: &mut [Box<dyn Boundary>]) -> Result<(), String> {
         let sizes = naskrefim::sizes();
         let found = (sizes.state_words, sizes.event_rows, sizes.paper);
-        if found != (9_509, 384, 7) {
-            return Err(format!("sizes: {found:?} in place of (9509, 384, 7)"));
+        if found != (9_541, 384, 8) {
+            return Err(format!("sizes: {found:?} in place of (9541, 384, 8)"));
         }
         let mut cases = messages::swept().into_iter();
         cases.try_for_each(|case| self.one(boundaries, &case))

@@ -10,7 +10,7 @@ use oracle::call::{Call, DEL_ROUTE4_WORDS, Reply};
 use oracle::event::{Given, MESSAGE_BYTES, WordWriter};
 use oracle::message::WordReader;
 use oracle::port::WordPort;
-use oracle::words::{ADDRESSES_AT, ROUTES_AT, STATE_WORDS, TABLES_AT, change_count};
+use oracle::words::{ADDRESSES_AT, ROUTES_AT, ROW_COUNTS_AT, STATE_WORDS, TABLES_AT, change_count};
 use oracle::{fit, well_formed};
 use std::net::Ipv4Addr;
 
@@ -102,14 +102,19 @@ pub fn sayable(call: &Call, state: usize, buffer: usize) -> bool {
     row && state && buffer >= call.buffer().least() && fit::fits(call)
 }
 
-/// Whether the rows, the tables and the change count that `lo` shows are those
-/// of `state`.
+/// Whether the rows, the tables and the counts that `lo` shows are those of
+/// `state`.
 fn shown(lo: &Addresses, state: &[u32]) -> bool {
     let [a, r, t] = [0, 1, 2].map(|i| state[i] as usize);
     lo.changes() == change_count(state)
         && lo.addresses().len() == a
         && lo.routes().len() == r
-        && lo.tables().eq(state[TABLES_AT..][..t].iter().copied())
+        && lo.tables().len() == t
+        && lo
+            .tables()
+            .zip(&state[TABLES_AT..])
+            .zip(&state[ROW_COUNTS_AT..])
+            .all(|((shown, table), rows)| shown.table == *table && shown.rows == *rows as usize)
         && lo
             .addresses()
             .zip(state[ADDRESSES_AT..].chunks(20))

@@ -5,7 +5,7 @@ use Rattle.definition.specs.Words.{state_size, formed}
 use Rattle.endian.specs.Endian.{words_of}
 use Rattle.endian.specs.Laws.{words-whole}
 use Rattle.refusal.specs.Laws.{passed}
-use Rattle.app_show.specs.Laws.{shown_ill, shown-words, shown-other, base-read, refused}
+use Rattle.app_show.specs.Laws.{shown_ill, shown-words, shown-other, refused}
 use Rattle.app_show.proofs.read_state.Goals as goal
 
 pub returns-in_err-unless : goal.returns-in_err-unless
@@ -13,21 +13,11 @@ returns-in_err-unless c =
     refused _ c.from_residual.result c.in_err-unless.field-0.0 c.args.bytes.now _ _ c.from_residual.ensures c.in_err-unless.ensures
     (λ e. shown-other c.args.bytes.now (eqb-false _ _ e))
 
-pub slice_bounds-well_formed-end : goal.slice_bounds-well_formed-end
-slice_bounds-well_formed-end c =
-    let long = eqb-true _ _ (passed _ _ c.in_ok-unless.ensures) in
-    sym (base-read _ c.args.bytes.now (words-whole state_size c.args.bytes.now _ _ long refl c.words_of.ensures) long)
-
-pub well_formed-fit-requires : goal.well_formed-fit-requires
-well_formed-fit-requires c =
-    let long = eqb-true _ _ (passed _ _ c.in_ok-unless.ensures) in
-    base-read _ c.args.bytes.now (words-whole state_size c.args.bytes.now _ _ long refl c.words_of.ensures) long
-
 pub returns-in_err-unless-2 : goal.returns-in_err-unless-2
 returns-in_err-unless-2 c =
     let long = eqb-true _ _ (passed _ _ c.in_ok-unless.ensures) in
     let s = words-whole state_size c.args.bytes.now _ _ long refl c.words_of.ensures in
-    let form = ap formed (sym s) ∙ sym c.well_formed-fit.ensures in
+    let form = ap formed (sym s) ∙ sym c.formed.ensures in
     refused _ c.from_residual-in_err-unless-2.result c.in_err-unless-2.field-0.0 c.args.bytes.now _ _
     c.from_residual-in_err-unless-2.ensures c.in_err-unless-2.ensures
     (λ e. shown-words c.args.bytes.now long ∙ shown_ill (words_of c.args.bytes.now) (form ∙ e))
@@ -36,4 +26,4 @@ pub returns : goal.returns
 returns c =
     let long = eqb-true _ _ (passed _ _ c.in_ok-unless.ensures) in
     let s = words-whole state_size c.args.bytes.now _ _ long refl c.words_of.ensures in
-    (s, long, sym c.well_formed-fit.ensures ∙ passed _ _ c.in_ok-unless-2.ensures)
+    (s, long, sym c.formed.ensures ∙ passed _ _ c.in_ok-unless-2.ensures)

@@ -2,7 +2,7 @@
 use Rattle.std.proofs.Common.{arith, sym, ◌∙◌, length, ◌≡◌}
 use Rattle.definition.specs.Words.{base_size}
 use Rattle.definition.proofs.Preservation.Step.{base-long}
-use Rattle.call_change.specs.Count.{in-lists, raised-by, uncounted-by}
+use Rattle.call_change.specs.Count.{in-lists, settled, unsettled}
 use Rattle.call_change.proofs.changed.Goals as goal
 
 pub slice_bounds-stepped-end-2 : goal.slice_bounds-stepped-end-2
@@ -18,9 +18,9 @@ returns-then-told_some-other g c =
       long = long;
       ran = c.stepped-told.ensures;
       words =
-          raised-by c.args.state.now lists whole long _
-          (rw (in-lists c.args.state.now lists whole long 2 (omega arith), c.told_some.ensures) at c.if-told_some-other.true)
-          c.count.ensures;
+          settled c.args.state.now lists long _
+          (rw (in-lists c.args.state.now lists long 2 (omega arith), c.told_some.ensures) at c.if-told_some-other.true)
+          c.settle.ensures;
     }
 
 pub returns-else-told_some-other : goal.returns-else-told_some-other
@@ -33,6 +33,6 @@ returns-else-told_some-other g c =
       long = long;
       ran = c.stepped-told.ensures;
       words =
-          uncounted-by c.args.state.now lists whole long _
-          (rw (in-lists c.args.state.now lists whole long 2 (omega arith), c.told_some.ensures) at c.if-told_some-other.false);
+          unsettled c.args.state.now lists long _
+          (rw (in-lists c.args.state.now lists long 2 (omega arith), c.told_some.ensures) at c.if-told_some-other.false);
     }

@@ -1,20 +1,15 @@
 -- `call_read::checked` meets its contract: lengths first, then the form of the words, then the request.
-use Rattle.std.proofs.Common.{sym, ap, ◌∙◌, length, Bool}
-use Rattle.definition.proofs.Preservation.Step.{base-long}
+use Rattle.std.proofs.Common.{ap, ◌∙◌, length, Bool}
 use Rattle.refusal.specs.Refusal.{unless}
 use Rattle.refusal.specs.declared.Refusal.TheVariants.{WrongLength, Malformed}
 use Rattle.call_read.specs.Laws.{state-long, formed-held, passing}
 use Rattle.call_read.proofs.checked.Goals as goal
 
-pub slice_bounds-well_formed-end : goal.slice_bounds-well_formed-end
-slice_bounds-well_formed-end g c =
-    sym (base-long c.args.s.now (state-long (length c.args.s.now) c.args.buffers WrongLength c.in_ok-unless.was c.unless.ensures))
-
-pub well_formed-formed-requires : goal.well_formed-formed-requires
-well_formed-formed-requires g c = base-long c.args.s.now (state-long (length c.args.s.now) c.args.buffers WrongLength c.in_ok-unless.was c.unless.ensures)
+pub formed-requires : goal.formed-requires
+formed-requires g c = state-long (length c.args.s.now) c.args.buffers WrongLength c.in_ok-unless.was c.unless.ensures
 
 pub returns-clause-passes : goal.returns-clause-passes
 returns-clause-passes g c =
     let long = state-long (length c.args.s.now) c.args.buffers WrongLength c.in_ok-unless.was c.unless.ensures in
     passing c.args.request c.args.s.now long
-    (formed-held c.args.s.now Malformed long c.in_ok-unless-2.was (c.unless-2.ensures ∙ ap (λ (b : Bool). unless b Malformed) c.well_formed-formed.ensures))
+    (formed-held c.args.s.now Malformed long c.in_ok-unless-2.was (c.unless-2.ensures ∙ ap (λ (b : Bool). unless b Malformed) c.formed.ensures))

@@ -8,7 +8,7 @@ use Rattle.definition.specs.Words.{state_size, state_of}
 use Rattle.definition.specs.Call.{Call, Reply, refusal, written}
 use Rattle.definition.specs.Step.{Result, Checks, Action, changes, replies, lists, Semantics, checks, checked, answered, result, roomy, changing, reading, act, semantics, step}
 use Rattle.definition.proofs.Preservation.Change.{Passes, Acts, lawful}
-use Rattle.definition.proofs.Preservation.Step.{Held, held-leaves, decode-leaves, good-held, good-result, checks-zero}
+use Rattle.definition.proofs.Preservation.Step.{Held, held-formed, held-leaves, decode-leaves, good-held, good-result, checks-zero}
 
 -- ---- without limits
 -- a reply, and the state afterwards
@@ -47,7 +47,7 @@ pub record Follows (s : Semantics) (w : List ℕ) (r : Result) : Type 0 where
   pub state : state_of r.words ≡ (bounded s (state_of w)).state
 
 passing-held : (k : Checks) (w : List ℕ) → Held w → checked k w ≡ passing k
-passing-held k w h = rw (eq-eqb (length w) state_size h.long, h.well)
+passing-held k w h = rw (eq-eqb (length w) state_size h.long, held-formed w h)
 
 passing-passes : (k : Checks) → passing k ≡ 0 → Passes k
 passing-passes k z =
@@ -68,7 +68,7 @@ step_follows c w h = go (semantics c).action (lawful c).acts
         (λ z.
         let good = good-result o (l.sound (state_of w) (good-held w h) (passing-passes k (eqb-true (passing k) 0 z))).kept in
         test-case (roomy o)
-        (λ room. record { held = rw (passing-held k w h, z, room) (held-leaves w (result o) h (good room)); reply = rw (passing-held k w h, z, room); state = rw (passing-held k w h, z, room) (decode-leaves w (result o) h (good room)) })
+        (λ room. record { held = rw (passing-held k w h, z, room) (held-leaves w (result o) h (good room)); reply = rw (passing-held k w h, z, room); state = rw (passing-held k w h, z, room) (decode-leaves w (result o) (good room)) })
         (λ full. record { held = rw (passing-held k w h, z, full) h; reply = rw (passing-held k w h, z, full); state = rw (passing-held k w h, z, full) }))
         (λ z. record { held = rw (passing-held k w h, z) h; reply = rw (passing-held k w h, z); state = rw (passing-held k w h, z) })
     go (replies f) l = record { held = h; reply = rw (passing-held k w h); state = refl }

@@ -1,26 +1,40 @@
 -- Every call on well-formed words leaves well-formed words; of a changing call, what it emits and when it gives 203.
 -- Assumes nothing.
-use Rattle.std.specs.Prelude.{ℕ, ◌≤◌, ◌≡◌, refl, Bool, true, false, not, ◌&&◌, List, [], ◌++◌, ◌↔◌, ◌≢◌, eqb, ltb, length, drop}
-use Rattle.std.proofs.Common.{sym, ap, ◌∙◌, arith, length-append, length-take, length-drop, take-append-drop, take_all, take_at, eqb-true, eq-eqb, leb-true, le-leb}
+use Rattle.std.specs.Prelude.{ℕ, ◌≤◌, ◌≡◌, refl, Bool, true, false, not, ◌&&◌, List, [], ◌++◌, ◌↔◌, ◌≢◌, eqb, ltb, length, take, drop}
+use Rattle.std.proofs.Common.{sym, ap, ◌∙◌, arith, length-append, length-take, take-append-drop, drop-drop, append_assoc, take_at, drop_at, eqb-true, eq-eqb, leb-true, le-leb}
 use Rattle.std.proofs.lemmas.Bool.{false≢true, not-true}
 use Rattle.lists.specs.Lists.{Row, zeros, span}
 use Rattle.lists.specs.Bools.{and_left, and_right, and_iff, cond-case, test-case}
-use Rattle.lists.specs.All.{eq_row-refl}
-use Rattle.lists.specs.Rows.{sized, length-zeros, length-span, zeros_append}
+use Rattle.lists.specs.All.{eq_row-refl, eq_row-true}
+use Rattle.lists.specs.Rows.{sized, length-zeros, drop-zeros, pad_nil, length-span, zeros_append}
 use Rattle.definition.specs.State.{State, Sizes, sizes, empty}
-use Rattle.definition.specs.Words.{within, base_size, count_size, behind_size, state_size, encode, decode, well_formed, base, state_of, formed, largest_count, change_count, changed, counted, leaves}
+use Rattle.definition.specs.Words.{within, table_limit, base_size, count_size, row_counts_at, behind_size, state_size, encode, decode, well_formed, base, state_of, row_counts, counts_true, formed, largest_count, change_count, changed, counted, leaves}
 use Rattle.definition.specs.Call.{Call, written}
 use Rattle.definition.specs.Reference.Addresses.{Outcome, goes, refused}
 use Rattle.definition.specs.Step.{Result, refuses, Checks, Action, changes, replies, lists, alters, Semantics, checks, checked, unfit, result, roomy, outcome, changing, reading, act, perform, semantics, step}
 use Rattle.definition.specs.Preservation.Fit.{state-fit}
-use Rattle.definition.specs.Preservation.Encode.{Admissible, encodable, length-encode, well_formed-encode, decode-encode, encode-decode, good-decode, good-empty, encode-empty}
+use Rattle.definition.specs.Preservation.Encode.{Encodable, Admissible, encodable, length-encode, length-row_counts, well_formed-encode, decode-encode, encode-decode, good-decode, good-empty, encode-empty}
 use Rattle.definition.specs.Preservation.Keeps.{Covers, KeptOutcome}
 use Rattle.definition.proofs.Preservation.Change.{Passes, Preserving, Changes, Acts, lawful}
 
 -- ---- well-formed words
 pub record Held (w : List ℕ) : Type 0 where
   pub long : length w ≡ state_size
-  pub well : formed w ≡ true
+  pub well : well_formed (base w) ≡ true
+  pub counts : drop row_counts_at w ≡ row_counts (state_of w)
+
+pub formed-held : (w : List ℕ) → length w ≡ state_size → formed w ≡ true → Held w
+unfolding counts_true
+formed-held w l h =
+    record {
+      long = l;
+      well = and_left (well_formed (base w)) (counts_true w) h;
+      counts = eq_row-true (drop row_counts_at w) (row_counts (state_of w)) (and_right (well_formed (base w)) (counts_true w) h);
+    }
+
+pub held-formed : (w : List ℕ) → Held w → formed w ≡ true
+unfolding counts_true
+held-formed w h = simp and_iff (h.well, rw h.counts (eq_row-refl (row_counts (state_of w))))
 
 pub base-long : (w : List ℕ) → length w ≡ state_size → length (base w) ≡ base_size
 base-long w l = simp length-take (omega arith)
@@ -29,20 +43,28 @@ pub good-held : (w : List ℕ) → Held w → Admissible (state_of w)
 good-held w h = good-decode (base w) (base-long w h.long) h.well
 
 -- the words of the lists, whatever is behind them
-base-encode : (st : State) (l : List ℕ) → Admissible st → base (encode st ++ l) ≡ encode st
-base-encode st l g = take_at (encode st) l base_size (length-encode st (encodable g))
+base-encode : (st : State) (l : List ℕ) → Encodable st → base (encode st ++ l) ≡ encode st
+base-encode st l g = take_at (encode st) l base_size (length-encode st g)
 
 empty-words : zeros state_size ≡ encode empty ++ zeros behind_size
 empty-words = sym (zeros_append base_size behind_size) ∙ ap (λ (l : List ℕ). l ++ zeros behind_size) (sym encode-empty)
 
 pub decode-empty : state_of (zeros state_size) ≡ empty
-decode-empty = ap state_of empty-words ∙ ap decode (base-encode empty (zeros behind_size) good-empty) ∙ decode-encode empty (encodable good-empty)
+decode-empty =
+    ap state_of empty-words ∙ ap decode (base-encode empty (zeros behind_size) (encodable good-empty)) ∙ decode-encode empty (encodable good-empty)
+
+no-counts : row_counts empty ≡ zeros table_limit
+unfolding row_counts
+no-counts = pad_nil table_limit
 
 pub held-empty : Held (zeros state_size)
 held-empty =
     record {
       long = length-zeros state_size;
-      well = ap formed empty-words ∙ ap well_formed (base-encode empty (zeros behind_size) good-empty) ∙ well_formed-encode empty good-empty;
+      well =
+          ap (λ (w : List ℕ). well_formed (base w)) empty-words ∙ ap well_formed (base-encode empty (zeros behind_size) (encodable good-empty))
+          ∙ well_formed-encode empty good-empty;
+      counts = drop-zeros row_counts_at table_limit ∙ sym (ap row_counts decode-empty ∙ no-counts);
     }
 
 -- ---- the change count
@@ -52,33 +74,44 @@ unfolding counted
 length-counted b w l =
     cond-case (λ (v : List ℕ). length v ≡ count_size) (b && ltb (change_count w) largest_count) (λ e. refl) (λ e. length-span base_size count_size w (omega arith))
 
--- without a change they are what they were
-counted-idle : (w : List ℕ) → length w ≡ state_size → counted false w ≡ drop base_size w
+-- without a change it is what it was, and all behind the lists is
+pub counted-idle : (w : List ℕ) → counted false w ++ drop row_counts_at w ≡ drop base_size w
 unfolding counted span
-counted-idle w l = take_all count_size (drop base_size w) (simp length-drop (omega arith))
+counted-idle w =
+    ap (λ (l : List ℕ). take count_size (drop base_size w) ++ l) (sym (drop-drop count_size base_size w)) ∙ take-append-drop count_size (drop base_size w)
 
 changed-same : (w : List ℕ) (st : State) → encode st ≡ base w → changed w st ≡ false
 unfolding changed
 changed-same w st e = rw (e, eq_row-refl (base w)) refl
 
 -- ---- the words that a call leaves: they are well-formed, hold the state, and are the old ones where that is the old one
-pub base-leaves : (w : List ℕ) (st : State) → Admissible st → base (leaves w st) ≡ encode st
-base-leaves w st g = base-encode st (counted (changed w st) w) g
+pub base-leaves : (w : List ℕ) (st : State) → Encodable st → base (leaves w st) ≡ encode st
+base-leaves w st g = base-encode st (counted (changed w st) w ++ row_counts st) g
+
+-- the row counts stand behind the change count
+counts-leaves : (w : List ℕ) (st : State) → Held w → Encodable st → drop row_counts_at (leaves w st) ≡ row_counts st
+counts-leaves w st h g =
+    ap (drop row_counts_at) (sym (append_assoc (encode st) (counted (changed w st) w) (row_counts st)))
+    ∙ drop_at (encode st ++ counted (changed w st) w) (row_counts st) row_counts_at
+    (simp length-append (omega (arith, length-encode st g, length-counted (changed w st) w h.long)))
+
+pub decode-leaves : (w : List ℕ) (st : State) → Admissible st → state_of (leaves w st) ≡ st
+decode-leaves w st g = rw (base-leaves w st (encodable g)) (decode-encode st (encodable g))
 
 pub held-leaves : (w : List ℕ) (st : State) → Held w → Admissible st → Held (leaves w st)
 held-leaves w st h g =
     record {
-      long = simp length-append (omega (arith, length-encode st (encodable g), length-counted (changed w st) w h.long));
-      well = rw (base-leaves w st g) (well_formed-encode st g);
+      long =
+          simp length-append
+          (omega (arith, length-encode st (encodable g), length-counted (changed w st) w h.long, length-row_counts st (encodable g)));
+      well = rw (base-leaves w st (encodable g)) (well_formed-encode st g);
+      counts = counts-leaves w st h (encodable g) ∙ ap row_counts (sym (decode-leaves w st g));
     }
-
-pub decode-leaves : (w : List ℕ) (st : State) → Held w → Admissible st → state_of (leaves w st) ≡ st
-decode-leaves w st h g = rw (base-leaves w st g) (decode-encode st (encodable g))
 
 pub leaves-decode : (w : List ℕ) → Held w → leaves w (state_of w) ≡ w
 leaves-decode w h =
     let same : encode (state_of w) ≡ base w = encode-decode (base w) (base-long w h.long) h.well in
-    rw (changed-same w (state_of w) same, same, counted-idle w h.long) (take-append-drop base_size w)
+    rw (changed-same w (state_of w) same, same, ← h.counts, counted-idle w) (take-append-drop base_size w)
 
 -- what a peak within the limits covers is within them
 pub covered : (a b : Sizes) → Covers a b → within b ≡ true → within a ≡ true
@@ -117,7 +150,7 @@ module _ (k : Checks) (w : List ℕ) (z : checked k w ≡ 0) where
   pub checked-held : Held w
   checked-held =
       let p = checks-zero (eqb (length w) state_size && k.buffers) (formed w && k.row) k.request z in
-      record { long = eqb-true (length w) state_size (and_left (eqb (length w) state_size) k.buffers p.room); well = and_left (formed w) k.row p.formed }
+      formed-held w (eqb-true (length w) state_size (and_left (eqb (length w) state_size) k.buffers p.room)) (and_left (formed w) k.row p.formed)
 
   pub checked-passes : Passes k
   checked-passes =
@@ -174,8 +207,8 @@ step-held c w h =
 
 pub kept : (c : Call) (w : List ℕ) → length w ≡ state_size → formed w ≡ true → (length (step c w).words ≡ state_size) × (formed (step c w).words ≡ true)
 kept c w long well =
-    let h = step-held c w (record { long = long; well = well }) in
-    (h.long, h.well)
+    let h = step-held c w (formed-held w long well) in
+    (h.long, held-formed (step c w).words h)
 
 -- ---- what is emitted, whatever the words
 pub record Events (rows : List Row) : Type 0 where

@@ -1,12 +1,12 @@
 -- A state within its limits and its words say the same.
 -- Assumes nothing.
 use Prim.Native.Nat.{ℕ, ◌+◌, ◌-◌, ◌*◌, ◌≤◌}
-use Rattle.std.specs.Prelude.{◌≡◌, refl, ◌&&◌, leb, get_or, take}
+use Rattle.std.specs.Prelude.{◌≡◌, refl, ◌&&◌, leb, get_or, take, map}
 use Rattle.std.proofs.Common.{sym, ◌∙◌, arith, length-drop, take-append-drop, drop_at, take_at, drop-drop, take_all, leb-true, le-leb}
 use Rattle.std.proofs.Math.Path.{ap}
 use Rattle.std.proofs.Math.Bool.{true}
 use mathlib.Core.List.{List, [], ◌∷◌, ◌++◌, append_assoc, append-nil}
-use Rattle.std.proofs.Math.ListN.{length, drop, length-append}
+use Rattle.std.proofs.Math.ListN.{length, drop, length-append, length-map}
 use Rattle.lists.specs.Lists.{all, all_zero, flat, zeros, pad, span, chop}
 use Rattle.lists.specs.Bools.{and_iff}
 use Rattle.lists.specs.Rows.{length-pad, length-flat, chop-pad, all_zero-pad, span-past, pad-chop, pad-take, length-chop, length-span, pad_nil, zeros_append, zeros_cons}
@@ -14,7 +14,7 @@ use Rattle.definition.specs.State.{State, sizes, empty}
 use Rattle.layout.specs.Address.{fit_address}
 use Rattle.layout.specs.Route.{fit_route}
 use Rattle.definition.specs.Preservation.Fit.{fit-state, sized-addresses, sized-routes}
-use Rattle.definition.specs.Words.{ordered, distinct, none_twice, within, addresses_size, routes_at, routes_size, tables_at, table_limit, base_size, encode, decode, fit_state, unused_zero, well_formed}
+use Rattle.definition.specs.Words.{ordered, distinct, none_twice, within, addresses_size, routes_at, routes_size, tables_at, table_limit, base_size, encode, decode, fit_state, unused_zero, well_formed, rows_of_table, row_counts}
 
 -- the state could be that of well-formed words
 pub record Admissible (st : State) : Type 0 where
@@ -57,6 +57,12 @@ module _ (st : State) (g : Encodable st) where
 
   wide-tables : length (pad table_limit st.tables) ≡ 32
   wide-tables = length-pad table_limit st.tables (omega (arith, counts st g.limits))
+
+  pub length-row_counts : length (row_counts st) ≡ table_limit
+  unfolding row_counts
+  length-row_counts =
+      let numbers : List ℕ = map (λ t. rows_of_table t st.routes) st.tables in
+      length-pad table_limit numbers (omega (arith, length-map st.tables (λ t. rows_of_table t st.routes), counts st g.limits))
 
   pub length-encode : length (encode st) ≡ base_size
   unfolding encode

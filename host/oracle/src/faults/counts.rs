@@ -1,5 +1,6 @@
 //! Faults in the change count (document 02, Paper 6).
 use super::Fault;
+use super::row_counts::shorter;
 use crate::call::{Buffer, Call, Reply};
 use crate::model::{UNFIT_STATE, model};
 use crate::words::{BASE_WORDS, STATE_WORDS, change_count, halves, set_change_count, whole};
@@ -91,7 +92,9 @@ pub const FAULTS: &[Fault] = &[
         })
     }),
     Fault::new("a count at its largest isn't well-formed", largest_refused),
-    Fault::new("a state without its count taken", without_count),
+    Fault::new("a state of its lists alone taken", |c, s, b| {
+        shorter(BASE_WORDS, c, s, b)
+    }),
 ];
 
 /// What a changing call was and did; the count in `after` is the right one.
@@ -164,16 +167,4 @@ fn largest_refused(call: &Call, state: &mut [u32], buffer: &mut [u32]) -> Reply 
         };
     }
     model(call, state, buffer)
-}
-
-/// The model on a state of the lists alone, with a count of 0 put behind.
-fn without_count(call: &Call, state: &mut [u32], buffer: &mut [u32]) -> Reply {
-    if state.len() != BASE_WORDS {
-        return model(call, state, buffer);
-    }
-    let mut whole = state.to_vec();
-    whole.resize(STATE_WORDS, 0);
-    let reply = model(call, &mut whole, buffer);
-    state.copy_from_slice(&whole[..BASE_WORDS]);
-    reply
 }

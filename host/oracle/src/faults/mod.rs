@@ -8,6 +8,7 @@ pub mod masks;
 pub mod messages;
 pub mod parts;
 mod refusals;
+pub mod row_counts;
 
 use crate::call::{Call, Reply};
 use crate::campaign::shrink;
@@ -72,6 +73,7 @@ fn all() -> Vec<Fault> {
         effects::FAULTS,
         refusals::FAULTS,
         counts::FAULTS,
+        row_counts::FAULTS,
     ]
     .concat()
 }

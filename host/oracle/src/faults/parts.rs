@@ -1,4 +1,5 @@
 //! Faults in the parts of a listing.
+use super::row_counts::recounted;
 use crate::call::Reply;
 use crate::part::{Ask, Lister, MARK, MOST, Model, Take, dump4, refusal};
 use crate::words::{ROUTE_WORDS, change_count, halves, whole};
@@ -258,6 +259,10 @@ pub const FAULTS: &[PartFault] = &[
         a.listing.copy_from_slice(&longer[..length]);
         a.cursor.copy_from_slice(&cursor);
         reply
+    }),
+    PartFault::new("a wrong row count taken", |a| match recounted(a.state) {
+        Some(right) => Model.part(a.ask(), &right, a.listing, a.cursor),
+        None => a.model(),
     }),
     PartFault::new("a longer cursor taken", |a| {
         if a.cursor.len() < 3 {

@@ -7,7 +7,7 @@ use super::{damage, limits, pools};
 use crate::call::{Buffer, Call};
 use crate::compare::Case;
 use crate::rng::Rng;
-use crate::words::{self, BASE_WORDS, STATE_WORDS};
+use crate::words::{self, BASE_WORDS, ROW_COUNTS_AT, STATE_WORDS};
 
 /// Where a case came from.
 #[derive(Clone, Copy, Debug, PartialEq, Eq)]
@@ -175,7 +175,7 @@ impl Cases {
         let buffer = case.buffer.len();
         match rng.below(6) {
             0 => {
-                let lengths = [0, 1, BASE_WORDS, STATE_WORDS - 1];
+                let lengths = [0, 1, BASE_WORDS, ROW_COUNTS_AT, STATE_WORDS - 1];
                 case.state.truncate(rng.pick(&lengths));
             }
             1 => case.state.push(rng.pick(&[0, 1])),

@@ -5,7 +5,7 @@ use super::states::{self, Sizes};
 use crate::call::Call;
 use crate::fit::ALLOWANCE_LIMIT;
 use crate::rng::Rng;
-use crate::words::{self, ADDRESSES_AT, ROUTES_AT, TABLES_AT};
+use crate::words::{self, ADDRESSES_AT, ROUTES_AT, ROW_COUNTS_AT, TABLE_LIMIT, TABLES_AT};
 use reference::{FUZZ, Lists, RouteRow};
 
 /// What is done to a row that could stand in a state.
@@ -48,7 +48,7 @@ pub const ROUTE_CLAUSES: [(&str, Damage<32>); 13] = [
 ];
 
 /// The clauses about more than one row.
-pub const STATE_CLAUSES: [&str; 13] = [
+pub const STATE_CLAUSES: [&str; 18] = [
     "address count",
     "route count",
     "table count",
@@ -62,6 +62,11 @@ pub const STATE_CLAUSES: [&str; 13] = [
     "order by table",
     "order by tos",
     "order by priority",
+    "a row count one too great",
+    "a row count one too small",
+    "row counts of the right sum",
+    "row count of an unused place",
+    "any row count",
 ];
 
 /// How many clauses there are in all.
@@ -118,9 +123,11 @@ pub fn of_lists(rng: &mut Rng, which: usize, lists: &Lists) -> (&'static str, Ve
             let used = lists.tables.len();
             state[2] += 1;
             state[TABLES_AT + used] = lists.tables[rng.below(used)];
+            words::recount(&mut state);
         }
         7 => set_routes(&mut state, &equal(rng)),
-        _ => set_routes(&mut state, &disordered(rng, which - 8)),
+        8..13 => set_routes(&mut state, &disordered(rng, which - 8)),
+        _ => miscount(rng, which - 13, lists, &mut state[ROW_COUNTS_AT..]),
     }
     (STATE_CLAUSES[which], state)
 }
@@ -137,6 +144,64 @@ fn set_routes(state: &mut [u32], rows: &[RouteRow]) {
     state[ROUTES_AT..TABLES_AT].fill(0);
     state[1] = rows.len() as u32;
     state[ROUTES_AT..ROUTES_AT + 32 * rows.len()].copy_from_slice(rows.as_flattened());
+    words::recount(state);
+}
+
+/// Each place of a row count, with what makes it one too great and one too
+/// small.
+pub fn row_counts() -> impl Iterator<Item = (usize, u32)> {
+    (0..TABLE_LIMIT).flat_map(|place| [(place, 1), (place, u32::MAX)])
+}
+
+/// The state with `by` added to the row count at `place`.
+pub fn miscounted(state: &[u32], place: usize, by: u32) -> Vec<u32> {
+    let mut wrong = state.to_vec();
+    let count = &mut wrong[ROW_COUNTS_AT + place];
+    *count = count.wrapping_add(by);
+    wrong
+}
+
+/// Another number in place of a row count, or of two.
+fn miscount(rng: &mut Rng, which: usize, lists: &Lists, counts: &mut [u32]) {
+    let used = lists.tables.len();
+    // of a table with rows, if there is one
+    let with_rows: Vec<usize> = (0..used).filter(|&i| counts[i] > 0).collect();
+    let place = match with_rows.len() {
+        0 => rng.below(used),
+        _ => rng.pick(&with_rows),
+    };
+    match which {
+        0 => counts[place] += 1,
+        1 => counts[place] = counts[place].wrapping_sub(1),
+        2 => swap(rng, place, counts),
+        3 => {
+            let unlisted = |row: &&RouteRow| !lists.tables.contains(&row[0]);
+            let uncounted = lists.routes.iter().filter(unlisted).count() as u32;
+            counts[used + rng.below(TABLE_LIMIT - used)] = rng.pick(&[1, uncounted.max(1)]);
+        }
+        _ => {
+            let count = &mut counts[rng.below(TABLE_LIMIT)];
+            let (right, any) = (*count, rng.word());
+            while *count == right {
+                *count = rng.pick(&[0, right ^ 256, right ^ 1 << 31, any]);
+            }
+        }
+    }
+}
+
+/// The count at `place` and another one change places; if all are alike, one
+/// goes from the one to the other, so that their sum stays too.
+fn swap(rng: &mut Rng, place: usize, counts: &mut [u32]) {
+    let others: Vec<usize> = (0..TABLE_LIMIT)
+        .filter(|&i| counts[i] != counts[place])
+        .collect();
+    if others.is_empty() {
+        let other = (place + 1) % TABLE_LIMIT;
+        counts[place] = counts[place].wrapping_sub(1);
+        counts[other] = counts[other].wrapping_add(1);
+    } else {
+        counts.swap(place, rng.pick(&others));
+    }
 }
 
 /// A row twice, next to itself or with alike rows in between.

@@ -9,7 +9,7 @@ use crate::part::{self, Ask, CURSOR_WORDS, Lister, MOST, PartCase, Take};
 use crate::parts::Listing;
 use crate::port::{Model, WordPort};
 use crate::rng::Rng;
-use crate::words::{self, BASE_WORDS, ROUTE_WORDS, STATE_WORDS, TABLE_LIMIT};
+use crate::words::{self, BASE_WORDS, ROUTE_WORDS, ROW_COUNTS_AT, STATE_WORDS, TABLE_LIMIT};
 use reference::Lists;
 
 /// A step of a run, with the state before it.
@@ -216,7 +216,7 @@ impl Runs {
         }
         match rng.below(16) {
             0 => {
-                let lengths = [0, BASE_WORDS, STATE_WORDS - 1];
+                let lengths = [0, BASE_WORDS, ROW_COUNTS_AT, STATE_WORDS - 1];
                 case.state.truncate(rng.pick(&lengths));
             }
             1 => case.state.push(0),

@@ -1,7 +1,7 @@
 //! Short lists with one thing wrong in each, which a replayer must report.
 use super::{HEAD_WORDS, check};
 use crate::port::bytes;
-use crate::words::BASE_WORDS;
+use crate::words::{BASE_WORDS, ROW_COUNTS_AT};
 
 /// How many of the list's first records a damaged list has: `up`, `up`
 /// again, `dump4`, a route added.
@@ -53,6 +53,8 @@ pub fn lists(data: &[u32]) -> Vec<(&'static str, Vec<u8>)> {
             }),
         ),
         ("count", saying(UP, &|r| raise_word(r, BASE_WORDS))),
+        // of the second table, which is 255
+        ("rows", saying(UP, &|r| raise_word(r, ROW_COUNTS_AT + 1))),
         ("event", saying(UP, &|r| raise(r, CHANGES_END, 2))),
         (
             "past",

@@ -22,7 +22,7 @@ use crate::netmask;
 use crate::port::bytes;
 use crate::rng::Rng;
 use crate::script::written;
-use crate::words::{self, BASE_WORDS, STATE_WORDS};
+use crate::words::{self, BASE_WORDS, ROW_COUNTS_AT, STATE_WORDS};
 use replay::answers;
 use std::collections::BTreeMap;
 use std::fs;
@@ -194,6 +194,10 @@ impl Writer {
             let (_, unfit) = damage::of_lists(rng, clause, &lists);
             self.record(&Case::new(call, unfit));
         }
+        for (place, by) in damage::row_counts() {
+            let call = calls::of_kind(rng, 1 + place as u32 % 11, &lists, &mut host);
+            self.record(&Case::new(call, damage::miscounted(&state, place, by)));
+        }
         for call in damage::edges(rng, &lists, &mut host) {
             self.record(&Case::new(call, state.clone()));
         }
@@ -205,7 +209,7 @@ impl Writer {
         }
         for code in 1..=15 {
             let call = calls::of_kind(rng, code, &lists, &mut host);
-            for length in [BASE_WORDS, STATE_WORDS - 1, HELD_WORDS] {
+            for length in [BASE_WORDS, ROW_COUNTS_AT, STATE_WORDS - 1, HELD_WORDS] {
                 let mut case = Case::new(call.clone(), state.clone());
                 case.state.resize(length, 0);
                 self.record(&case);

@@ -1,9 +1,0 @@
-use Rattle.std.proofs.Common.{sym}
-use Rattle.definition.proofs.Preservation.Step.{base-long}
-use Rattle.state_well_formed.proofs.check.Goals as goal
-
-pub slice_bounds-well_formed-end : goal.slice_bounds-well_formed-end
-slice_bounds-well_formed-end c = sym (base-long c.args.s.now c.if-s-ne-STATE_WORDS.false)
-
-pub well_formed-requires : goal.well_formed-requires
-well_formed-requires c = base-long c.args.s.now c.if-s-ne-STATE_WORDS.false
