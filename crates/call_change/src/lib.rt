@@ -9,7 +9,7 @@ ghost use Rattle.definition.specs.Step.{event_room, up_call, down_call, add_v4_c
 ghost use Rattle.definition.specs.State.{State};
 ghost use Rattle.definition.specs.Words.{state_size, base};
 ghost use Rattle.lists.specs.Lists.{first};
-ghost use Rattle.definition.specs.Reference.Addresses.{down, same_address};
+ghost use Rattle.definition.specs.Reference.Addresses.{same_address};
 ghost use Rattle.definition_parts.specs.Rule.{row_changes};
 ghost use Rattle.state.specs.Represents.{Represents, represents};
 ghost use Rattle.call_change.specs.Answer.{Answers};
@@ -117,32 +117,29 @@ pub fn up(state: &mut [u32], events: &mut [u32], clock: u64) -> Result<usize, Re
     )
 }
 
-// The device goes down. It emits nothing.
+// The device goes down.
 pub fn down(state: &mut [u32], events: &mut [u32]) -> Result<usize, Refusal>
     ensures { Answers (down_call (length events.old) state.old) state.new events.old events.new result }
 {
     down_lent(state, events.len(), events)
 }
 
-fn down_held(words: &mut [u32])
-    requires { represents words.old ≡ true }
-    ensures { (st : State) → Represents words.old st → Represents words.new (down st).state }
-{
-    let mut state = StoredMut { words };
-    state_retain::down(&mut state);
-}
-
-// The same for a caller that was lent room for so many words of events, and lends on any.
+// The same for a caller that was lent room for so many words of events, and lends on that of a row. Its row tells nothing of what changed:
+// that is told by fewer routes.
 pub fn down_lent(state: &mut [u32], room: usize, events: &mut [u32]) -> Result<usize, Refusal>
+    requires { event_room ≤ room → Event.size ≤ length events.old }
     ensures { Answers (down_call room state.old) state.new events.old events.new result }
 {
     call_read::checked(state, EVENT_BUFFER <= room, Ok(()))?;
     let routes = state[ROUTE_COUNT];
-    down_held(&mut state[..BASE_WORDS]);
+    let told = stepped(&mut state[..BASE_WORDS], events, |change| {
+        step_drop_routes::down(change);
+        Ok(())
+    });
     if state[ROUTE_COUNT] < routes {
         state_count::settle(state);
     }
-    Ok(0)
+    told
 }
 
 // Addresses whose time is up go, and those past their preferred time are marked. Both numbers are nanoseconds; the allowance is by how
