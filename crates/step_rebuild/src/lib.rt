@@ -1,0 +1,153 @@
+// One event of a recording done again, on words that hold the rows rebuilt so far: those of a state with these routes alone.
+#![tactic(auto)]
+
+ghost use Rattle.std.specs.Prelude.{◌≡◌, true, false, ◌&&◌, List, MatchResult, leb, position};
+ghost use Rattle.lists.specs.Lists.{Row, eq_row};
+ghost use Rattle.layout.specs.Route.{fit_route};
+ghost use Rattle.refusal.specs.Refusal.{unless};
+ghost use Rattle.definition_recording.specs.Recording.{event as Recording·event, rows as Recording·rows};
+ghost use Rattle.definition_recording.specs.Recording.{flags, route_row, fit_address_event, fit_new_route, fit_del_route, fit_mark, provided, added_row, deleted_row, after_down, after_last};
+ghost use Rattle.step_rebuild.specs.Holds.{HoldsRows, Came};
+ghost use Rattle.step_rebuild.specs.Laws.{asked};
+
+use layout::{EventRow, RouteRow, event, route};
+use refusal::Refusal;
+use row_address::has;
+use rows::Routes;
+use state::StoredMut;
+
+// The flags of a new route (netlink's NLM_F_*).
+const REPLACE: u32 = 0x100;
+
+const CREATE: u32 = 0x400;
+
+const APPEND: u32 = 0x800;
+
+// The most that a new route's flags may be.
+const FLAGS_MOST: u32 = 65535;
+
+// An event of an address has no flags, a fit row, and zeros behind it.
+fn fit_address(e: &EventRow) -> Result<(), Refusal>
+    ensures { result ≡ unless (fit_address_event e.now) Refusal.UnfitEvent }
+{
+    let fit = row_address::fit_address(&e[event::ROW..event::BEHIND_ADDRESS]).is_some();
+    let zero = words::all_zero(&e[event::BEHIND_ADDRESS..]);
+    refusal::unless((e[event::FLAGS] == 0) & fit & zero, Refusal::UnfitEvent)
+}
+
+// A mark has zeros behind its number.
+fn fit_mark(e: &EventRow) -> Result<(), Refusal>
+    ensures { result ≡ unless (fit_mark e.now) Refusal.UnfitEvent }
+{
+    refusal::unless(words::all_zero(&e[event::FLAGS..]), Refusal::UnfitEvent)
+}
+
+// The route of an event that has a fit one, and flags of at most so much.
+fn fit_route(e: &EventRow, most: u32) -> Result<&RouteRow, Refusal>
+    ensures { MatchResult result
+        (λ r. (r.now ≡ route_row e.now) × (leb (flags e.now) most && fit_route (route_row e.now) ≡ true))
+        (λ x. (x ≡ Refusal.UnfitEvent) × (leb (flags e.now) most && fit_route (route_row e.now) ≡ false)) }
+{
+    refusal::unless(e[event::FLAGS] <= most, Refusal::UnfitEvent)?;
+    row_route::fit_route(&e[event::ROW..]).ok_or(Refusal::UnfitEvent)
+}
+
+// The flags of a request that puts a row in as an event with these flags says.
+fn asked(flags: u32) -> u32
+    ensures { result ≡ asked flags }
+{
+    if has(flags, REPLACE) {
+        return REPLACE;
+    }
+    if has(flags, APPEND) {
+        return CREATE | APPEND;
+    }
+    CREATE
+}
+
+// A row put in, or in place of another, unless it is there already, or can't be.
+fn add(s: &mut StoredMut<'_>, row: &RouteRow, flags: u32) -> Result<(), Refusal>
+    requires { fit_route row.now ≡ true }
+    ensures came { (l : List Row) → HoldsRows s.old.words.now l → Came (added_row row.now flags l) s.new.words.now result }
+    ensures place { s.new.words.ghost_name ≡ s.old.words.ghost_name }
+{
+    let put = step_insert::insert4(s, row, asked(flags)).unwrap_or(None);
+    refusal::unless(put.is_some(), Refusal::UnfitEvent)
+}
+
+// Whether r is the row. Most rows are to other destinations, so that is asked first.
+fn is_row(row: &RouteRow, r: &RouteRow) -> bool
+    ensures { result ≡ eq_row row.now r.now }
+{
+    row[route::DST] == r[route::DST] && *row == *r
+}
+
+// The place of the row.
+fn find_row(routes: Routes<'_>, row: &RouteRow) -> Option<usize>
+    ensures { result ≡ position (eq_row row.now) routes.entry.rows.now }
+{
+    routes.rows.iter().position(|r| is_row(row, r))
+}
+
+// A row taken out, if it is there.
+fn delete(s: &mut StoredMut<'_>, row: &RouteRow) -> Result<(), Refusal>
+    ensures came { (l : List Row) → HoldsRows s.old.words.now l → Came (deleted_row row.now l) s.new.words.now result }
+    ensures place { s.new.words.ghost_name ≡ s.old.words.ghost_name }
+{
+    let i = find_row(s.stored().routes(), row).ok_or(Refusal::UnfitEvent)?;
+    s.remove_route(i);
+    Ok(())
+}
+
+fn new_route4(s: &mut StoredMut<'_>, e: &EventRow) -> Result<(), Refusal>
+    ensures came { (l : List Row) → HoldsRows s.old.words.now l
+        → Came (provided (fit_new_route e.now) (added_row (route_row e.now) (flags e.now) l)) s.new.words.now result }
+    ensures place { s.new.words.ghost_name ≡ s.old.words.ghost_name }
+{
+    let row = fit_route(e, FLAGS_MOST)?;
+    add(s, row, e[event::FLAGS])
+}
+
+fn del_route4(s: &mut StoredMut<'_>, e: &EventRow) -> Result<(), Refusal>
+    ensures came { (l : List Row) → HoldsRows s.old.words.now l
+        → Came (provided (fit_del_route e.now) (deleted_row (route_row e.now) l)) s.new.words.now result }
+    ensures place { s.new.words.ghost_name ≡ s.old.words.ghost_name }
+{
+    let row = fit_route(e, 0)?;
+    delete(s, row)
+}
+
+// The device's routes go, but for those of host scope.
+fn link_down(s: &mut StoredMut<'_>, e: &EventRow) -> Result<(), Refusal>
+    ensures came { (l : List Row) → HoldsRows s.old.words.now l → Came (provided (fit_mark e.now) (Recording·rows (after_down l))) s.new.words.now result }
+    ensures place { s.new.words.ghost_name ≡ s.old.words.ghost_name }
+{
+    fit_mark(e)?;
+    state_retain::down(s);
+    Ok(())
+}
+
+// All of the device's routes go.
+fn ip_disabled(s: &mut StoredMut<'_>, e: &EventRow) -> Result<(), Refusal>
+    ensures came { (l : List Row) → HoldsRows s.old.words.now l → Came (provided (fit_mark e.now) (Recording·rows (after_last l))) s.new.words.now result }
+    ensures place { s.new.words.ghost_name ≡ s.old.words.ghost_name }
+{
+    fit_mark(e)?;
+    state_retain::deviceless(s);
+    Ok(())
+}
+
+// An event onto the rows. Where it is refused nothing is said of the rows.
+pub fn event(s: &mut StoredMut<'_>, e: &EventRow) -> Result<(), Refusal>
+    ensures came { (l : List Row) → HoldsRows s.old.words.now l → Came (Recording·event e.now l) s.new.words.now result }
+    ensures place { s.new.words.ghost_name ≡ s.old.words.ghost_name }
+{
+    match e[event::KIND] {
+        event::NEW_ADDR4 | event::DEL_ADDR4 => fit_address(e),
+        event::NEW_ROUTE4 => new_route4(s, e),
+        event::DEL_ROUTE4 => del_route4(s, e),
+        event::LINK_DOWN => link_down(s, e),
+        event::IP_DISABLED => ip_disabled(s, e),
+        _ => Err(Refusal::UnknownEvent),
+    }
+}
