@@ -4,15 +4,16 @@ use Rattle.std.specs.Prelude.{ℕ, ◌≡◌, refl, false, ◌||◌, List, [], �
 use Rattle.std.proofs.Common.{sym, ap, subst, ◌∙◌, arith, eqb-true, ltb-false, get_or-take}
 use Rattle.std.proofs.lemmas.Bool.{leb-false}
 use Rattle.lists.specs.Lists.{Row, any}
-use Rattle.lists.specs.Bools.{cond-case, test-case, or-false}
+use Rattle.lists.specs.Bools.{cond-case, or-false}
 use Rattle.definition.specs.State.{State}
 use Rattle.definition.specs.Words.{base_size, decode, base, state_of, table_count, row_counts, row_counts_at}
 use Rattle.definition.specs.Call.{Call}
-use Rattle.definition.specs.Step.{alters, semantics, step}
-use Rattle.definition.proofs.Preservation.Step.{Held, step-held, perform-reads}
+use Rattle.definition.specs.Step.{step}
+use Rattle.definition.proofs.Preservation.Step.{Held, step-held}
 use Rattle.definition_parts.specs.Rule.{more_tables}
 use Rattle.definition_parts.proofs.Changed.{tables-counted}
 use Rattle.definition_recording.specs.Recording.{Rebuilt, rows, refused, kind, of_routes, fit_address_event, event, next, rebuild_from}
+use Rattle.definition_recording.specs.Statement.{events_by}
 use Rattle.definition_recording.proofs.Theorem.{step-again}
 use Rattle.definition_recording.proofs.Tables.{step-lists}
 
@@ -43,18 +44,16 @@ rebuild-stays (e ∷ events) l h =
     go (refused n) s t = tt
 
 -- ---- so the routes stay
-routes-stay : (c : Call) (w : List ℕ) → any of_routes (step c w).reply.rows ≡ false → (state_of (step c w).words).routes ≡ (state_of w).routes
+routes-stay : (c : Call) (w : List ℕ) → any of_routes (events_by c (step c w).reply) ≡ false → (state_of (step c w).words).routes ≡ (state_of w).routes
 routes-stay c w h =
-    test-case (alters (semantics c).action)
-    (λ t. subst (λ (r : Rebuilt). Stays (state_of w).routes r) (rw t at (step-again c w)) (rebuild-stays (step c w).reply.rows (state_of w).routes h))
-    (λ t. ap (λ (x : List ℕ). (state_of x).routes) (perform-reads (semantics c) w t))
+    subst (Stays (state_of w).routes) (step-again c w) (rebuild-stays (events_by c (step c w).reply) (state_of w).routes h)
 
 -- ---- and where no table is listed, the row counts
 counts-by : (st later : State) → later.routes ≡ st.routes → later.tables ≡ st.tables → row_counts later ≡ row_counts st
 unfolding row_counts
 counts-by st later r t = rw (r, t)
 
-pub row_counts-stay : (c : Call) (w v : List ℕ) → Held w → v ≡ base (step c w).words → any of_routes (step c w).reply.rows ≡ false
+pub row_counts-stay : (c : Call) (w v : List ℕ) → Held w → v ≡ base (step c w).words → any of_routes (events_by c (step c w).reply) ≡ false
     → more_tables w v ≡ false → row_counts (decode v) ≡ drop row_counts_at w
 row_counts-stay c w v h e none few =
     let later = (step c w).words in

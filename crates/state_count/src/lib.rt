@@ -27,7 +27,7 @@ pub fn read(state: &[u32]) -> u64
 }
 
 // One change more.
-fn count(state: &mut [u32])
+pub fn count(state: &mut [u32])
     requires { length state.old ≡ state_size }
     ensures { state.new ≡ put base_size (counted true state.old) state.old }
 {
