@@ -1,7 +1,8 @@
 -- How long event rows are.
 -- Assumes nothing.
-use Rattle.std.specs.Prelude.{ℕ, ◌+◌, ◌≡◌, List, length}
+use Rattle.std.specs.Prelude.{ℕ, ◌-◌, ◌≡◌, refl, List, [], ◌∷◌, ◌++◌, length}
 use Rattle.std.proofs.Common.{arith}
+use Rattle.lists.specs.Lists.{zeros}
 use Rattle.lists.specs.Rows.{length-zeros}
 use Rattle.layout.specs.Event.{new_route4, del_route4, bare}
 
@@ -18,3 +19,7 @@ del_route-long r h = omega arith
 pub bare-long : (kind : ℕ) → length (bare kind) ≡ 34
 unfolding bare
 bare-long kind = omega (arith, length-zeros 33)
+
+pub bare_row : (kind : ℕ) → kind ∷ 0 ∷ ([] ++ zeros (32 - 0)) ≡ bare kind
+unfolding bare zeros
+bare_row kind = refl

@@ -69,6 +69,7 @@ impl Change<'_, '_> {
     }
 
     // The device's rows go but for those of host scope; and with the last address all of them. One event for all, without a row.
+    #[tactic(auto, using(crate::specs::Row::bare_row))]
     pub fn link_down(&mut self)
         requires { 34 * (self.old.told + 1) ≤ length self.old.events.now }
         ensures tells { Tells (link_down ∷ []) self.old self.new }
@@ -77,6 +78,7 @@ impl Change<'_, '_> {
         self.tell(&event_row(event::LINK_DOWN, 0, &[]));
     }
 
+    #[tactic(auto, using(crate::specs::Row::bare_row))]
     pub fn ip_disabled(&mut self)
         requires { 34 * (self.old.told + 1) ≤ length self.old.events.now }
         ensures tells { Tells (ip_disabled ∷ []) self.old self.new }
