@@ -2,7 +2,8 @@
 -- Assumes nothing.
 use Rattle.std.specs.Prelude.{ℕ, ◌+◌, ◌*◌, ◌/◌, ◌≤◌, ◌≡◌, ◌≢◌, refl, Bool, true, false, ◌&&◌, ◌||◌, List, [], ◌++◌, eqb, ltb, length, drop, Ok, Err, IsErrAnd}
 use Rattle.std.specs.Prelude.{Result as Answer}
-use Rattle.std.proofs.Common.{arith, sym, ap, subst, ◌∙◌, ne_eqb, eq-eqb, leb-true, length-append}
+use Rattle.std.specs.Result.{result_unwrap_or}
+use Rattle.std.proofs.Common.{arith, sym, ap, subst, ◌∙◌, ne_eqb, eq-eqb, leb-true, length-append, zero-add}
 use Rattle.std.proofs.Math.Bool.{and-false}
 use Rattle.lists.specs.Lists.{Row, any, flat, put, chop}
 use Rattle.lists.specs.Rows.{length-flat, chop-flat}
@@ -26,7 +27,7 @@ use Rattle.refusal.specs.declared.Refusal.{Refusal}
 use Rattle.refusal.specs.declared.Refusal.TheVariants.{WrongLength, Full}
 use Rattle.refusal.specs.Refusal.{number_of, Refuses}
 use Rattle.call_change.specs.Answer.{Answers}
-use Rattle.call_change.specs.Ran.{told_some, told_count, told_rows}
+use Rattle.call_change.specs.Ran.{told_some, told_rows}
 use Rattle.call_change.specs.Emitted.{EmittedRows, emitted}
 use Rattle.call_change.specs.Count.{leaving}
 
@@ -104,7 +105,7 @@ pub left-formed : (c : Call) {w v ev ev' : List ℕ} {r : Answer ℕ Refusal} �
 left-formed c {w} h t = ap well_formed t.lists ∙ (step-held c w h).well
 
 -- the rows that it told are the reply's
-counted-rows : (r : Answer ℕ Refusal) (x : Reply) → answer_by valuing r ≡ numbers x → told_count r ≡ x.value
+counted-rows : (r : Answer ℕ Refusal) (x : Reply) → answer_by valuing r ≡ numbers x → result_unwrap_or r 0 ≡ x.value
 counted-rows (Ok n) x e = ap (λ (m : Numbers). m.value) e
 counted-rows (Err d) x e = ap (λ (m : Numbers). m.value) e
 
@@ -112,12 +113,12 @@ rows-told : {x : Result} {v ev ev' : List ℕ} {r : Answer ℕ Refusal} → Emit
 unfolding put
 rows-told {x} {v} {ev} {ev'} {r} k t =
     let rows = x.reply.rows in
-    let n : told_count r ≡ length rows = counted-rows r x.reply t.says ∙ k.counts in
-    let words : ev' ≡ flat rows ++ drop (length (flat rows)) ev = t.events in
+    let n : result_unwrap_or r 0 ≡ length rows = counted-rows r x.reply t.says ∙ k.counts in
+    let words : ev' ≡ flat rows ++ drop (length (flat rows)) ev = rw zero-add at t.events in
     let long : length ev' ≡ 34 * length rows + length (drop (length (flat rows)) ev) =
     ap length words ∙ length-append (flat rows) (drop (length (flat rows)) ev) ∙ ap (λ (m : ℕ). m + length (drop (length (flat rows)) ev)) (length-flat 34 rows k.size)
     in
-    chunks_take 34 (told_count r) (length ev' / 34) ev' (omega (arith, n, long))
+    chunks_take 34 (result_unwrap_or r 0) (length ev' / 34) ev' (omega (arith, n, long))
     ∙ ap (λ (m : ℕ). chop 34 m ev') n
     ∙ ap (chop 34 (length rows)) words
     ∙ chop-flat 34 rows (drop (length (flat rows)) ev) k.size

@@ -3,6 +3,7 @@ use Rattle.std.specs.Prelude.{ℕ, ◌/◌, ◌≡◌, Bool, true, false, ◌&&�
 use Rattle.std.specs.Prelude.{Result as Answer}
 use denote.Ref.{MutBor}
 use Rattle.std.specs.Simd.{first_chunks}
+use Rattle.std.specs.Result.{result_unwrap_or}
 use Rattle.std.specs.Fn.{Once, FnOnceTakesAtMut, FnOnceReturnsAtMut}
 use Rattle.lists.specs.Lists.{Row, any}
 use Rattle.layout.specs.Event as Event
@@ -28,13 +29,9 @@ abbrev pub told_some : Answer ℕ Refusal → Bool
 told_some (Ok n) = ltb 0 n
 told_some (Err e) = false
 
--- how many rows it told, and these, of the event buffer
-abbrev pub told_count : Answer ℕ Refusal → ℕ
-told_count (Ok n) = n
-told_count (Err e) = 0
-
+-- the rows that it told, of the event buffer; one that is refused told none
 abbrev pub told_rows : Answer ℕ Refusal → List ℕ → List Row
-told_rows r ev = take (told_count r) (first_chunks Event.size (length ev / Event.size) ev)
+told_rows r ev = take (result_unwrap_or r 0) (first_chunks Event.size (length ev / Event.size) ev)
 
 -- the predicates of a step
 abbrev pub Step : Type 0 → Type 1

@@ -86,7 +86,7 @@ fn told_some(told: Result<usize, Refusal>) -> bool
     told.is_ok_and(|n| 0 < n)
 }
 
-// Whether a row told is of a route, or of all the device's.
+// Whether a row told is of a route, or of all that the device has: then the rows of a table may be more or fewer.
 fn told_routes(events: &[u32], told: Result<usize, Refusal>) -> bool
     ensures { result ≡ any of_routes (told_rows told events.now) }
 {
@@ -97,8 +97,8 @@ fn told_routes(events: &[u32], told: Result<usize, Refusal>) -> bool
 }
 
 // The same on the words of a state, and what is behind the lists settled where they changed: a step tells a row of whatever it changes
-// but tables. `other` says that the row told isn't the one that was there. Rows of tables are counted where a route or a table may have
-// changed alone: that takes more time than to change an address.
+// but tables. `other` says that the row told isn't the one that was there. The row counts are made anew only where they may be others,
+// which a replaced address leaves: to count takes longer than to replace it.
 fn changed<F: FnOnce(&mut Change<'_, '_>) -> Result<(), Refusal>>(
     state: &mut [u32],
     events: &mut [u32],
