@@ -1,7 +1,7 @@
 -- The steps of what goes with an address, as the code makes them.
 -- Assumes nothing.
 use Rattle.std.specs.Prelude.{ℕ, ◌+◌, ◌*◌, ◌≤◌, ◌<◌, ◌≡◌, refl, Bool, true, false, cond, not, ◌&&◌, List, [], ◌∷◌, length, get_or}
-use Rattle.std.proofs.Common.{sym, ap, subst, arith, ◌∙◌, eq-eqb, ne_eqb}
+use Rattle.std.proofs.Common.{ap, subst, arith, ◌∙◌, eq-eqb, ne_eqb}
 use Rattle.lists.specs.Lists.{Row, any, keep}
 use Rattle.lists.specs.Bools.{cond-true, cond-false, cond-case, test-case}
 use Rattle.lists.specs.Keep.{keep-nothing}
@@ -83,10 +83,10 @@ module _ {st : State} (ip : ℕ) (lost : Bool) {a : Change} where
   fall-goes e t = step_eq (fall-falls ip lost st ∙ cond-true (falls ip lost st) (dependents_go ip st) (stays st) e) t
 
 -- ---- what goes with the last address
-module _ {st : State} {a : Change} where
-  pub room_left : RoomFor closing st a → RoomFor potential st a
-  room_left f = record { holds = f.holds; room = omega (arith, f.room) }
+pub room_left : {st : State} {a : Change} → RoomFor closing st a → RoomFor potential st a
+room_left f = record { holds = f.holds; room = omega (arith, f.room) }
 
+module _ (st : State) {a : Change} where
   pub last-goes : length st.addresses ≡ 0 → {b : Change} → Represents b.state.words.now (deviceless st) → Tells (ip_disabled ∷ []) a b → Emits (disable st) a b
   unfolding disable
   last-goes e h t = rw (eq-eqb (length st.addresses) 0 e) (does-one (deviceless st) ip_disabled h (bare-long 6) t)

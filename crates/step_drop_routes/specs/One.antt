@@ -1,9 +1,9 @@
 -- What goes with an address, step by step: those of its routes that none wants, what falls with it, the device's routes.
 -- Assumes nothing.
-use Rattle.std.specs.Prelude.{ℕ, suc, ◌+◌, ◌≤◌, ◌<◌, ◌≡◌, refl, Bool, cond, not, ◌&&◌, List, [], ◌∷◌, ◌++◌, eqb, length, get_or, drop}
-use Rattle.std.proofs.Common.{ap, ◌∙◌, append-nil, arith, add-one, drop_of_length-le, drop-cons}
+use Rattle.std.specs.Prelude.{ℕ, suc, ◌+◌, ◌≤◌, ◌<◌, ◌≡◌, refl, Bool, cond, not, ◌&&◌, List, [], ◌∷◌, eqb, length, get_or, drop}
+use Rattle.std.proofs.Common.{ap, ◌∙◌, add-one, drop_of_length-le, drop-cons}
 use Rattle.lists.specs.Lists.{Row, any, keep}
-use Rattle.lists.specs.Bools.{test-case, cond-case}
+use Rattle.lists.specs.Bools.{test-case}
 use Rattle.lists.specs.Count.{count}
 use Rattle.layout.specs.Address.{local}
 use Rattle.layout.specs.Route as Route

@@ -13,11 +13,11 @@ pub returns-then-address_count-eq0 : goal.returns-then-address_count-eq0
 returns-then-address_count-eq0 c =
     λ st f.
     let n = c.address_count.ensures ∙ ap address_count c.stored.ensures in
-    last-goes (sym (count-addresses f.holds) ∙ sym n ∙ c.if-address_count-eq0.true) (rw c.ip_disabled.ensures.state (c.deviceless.ensures.holds st f.holds))
+    last-goes st (sym (count-addresses f.holds) ∙ sym n ∙ c.if-address_count-eq0.true) (rw c.ip_disabled.ensures.state (c.deviceless.ensures.holds st f.holds))
     (tells-ahead c.ip_disabled.ensures.tells refl refl c.deviceless.ensures.place refl)
 
 pub returns-else-address_count-eq0 : goal.returns-else-address_count-eq0
 returns-else-address_count-eq0 c =
     λ st f.
     let n = c.address_count.ensures ∙ ap address_count c.stored.ensures in
-    others-stay (λ e. c.if-address_count-eq0.false (n ∙ count-addresses f.holds ∙ e)) f.holds
+    others-stay st (λ e. c.if-address_count-eq0.false (n ∙ count-addresses f.holds ∙ e)) f.holds

@@ -1,9 +1,9 @@
 use Rattle.std.proofs.Common.{ap, ◌∙◌, List}
 use Rattle.lists.specs.Lists.{Row, any}
-use Rattle.definition.specs.State.{State, also, through}
+use Rattle.definition.specs.State.{also, through}
 use Rattle.definition.specs.Preservation.Shrinking.{potential}
-use Rattle.step_events.specs.EmitsWithin.{RoomFor, EmitsWithin, rest-fits, rest-room, step-also}
-use Rattle.step_drop_routes.specs.One.{closing, unless_wanted, loses, fall_from}
+use Rattle.step_events.specs.EmitsWithin.{rest-fits, rest-room, step-also}
+use Rattle.step_drop_routes.specs.One.{unless_wanted, loses, fall_from}
 use Rattle.step_drop_routes.specs.Iterations.{room_left, gone_room, routes-gone}
 use Rattle.step_drop_routes.proofs.take_routes.Goals as goal
 
