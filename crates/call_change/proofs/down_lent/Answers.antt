@@ -1,7 +1,6 @@
 -- `call_change::down_lent` meets its contract.
 use Rattle.std.proofs.Common.{sym, refl, rules, arith, ap, length, leb-true, ◌∙◌, ◌≡◌, ◌≤◌, ◌*◌, ◌+◌}
 use Rattle.std.proofs.lemmas.Bool.{lt-ltb, le-ltb}
-use Rattle.layout.specs.Event as Event
 use Rattle.definition.specs.Call as Call
 use Rattle.definition.specs.Words.{base_size, state_of}
 use Rattle.definition.specs.Step.{event_room, semantics, down_call}
@@ -21,8 +20,8 @@ returns-in_err-checked c =
 pub slice_bounds-stepped-end-2 : goal.slice_bounds-stepped-end-2
 slice_bounds-stepped-end-2 c = sym (lent (passed (semantics (Call.down c.args.room)).checks c.args.state.now (c.checked.ensures.refuses 0 refl) c.in_ok-checked.was))
 
-pub stepped-requires-clause-takes : goal.stepped-requires-clause-takes
-stepped-requires-clause-takes c a h q e =
+pub stepped-told-requires-clause-takes : goal.stepped-told-requires-clause-takes
+stepped-told-requires-clause-takes c a h q e =
     let p = passed (semantics (Call.down c.args.room)).checks c.args.state.now (c.checked.ensures.refuses 0 refl) c.in_ok-checked.was in
     let room : 34 * (a.told + 1) ≤ length a.events.now = omega (arith, c.requires (leb-true event_room c.args.room p.room), ap length h.buffer, h.none) in
     search (rules, room, e)
