@@ -33,7 +33,7 @@ module _ (w : List ℕ) (h : Held w) where
   unfolding encode
   routes-counted = sym (get_or-take base_size w 1 0 (omega arith)) ∙ ap (λ (v : List ℕ). get_or v 1 0) (sym base-encode)
 
-  tables-counted : table_count w ≡ length (state_of w).tables
+  pub tables-counted : table_count w ≡ length (state_of w).tables
   unfolding encode
   tables-counted = sym (get_or-take base_size w 2 0 (omega arith)) ∙ ap (λ (v : List ℕ). get_or v 2 0) (sym base-encode)
 

@@ -91,7 +91,7 @@ changes-again c w t =
     go k (replies f) t l r h p = cc
     go k (lists f) t l r h p = cc
 
-step-again : (c : Call) (w : List ℕ) → rebuild_from (events_by c (step c w).reply) (state_of w).routes ≡ rows (state_of (step c w).words).routes
+pub step-again : (c : Call) (w : List ℕ) → rebuild_from (events_by c (step c w).reply) (state_of w).routes ≡ rows (state_of (step c w).words).routes
 step-again c w =
     test-case (alters (semantics c).action) (λ t. rw t (changes-again c w t))
     (λ t. rw t (unfold rebuild_from in ap (λ (x : List ℕ). rows (state_of x).routes) (sym (perform-reads (semantics c) w t))))

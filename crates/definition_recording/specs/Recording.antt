@@ -20,6 +20,10 @@ pub data Rebuilt : Type 0 where
 abbrev pub kind : Row → ℕ
 kind e = get_or e 0 0
 
+-- 1 and 2 are of addresses, all others of routes
+abbrev pub of_routes : Row → Bool
+of_routes e = leb 3 (kind e)
+
 abbrev pub flags : Row → ℕ
 flags e = get_or e 1 0
 
