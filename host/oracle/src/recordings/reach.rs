@@ -3,7 +3,7 @@
 use crate::generate::recordings::{DAMAGES, Recordings};
 use crate::port::{Bytes, words};
 use crate::recording::{
-    APPENDS, Beside, LAST_ADDRESS, Model, NUMBERS, REPLACES, RecordingCase, WENT_DOWN, alike,
+    APPENDS, Beside, IP_DISABLED, LINK_DOWN, Model, NUMBERS, REPLACES, RecordingCase, alike,
     effect, events, rebuild, step,
 };
 use crate::words::ROUTE_LIMIT;
@@ -42,22 +42,22 @@ const KINDS: [(&str, Holds); 15] = [
         e[0] == 4 && first.is_some_and(|r| *r != row_of(e))
     }),
     ("event 5 leaves scope 254 of the device", |e, rows| {
-        e[0] == WENT_DOWN && rows.iter().any(|r| r[12] == 1 && r[7] == 254)
+        e[0] == LINK_DOWN && rows.iter().any(|r| r[12] == 1 && r[7] == 254)
     }),
     ("event 5 leaves rows without it", |e, rows| {
-        e[0] == WENT_DOWN && rows.iter().any(|r| r[12] == 0 && r[7] != 254)
+        e[0] == LINK_DOWN && rows.iter().any(|r| r[12] == 0 && r[7] != 254)
     }),
     ("event 5 takes another scope than 253", |e, rows| {
-        e[0] == WENT_DOWN
+        e[0] == LINK_DOWN
             && rows
                 .iter()
                 .any(|r| r[12] == 1 && !matches!(r[7], 253 | 254))
     }),
     ("event 6 takes scope 254", |e, rows| {
-        e[0] == LAST_ADDRESS && rows.iter().any(|r| r[12] == 1 && r[7] == 254)
+        e[0] == IP_DISABLED && rows.iter().any(|r| r[12] == 1 && r[7] == 254)
     }),
     ("event 6 leaves rows without the device", |e, rows| {
-        e[0] == LAST_ADDRESS && rows.iter().any(|r| r[12] == 0)
+        e[0] == IP_DISABLED && rows.iter().any(|r| r[12] == 0)
     }),
     ("an address comes", |e, _| e[0] == 1),
     ("an address goes", |e, _| e[0] == 2),

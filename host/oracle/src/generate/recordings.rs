@@ -7,7 +7,7 @@ use super::states;
 use crate::event::event;
 use crate::port::bytes;
 use crate::recording::{
-    APPENDS, Beside, LAST_ADDRESS, REPLACES, RecordingCase, WENT_DOWN, mark, place, rebuild, step,
+    APPENDS, Beside, IP_DISABLED, LINK_DOWN, REPLACES, RecordingCase, mark, place, rebuild, step,
 };
 use crate::rng::Rng;
 use crate::words::{ADDRESS_WORDS, EVENT_WORDS, LISTING_BUFFER, ROUTE_LIMIT, decode};
@@ -157,7 +157,7 @@ fn is_route(event: &EventRow) -> bool {
     matches!(event[0], 3 | 4)
 }
 fn is_mark(event: &EventRow) -> bool {
-    matches!(event[0], WENT_DOWN | LAST_ADDRESS)
+    matches!(event[0], LINK_DOWN | IP_DISABLED)
 }
 
 /// A recording in the making, and the words lent for its rows.
@@ -372,7 +372,7 @@ impl Recordings {
             8 => {
                 // what an event behind it changes, or not
                 let mut events = made.events.clone();
-                events.push(mark(rng.pick(&[WENT_DOWN, LAST_ADDRESS])));
+                events.push(mark(rng.pick(&[LINK_DOWN, IP_DISABLED])));
                 Made::new(events)
             }
             _ => Made::new(self.recording()),
@@ -413,8 +413,8 @@ fn any(rng: &mut Rng, rows: &[RouteRow]) -> Vec<u32> {
     let some = (!rows.is_empty()).then(|| rows[rng.below(rows.len())]);
     match rng.below(24) {
         0 | 1 => event(1 + rng.below(2) as u32, 0, &states::address(rng)),
-        2 => mark(WENT_DOWN).to_vec(),
-        3 if rng.one_in(2) => mark(LAST_ADDRESS).to_vec(),
+        2 => mark(LINK_DOWN).to_vec(),
+        3 if rng.one_in(2) => mark(IP_DISABLED).to_vec(),
         3..7 => match some {
             Some(row) => event(4, 0, &row),
             None => event(3, 0x400, &states::route(rng)),

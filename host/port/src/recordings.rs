@@ -1,115 +1,128 @@
 //! Recordings of events on every boundary, against the model of recordings;
-//! and what runs on the library itself told, rebuilt by it.
+//! and what runs on the library told, rebuilt by it.
+use crate::comparison::{Comparison, Tally};
 use crate::guarded::Guard;
 use crate::guarded::Lent::{Read, Write};
-use crate::library::{BYTE, WORD, named, reply};
+use crate::library::{BYTE, OnWords as Library, WORD, named, reply};
 use crate::records::{event, event_words, route_words};
-use crate::typed::{Arguments, Told, sayable};
-use naskrefim::{Addresses, Event, bytes, rebuild, same, words};
-use oracle::call::{Buffer, Reply};
+use naskrefim::{Event, bytes, rebuild, same, words};
+use oracle::call::Reply;
+use oracle::compare::filled;
 use oracle::generate::recordings::Recordings;
 use oracle::generate::runs::Run;
 use oracle::json;
-use oracle::port::Bytes;
+use oracle::port::{self, Bytes, WordPort};
 use oracle::recording::{Beside, NUMBERS, Rebuilder, against};
 use oracle::rng::Rng;
-use oracle::words::{EVENT_WORDS, LISTING_BUFFER};
-use std::collections::BTreeMap;
+use oracle::script::written;
+use oracle::words::{EVENT_WORDS, LISTING_BUFFER, ROUTES_AT, STATE_WORDS};
 
 /// Of how many recordings one is of a run on the library.
 const PER_RUN: usize = 20;
+/// The most calls of a run.
+const LONG: [usize; 3] = [10, 60, 400];
 
-pub struct Comparison {
+pub struct Recorded {
+    rebuilders: Vec<Box<dyn Rebuilder<u8>>>,
+    library: Library,
     recordings: Recordings,
     rng: Rng,
-    seed: u64,
-    /// How often each number was given, and those that rebuild the same.
-    pub numbers: BTreeMap<u32, usize>,
-    pub alike: usize,
-    /// Runs whose events rebuilt their routes, and these events.
-    pub runs: usize,
-    pub events: usize,
-    /// Calls of the library.
-    pub calls: usize,
+    tally: Tally,
+    /// Recordings compared, and of two those of the same rows.
+    compared: usize,
+    alike: usize,
+    /// Runs whose events rebuilt their routes, the calls of these, and the
+    /// events.
+    runs: usize,
+    calls: usize,
+    events: usize,
 }
 
-impl Comparison {
-    pub fn new(seed: u64) -> Self {
+impl Recorded {
+    pub fn new(rebuilders: Vec<Box<dyn Rebuilder<u8>>>, seed: u64) -> Self {
         Self {
+            rebuilders,
+            library: Library::default(),
             recordings: Recordings::new(seed),
             rng: Rng::new(seed ^ 0x90),
-            seed,
-            numbers: BTreeMap::new(),
+            tally: Tally::default(),
+            compared: 0,
             alike: 0,
             runs: 0,
-            events: 0,
             calls: 0,
+            events: 0,
         }
-    }
-
-    /// The next `count` recordings.
-    pub fn generated(
-        &mut self,
-        rebuilders: &mut [Box<dyn Rebuilder<u8>>],
-        count: usize,
-    ) -> Result<(), String> {
-        for i in 0..count {
-            let case = self.recordings.next_case();
-            for rebuilder in &mut *rebuilders {
-                self.calls += 1;
-                let reply = against(&mut **rebuilder, &case).map_err(|what| {
-                    let line = json::recording_line(&case);
-                    format!("{what}\n{line}\n(seed {})", self.seed)
-                })?;
-                *self.numbers.entry(reply.number).or_default() += 1;
-                let second = matches!(case.beside, Beside::Second(_));
-                self.alike += usize::from(second && reply.value == 1);
-            }
-            if i % PER_RUN == 0 {
-                self.run()
-                    .map_err(|what| format!("{what}\n(seed {})", self.seed))?;
-            }
-        }
-        Ok(())
     }
 
     /// "For every run from empty the rebuilt rows equal the table's, in
-    /// order", all of it by the library.
+    /// order", all of it by the library. The model only draws calls that fit
+    /// the state.
     fn run(&mut self) -> Result<(), String> {
-        let (mut lo, mut told, mut run) = (Addresses::new(), Vec::new(), Run::default());
-        for _ in 0..1 + self.rng.below(40) {
-            let code = self
-                .rng
-                .pick(&[1, 1, 2, 3, 3, 3, 4, 4, 5, 6, 6, 6, 6, 7, 7]);
+        let (mut run, mut told) = (Run::default(), Vec::new());
+        let mut state = vec![0; STATE_WORDS];
+        let most = self.rng.pick(&LONG);
+        for _ in 0..=self.rng.below(most) {
+            let code = 1 + self.rng.below(15) as u32;
             let call = run.draw(&mut self.rng, code);
             run.make(&call);
-            let buffer = Buffer::Events.least();
-            if !sayable(&call, run.state.len(), buffer) {
-                continue;
+            let mut buffer = filled(call.buffer().least());
+            let reply = self.library.call(&call, &mut state, &mut buffer);
+            if code <= 7 {
+                told.extend(&buffer[..written(&call, &reply)]);
             }
+            self.tally.calls += 1;
             self.calls += 1;
-            if let Told::Events(Ok(events)) = Arguments::of(&call).call(&mut lo) {
-                told.extend(events);
-            }
         }
-        let found = rebuild(&told);
-        let expected: Vec<_> = lo.routes().collect();
-        if found.as_ref() != Ok(&expected) {
-            return Err(format!(
-                "a run's events rebuild {found:?} in place of {expected:?}"
-            ));
+        let rows = &state[ROUTES_AT..][..32 * state[1] as usize];
+        let mut expected = filled(LISTING_BUFFER);
+        expected[..rows.len()].copy_from_slice(rows);
+        let (recording, expected) = (port::bytes(&told), port::bytes(&expected));
+        for rebuilder in &mut self.rebuilders {
+            let mut found = port::bytes(&filled(LISTING_BUFFER));
+            let reply = rebuilder.rebuild(&recording, &mut found);
+            self.tally.calls += 1;
+            if reply != Reply::value(state[1]) || found != expected {
+                return Err(format!(
+                    "{}: rebuild: {reply:?} in place of {} rows, or others than the state's, of a run's \
+                     {} events",
+                    rebuilder.name(),
+                    state[1],
+                    told.len() / EVENT_WORDS
+                ));
+            }
         }
         self.runs += 1;
-        self.events += told.len();
+        self.events += told.len() / EVENT_WORDS;
         Ok(())
     }
+}
 
-    /// All numbers came up.
-    pub fn reached(&self) -> Result<(), String> {
-        match NUMBERS.iter().find(|n| !self.numbers.contains_key(n)) {
-            None => Ok(()),
-            Some(number) => Err(format!("no recording gave {number}")),
+impl Comparison for Recorded {
+    fn next(&mut self) -> Result<(), String> {
+        let case = self.recordings.next_case();
+        for rebuilder in &mut self.rebuilders {
+            let reply = against(&mut **rebuilder, &case)
+                .map_err(|what| format!("{what}\n{}", json::recording_line(&case)))?;
+            self.tally.called(reply.number);
+            let second = matches!(case.beside, Beside::Second(_));
+            self.alike += usize::from(second && reply.value == 1);
         }
+        self.compared += 1;
+        if self.compared.is_multiple_of(PER_RUN) {
+            self.run()?;
+        }
+        Ok(())
+    }
+    fn reached(&self) -> Result<(), String> {
+        self.tally.reached("recording", &NUMBERS)
+    }
+    fn said(&self) -> String {
+        let Tally { numbers, calls } = &self.tally;
+        format!(
+            "recordings {numbers:?}, {} of the same rows, and {} runs of {} calls with {} events, rebuilt; \
+             {calls} calls of the library",
+            self.alike, self.runs, self.calls, self.events
+        )
     }
 }
 
