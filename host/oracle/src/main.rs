@@ -1,9 +1,11 @@
 //! The oracle's commands. Every one ends with a line of counts; the exit
 //! status is 0 only if nothing failed.
+use oracle::generate::events::Events;
+use oracle::generate::messages::Messages;
 use oracle::vectors::{MODELS, Makers};
 use oracle::{
-    checks, coverage, document, events, examples, facts, faults, json, linux, messages, netmask,
-    pairs, parts, recordings, rfc, tables, vectors,
+    checks, coverage, document, events, examples, facts, faults, json, linux, listed, messages,
+    netmask, pairs, parts, recordings, rfc, tables, vectors,
 };
 use std::process::ExitCode;
 use std::time::Instant;
@@ -160,10 +162,10 @@ fn command(arguments: &[String]) -> Result<bool, String> {
             [_, _, folder] => {
                 let (count, seed) = (number(rest, 0, 0)?, number(rest, 1, SEED)?);
                 let write = match name.as_str() {
-                    "message-list" => messages::list::write,
-                    "event-list" => events::list::write,
-                    "recording-list" => recordings::list::write,
-                    _ => parts::list::write,
+                    "message-list" => listed::write::<Messages>,
+                    "event-list" => listed::write::<Events>,
+                    "recording-list" => listed::write::<recordings::list::Recorded>,
+                    _ => listed::write::<parts::list::Parts>,
                 };
                 write(count, seed, folder).map(|()| true)
             }
