@@ -7,7 +7,8 @@ use super::states;
 use crate::event::event;
 use crate::port::bytes;
 use crate::recording::{
-    APPENDS, Beside, IP_DISABLED, LINK_DOWN, REPLACES, RecordingCase, mark, place, rebuild, step,
+    APPENDS, Beside, IP_DISABLED, LINK_DOWN, REPLACES, RecordingCase, UNFIT_EVENT, mark, place,
+    rebuild, step,
 };
 use crate::rng::Rng;
 use crate::words::{ADDRESS_WORDS, EVENT_WORDS, LISTING_BUFFER, ROUTE_LIMIT, decode};
@@ -16,7 +17,7 @@ use reference::{EventRow, RouteRow};
 /// What is done to a recording, with the number that it is met by alone. It
 /// says whether it could be done.
 type Damage = fn(&mut Rng, &mut Made) -> bool;
-pub const DAMAGES: [(&str, u32, Damage); 19] = [
+const DAMAGES: [(&str, u32, Damage); 19] = [
     ("part of an event", 200, |rng, made| {
         made.tail = rng.pick(&[1, 2, 22, 32, 33]);
         true
@@ -39,15 +40,17 @@ pub const DAMAGES: [(&str, u32, Damage); 19] = [
             },
         )
     }),
-    ("unfit address", 209, |rng, made| {
-        let (_, by) = rng.pick(&ADDRESS_CLAUSES);
+    (UNFIT_ROWS[0], 209, |rng, made| {
+        let (clause, by) = rng.pick(&ADDRESS_CLAUSES);
+        made.clause = Some(clause);
         made.change(rng, is_address, |rng, event| {
             let (row, _) = event[2..].split_first_chunk_mut().expect("it is shorter");
             by(rng, row);
         })
     }),
-    ("unfit route", 209, |rng, made| {
-        let (_, by) = rng.pick(&ROUTE_CLAUSES);
+    (UNFIT_ROWS[1], 209, |rng, made| {
+        let (clause, by) = rng.pick(&ROUTE_CLAUSES);
+        made.clause = Some(clause);
         made.change(rng, is_route, |rng, event| {
             let (row, _) = event[2..].split_first_chunk_mut().expect("it is as long");
             by(rng, row);
@@ -146,6 +149,18 @@ pub const DAMAGES: [(&str, u32, Damage); 19] = [
         true
     }),
 ];
+/// Those that go by the name of the clause that is broken.
+const UNFIT_ROWS: [&str; 2] = ["unfit address", "unfit route"];
+
+/// The names of all damage, with the number of each alone.
+pub fn damages() -> impl Iterator<Item = (&'static str, u32)> {
+    let rows = ADDRESS_CLAUSES.iter().map(|(name, _)| *name);
+    let rows = rows.chain(ROUTE_CLAUSES.iter().map(|(name, _)| *name));
+    let others = DAMAGES.iter().map(|(name, number, _)| (*name, *number));
+    let others = others.filter(|(name, _)| !UNFIT_ROWS.contains(name));
+    rows.map(|name| (name, UNFIT_EVENT)).chain(others)
+}
+
 /// Those of what is lent beside a recording.
 const OF_ROWS: usize = 2;
 const FLAGS: [u32; 6] = [1, 0x100, 0x400, 0x800, 65_535, 65_536];
@@ -170,6 +185,8 @@ pub struct Made {
     /// The words lent for rows, and the bytes cut off them.
     room: usize,
     cut: usize,
+    /// The clause that a row was made to break.
+    clause: Option<&'static str>,
     damage: Vec<&'static str>,
 }
 
@@ -181,6 +198,7 @@ impl Made {
             spare: 0,
             room: LISTING_BUFFER,
             cut: 0,
+            clause: None,
             damage: Vec::new(),
         }
     }
@@ -326,7 +344,9 @@ impl Recordings {
         let mut way = self.turn % ways;
         loop {
             let (name, _, by) = DAMAGES[way];
-            if by(&mut self.rng, made) {
+            let done = by(&mut self.rng, made);
+            let name = made.clause.take().unwrap_or(name);
+            if done {
                 made.damage.push(name);
             }
             if !self.rng.one_in(4) {

@@ -1,6 +1,6 @@
 //! What generated recordings reach, and that each way of damage alone is met
 //! by its number.
-use crate::generate::recordings::{DAMAGES, Recordings};
+use crate::generate::recordings::{Recordings, damages};
 use crate::port::{Bytes, words};
 use crate::recording::{
     APPENDS, Beside, IP_DISABLED, LINK_DOWN, Model, NUMBERS, REPLACES, RecordingCase, alike,
@@ -177,7 +177,7 @@ pub fn run(count: usize, seed: u64) -> bool {
             [] => 0,
             [name] => {
                 *alone.entry(name).or_default() += 1;
-                let found = DAMAGES.iter().find(|(other, _, _)| *other == name);
+                let found = damages().find(|(other, _)| *other == name);
                 found.expect("it has a name").1
             }
             _ => continue,
@@ -187,7 +187,7 @@ pub fn run(count: usize, seed: u64) -> bool {
             println!("{call} {all:?}: {} in place of {expected}", reply.number);
         }
     }
-    for (name, number, _) in DAMAGES {
+    for (name, number) in damages() {
         let times = alone.get(name).copied().unwrap_or(0);
         println!("{name:36} alone {number}: {times:6}");
     }
@@ -200,7 +200,7 @@ pub fn run(count: usize, seed: u64) -> bool {
         .iter()
         .filter(|name| !seen.contains_key(*name))
         .count()
-        + DAMAGES.len()
+        + damages().count()
         - alone.len();
     let unanswered = ["rebuild", "same"]
         .iter()
@@ -210,7 +210,7 @@ pub fn run(count: usize, seed: u64) -> bool {
     println!(
         "recordings: {count} generated, answers {numbers:?}, {unanswered} not given; {} ways of damage \
          and {} kinds, {unseen} not seen; {misfits} not met as they must",
-        DAMAGES.len(),
+        damages().count(),
         wanted.len()
     );
     unseen + unanswered + misfits == 0 && numbers.len() == 2 * NUMBERS.len()
