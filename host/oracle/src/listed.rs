@@ -1,6 +1,7 @@
 //! Lists that a proved program replays: which cases are in one, and the
 //! files that it is, `stdin` with the records and `stdout` with what is to be
 //! printed of them.
+use crate::call::Reply;
 use crate::port::bytes;
 use std::collections::{BTreeMap, BTreeSet};
 use std::fs;
@@ -33,11 +34,15 @@ pub trait Source {
     fn next(&mut self) -> Option<(Self::Record, Vec<String>)>;
     /// The bytes of a record behind those given before.
     fn bytes(&mut self, record: &Self::Record) -> Vec<u8>;
-    /// The number that the model answers a record with, and the line to be
-    /// printed of it.
-    fn right(record: &Self::Record) -> (u32, String);
+    /// What the model replies to a record, and the line to be printed of it.
+    fn right(record: &Self::Record) -> (Reply, String);
     /// The same of one that goes wrong.
-    fn wrong(record: &Self::Record, fault: Self::Fault) -> (u32, String);
+    fn wrong(record: &Self::Record, fault: Self::Fault) -> (Reply, String);
+
+    /// Whether a record may be in the list though it shows nothing new.
+    fn may_fill(_record: &Self::Record) -> bool {
+        true
+    }
 
     fn finds(record: &Self::Record, fault: Self::Fault) -> bool {
         Self::wrong(record, fault) != Self::right(record)
@@ -55,9 +60,9 @@ pub fn write<S: Source>(count: usize, seed: u64, folder: &str) -> Result<(), Str
     let mut numbers: BTreeMap<u32, usize> = BTreeMap::new();
     for (i, record) in records.iter().enumerate() {
         list.extend(source.bytes(record));
-        let (number, line) = S::right(record);
+        let (reply, line) = S::right(record);
         printed += &format!("{i}: {line}\n");
-        *numbers.entry(number).or_default() += 1;
+        *numbers.entry(reply.number).or_default() += 1;
     }
     printed += &format!("{total} {several} of {total}\n");
     for (name, content) in [("stdin", &list[..]), ("stdout", printed.as_bytes())] {
@@ -99,7 +104,8 @@ fn chosen<S: Source>(source: &mut S, count: usize) -> Result<Vec<S::Record>, Str
         return Err(format!("{count} {several} don't show all: {least} do"));
     }
     while all.len() < count {
-        all.extend(source.next().map(|(record, _)| record));
+        let next = source.next().map(|(record, _)| record);
+        all.extend(next.filter(S::may_fill));
     }
     Ok(all)
 }

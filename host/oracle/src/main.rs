@@ -2,6 +2,7 @@
 //! status is 0 only if nothing failed.
 use oracle::generate::events::Events;
 use oracle::generate::messages::Messages;
+use oracle::generate::recordings::Recordings;
 use oracle::vectors::{MODELS, Makers};
 use oracle::{
     checks, coverage, document, events, examples, facts, faults, json, linux, listed, messages,
@@ -164,7 +165,7 @@ fn command(arguments: &[String]) -> Result<bool, String> {
                 let write = match name.as_str() {
                     "message-list" => listed::write::<Messages>,
                     "event-list" => listed::write::<Events>,
-                    "recording-list" => listed::write::<recordings::list::Recorded>,
+                    "recording-list" => listed::write::<Recordings>,
                     _ => listed::write::<parts::list::Parts>,
                 };
                 write(count, seed, folder).map(|()| true)

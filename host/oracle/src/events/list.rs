@@ -2,6 +2,7 @@
 //! what it has to print, by the writer of [`crate::event`] alone.
 //! host/README.md describes its format.
 use super::reach;
+use crate::call::Reply;
 use crate::event::{Given, Model, Writer};
 use crate::faults::events::{FAULTS, Fault};
 use crate::generate::events::{EventCase, Events};
@@ -45,9 +46,9 @@ impl Record {
         all
     }
 
-    /// What a writer makes of it: the number, or the count of bytes; and the
-    /// check of the whole buffer.
-    fn answer(&self, writer: &mut dyn Writer) -> (u32, String) {
+    /// What a writer makes of it: its reply, and the line, with the check of
+    /// the whole buffer.
+    fn answer(&self, writer: &mut dyn Writer) -> (Reply, String) {
         let mut buffer = bytes(&[PATTERN; ROOM / 4]);
         let lent = &mut buffer[..self.lent];
         let reply = writer.write(&bytes(&self.event), lent, self.given);
@@ -56,7 +57,7 @@ impl Record {
             0 => format!("{} bytes, check {check}", reply.value),
             number => format!("{number}, check {check}"),
         };
-        (reply.number, line)
+        (reply, line)
     }
 }
 
@@ -83,10 +84,10 @@ impl Source for Events {
     fn bytes(&mut self, record: &Record) -> Vec<u8> {
         bytes(&record.words())
     }
-    fn right(record: &Record) -> (u32, String) {
+    fn right(record: &Record) -> (Reply, String) {
         record.answer(&mut Bytes(Model))
     }
-    fn wrong(record: &Record, mut fault: Fault) -> (u32, String) {
+    fn wrong(record: &Record, mut fault: Fault) -> (Reply, String) {
         record.answer(&mut fault)
     }
 }
@@ -95,7 +96,7 @@ impl Source for Events {
 /// if it is one way alone, the kinds of writing, and the message's length.
 fn shown(case: &EventCase, record: &Record) -> Vec<String> {
     let kind = record.event.first().copied().unwrap_or(0).min(5);
-    let (number, _) = Events::right(record);
+    let number = Events::right(record).0.number;
     let mut all = vec![format!("{number} of kind {kind}")];
     if let [damage] = case.damage[..] {
         all.push(damage.to_string());

@@ -2,6 +2,7 @@
 //! what it has to print, by the reader of [`crate::message`] alone.
 //! host/README.md describes its format.
 use super::reach;
+use crate::call::Reply;
 use crate::faults::messages::{FAULTS, Fault};
 use crate::generate::messages::{MessageCase, Messages};
 use crate::listed::Source;
@@ -32,9 +33,9 @@ impl Record {
         }
     }
 
-    /// What a reader makes of it: the number, or the type and the count of
-    /// words; and the check of the whole buffer.
-    fn answer(&self, reader: &mut dyn Reader) -> (u32, String) {
+    /// What a reader makes of it: its reply, and the line, with the check of
+    /// the whole buffer.
+    fn answer(&self, reader: &mut dyn Reader) -> (Reply, String) {
         let mut buffer = bytes(&[PATTERN; ROOM]);
         let reply = reader.read(&self.message, &mut buffer[..4 * self.lent], self.up);
         let check = check(&words(&buffer));
@@ -45,7 +46,7 @@ impl Record {
             ),
             number => format!("{number}, check {check}"),
         };
-        (reply.number, line)
+        (reply, line)
     }
 }
 
@@ -81,10 +82,10 @@ impl Source for Messages {
         all.extend(message);
         all
     }
-    fn right(record: &Record) -> (u32, String) {
+    fn right(record: &Record) -> (Reply, String) {
         record.answer(&mut Model)
     }
-    fn wrong(record: &Record, mut fault: Fault) -> (u32, String) {
+    fn wrong(record: &Record, mut fault: Fault) -> (Reply, String) {
         record.answer(&mut fault)
     }
 }
@@ -93,7 +94,7 @@ impl Source for Messages {
 /// if it is one way alone, and the kinds of reading.
 fn shown(case: &MessageCase, record: &Record) -> Vec<String> {
     let kind = case.made_of.0;
-    let (number, _) = Messages::right(record);
+    let number = Messages::right(record).0.number;
     let mut all = vec![format!("{number} of type {kind}")];
     if number != 200 {
         if let [damage] = case.damage[..] {

@@ -134,14 +134,10 @@ impl Source for Parts {
         self.before.clone_from(&record.held);
         bytes(&words)
     }
-    fn right(record: &Record) -> (u32, String) {
-        said(record.answer(&mut Model))
+    fn right(record: &Record) -> (Reply, String) {
+        record.answer(&mut Model)
     }
-    fn wrong(record: &Record, mut fault: PartFault) -> (u32, String) {
-        said(record.answer(&mut fault))
+    fn wrong(record: &Record, mut fault: PartFault) -> (Reply, String) {
+        record.answer(&mut fault)
     }
-}
-
-fn said((reply, line): (Reply, String)) -> (u32, String) {
-    (reply.number, line)
 }

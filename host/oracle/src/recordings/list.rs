@@ -10,14 +10,13 @@ use crate::port::{bytes, words};
 use crate::recording::{Beside, Model, Rebuilder, RecordingCase};
 use crate::vectors::check;
 use crate::words::EVENT_WORDS;
-use std::collections::BTreeSet;
 
 /// The words that the replayer has room for: of a recording, and of a buffer
 /// for rows, with what each of these holds.
 const MOST: usize = 272 * EVENT_WORDS;
 const ROOM: usize = 8300;
 const PATTERN: u32 = 0xa5a5_a5a5;
-/// A longer recording stands in the list only for what no shorter one shows.
+/// A longer record stands in the list only for what none before it shows.
 const SHORT: usize = 12 * EVENT_WORDS;
 
 pub struct Record {
@@ -82,14 +81,7 @@ impl Record {
     }
 }
 
-/// Generated recordings, with what those so far showed.
-pub struct Recorded {
-    recordings: Recordings,
-    seen: BTreeSet<String>,
-    missed: Vec<RecordingFault>,
-}
-
-impl Source for Recorded {
+impl Source for Recordings {
     const NAMES: [&'static str; 2] = ["recording", "recordings"];
     const MAGIC: [u8; 4] = *b"NKR1";
     const FAULTS: &'static [RecordingFault] = FAULTS;
@@ -97,38 +89,29 @@ impl Source for Recorded {
     type Fault = RecordingFault;
 
     fn new(seed: u64) -> Self {
-        Self {
-            recordings: Recordings::new(seed),
-            seen: BTreeSet::new(),
-            missed: FAULTS.to_vec(),
-        }
+        Self::new(seed)
     }
     fn name(fault: &RecordingFault) -> &'static str {
         fault.name
     }
     fn next(&mut self) -> Option<(Record, Vec<String>)> {
-        let case = self.recordings.next_case();
+        let case = self.next_case();
         let record = Record::new(&case)?;
         let shown = shown(&case, &record);
-        let short = record.words().len() <= SHORT;
-        let before = (self.seen.len(), self.missed.len());
-        self.seen.extend(shown.clone());
-        self.missed.retain(|fault| !Self::finds(&record, *fault));
-        (short || before != (self.seen.len(), self.missed.len())).then_some((record, shown))
+        Some((record, shown))
+    }
+    fn may_fill(record: &Record) -> bool {
+        record.words().len() <= SHORT
     }
     fn bytes(&mut self, record: &Record) -> Vec<u8> {
         bytes(&record.words())
     }
-    fn right(record: &Record) -> (u32, String) {
-        said(record.answer(&mut Model))
+    fn right(record: &Record) -> (Reply, String) {
+        record.answer(&mut Model)
     }
-    fn wrong(record: &Record, mut fault: RecordingFault) -> (u32, String) {
-        said(record.answer(&mut fault))
+    fn wrong(record: &Record, mut fault: RecordingFault) -> (Reply, String) {
+        record.answer(&mut fault)
     }
-}
-
-fn said((reply, line): (Reply, String)) -> (u32, String) {
-    (reply.number, line)
 }
 
 /// What there is to see of a recording: its number, for either call, its
