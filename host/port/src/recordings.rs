@@ -31,11 +31,12 @@ pub struct Recorded {
     /// Recordings compared, and of two those of the same rows.
     compared: usize,
     alike: usize,
-    /// Runs whose events rebuilt their routes, the calls of these, and the
-    /// events.
+    /// Runs whose events rebuilt their routes, the calls of these, the
+    /// events, and the most routes.
     runs: usize,
     calls: usize,
     events: usize,
+    most: u32,
 }
 
 impl Recorded {
@@ -51,6 +52,7 @@ impl Recorded {
             runs: 0,
             calls: 0,
             events: 0,
+            most: 0,
         }
     }
 
@@ -62,7 +64,11 @@ impl Recorded {
         let mut state = vec![0; STATE_WORDS];
         let most = self.rng.pick(&LONG);
         for _ in 0..=self.rng.below(most) {
-            let code = 1 + self.rng.below(15) as u32;
+            // any call, mostly one that changes the state
+            let code = match self.rng.one_in(4) {
+                true => 1 + self.rng.below(15) as u32,
+                false => self.rng.pick(&[1, 3, 3, 3, 4, 5, 6, 6, 6, 6, 6, 6, 7]),
+            };
             let call = run.draw(&mut self.rng, code);
             run.make(&call);
             let mut buffer = filled(call.buffer().least());
@@ -92,6 +98,7 @@ impl Recorded {
             }
         }
         self.runs += 1;
+        self.most = self.most.max(state[1]);
         self.events += told.len() / EVENT_WORDS;
         Ok(())
     }
@@ -119,9 +126,9 @@ impl Comparison for Recorded {
     fn said(&self) -> String {
         let Tally { numbers, calls } = &self.tally;
         format!(
-            "recordings {numbers:?}, {} of the same rows, and {} runs of {} calls with {} events, rebuilt; \
-             {calls} calls of the library",
-            self.alike, self.runs, self.calls, self.events
+            "recordings {numbers:?}, {} of the same rows, and {} runs of {} calls with {} events, of up to {} \
+             routes, rebuilt; {calls} calls of the library",
+            self.alike, self.runs, self.calls, self.events, self.most
         )
     }
 }
