@@ -77,7 +77,7 @@ fn a_run_is_rebuilt() {
     r.keep(|lo| lo.add_route4(&reject, false));
     assert_eq!(r.keep(|lo| lo.add_route4(&reject, false)), 0, "refused");
     assert_eq!(r.keep(|lo| Ok(lo.down())), 1);
-    assert_eq!(r.told.last(), Some(&Event::Down));
+    assert_eq!(r.told.last(), Some(&Event::LinkDown));
     r.keep(|lo| lo.up(1));
     let from = Ask4 {
         prefsrc: Some(OWN),
@@ -88,13 +88,13 @@ fn a_run_is_rebuilt() {
     assert_eq!(r.keep(|lo| lo.expire(20_000_000_000, FUZZ)), 5);
     assert!(r.told.last().is_some_and(Event::has_message));
     r.keep(|lo| lo.del_v4(Some(Ipv4Addr::LOCALHOST), None, 0, None));
-    assert_eq!(r.told.last(), Some(&Event::LastAddr4));
+    assert_eq!(r.told.last(), Some(&Event::IpDisabled));
     assert_eq!(r.lo.routes().len(), 1, "the blackhole has no device");
 }
 
 #[test]
 fn marks_have_no_message() {
-    for mark in [Event::Down, Event::LastAddr4] {
+    for mark in [Event::LinkDown, Event::IpDisabled] {
         assert!(!mark.has_message());
         assert_eq!(mark.message(1, 2, 3), Err(Refused::UNFIT_STATE));
     }
@@ -147,7 +147,7 @@ fn two_recordings() {
     let (one, other) = (routes(&[1, 2, 3]), routes(&[3, 1, 2]));
     assert_eq!(same(&one, &other), Ok(true));
     assert_eq!(same(&one, &routes(&[1, 2])), Ok(false));
-    assert_eq!(same(&[], &[Event::Down, Event::LastAddr4]), Ok(true));
+    assert_eq!(same(&[], &[Event::LinkDown, Event::IpDisabled]), Ok(true));
     let twice = [&one[..], &one[..]].concat();
     assert_eq!(same(&one, &twice), Err(Refused::UNFIT_EVENT));
     assert_eq!(same(&twice, &one), Err(Refused::UNFIT_EVENT));

@@ -14,7 +14,7 @@ use crate::generate::recordings::Recordings;
 use crate::generate::runs::Run;
 use crate::model::{model, outcome, passes};
 use crate::port::{Bytes, bytes};
-use crate::recording::{LAST_ADDRESS, Model, Rebuilder, WENT_DOWN, against, mark, rebuild, step};
+use crate::recording::{IP_DISABLED, LINK_DOWN, Model, Rebuilder, against, mark, rebuild, step};
 use crate::rng::Rng;
 use crate::script::{CREATE, Route, Script, address, any, route, written};
 use crate::words::{EVENT_ROWS, LISTING_BUFFER, decode};
@@ -141,7 +141,7 @@ fn silent(count: usize, seed: u64) -> bool {
             Ok(Some(events)) => {
                 held += 1;
                 most = most.max(events.len());
-                for (count, kind) in marks.iter_mut().zip([WENT_DOWN, LAST_ADDRESS]) {
+                for (count, kind) in marks.iter_mut().zip([LINK_DOWN, IP_DISABLED]) {
                     *count += events.iter().filter(|e| e[0] == kind).count();
                 }
             }
@@ -174,7 +174,7 @@ fn tells(case: &Case) -> Result<Option<Vec<EventRow>>, String> {
     let reply = model(&case.call, &mut state, &mut buffer);
     let events = told(&case.call, &reply, &buffer);
     // "The Rust is compared with events 5 and 6 and these added deletions removed."
-    let marks = |e: &EventRow| matches!(e[0], WENT_DOWN | LAST_ADDRESS);
+    let marks = |e: &EventRow| matches!(e[0], LINK_DOWN | IP_DISABLED);
     let without: Vec<EventRow> = events.iter().filter(|e| !marks(e)).copied().collect();
     if without != *rust {
         return Err("other events than the Rust's".to_string());
@@ -278,10 +278,18 @@ fn runs_by_hand(checks: &mut Checks) {
     let reject = route("10.3.0.0/16").rejecting(6);
     r.keep(|s| s.add_route(reject));
     let said = r.keep(|s| s.call(Call::Down));
-    checks.same("down tells event 5", said, vec!["down".to_string()]);
+    checks.same(
+        "down tells event 5",
+        said,
+        vec!["the device down".to_string()],
+    );
     checks.same("host scope and no device stay", r.rebuilt(), (true, 5));
     let said = r.keep(|s| s.call(Call::Down));
-    checks.same("an idle down too", said, vec!["down".to_string()]);
+    checks.same(
+        "an idle down too",
+        said,
+        vec!["the device down".to_string()],
+    );
     r.keep(|s| s.up(1));
     r.keep(|s| s.add_route(new));
     r.keep(|s| s.del("10.1.0.5"));

@@ -10,7 +10,7 @@ use alloc::vec::Vec;
 /// [`F_REPLACE`] in the flags of a new route replaces the first route alike in
 /// destination, length, table, tos and priority; else [`F_APPEND`] adds it
 /// behind the alike ones, and without it stands before them.
-/// [`Event::Down`] and [`Event::LastAddr4`] take the routes that go with
+/// [`Event::LinkDown`] and [`Event::IpDisabled`] take the routes that go with
 /// them. Addresses rebuild nothing.
 ///
 /// # Errors
@@ -32,7 +32,7 @@ use alloc::vec::Vec;
 ///
 /// // two routes are of host scope
 /// recording.extend(lo.down());
-/// assert_eq!(recording.last(), Some(&Event::Down));
+/// assert_eq!(recording.last(), Some(&Event::LinkDown));
 /// assert!(lo.routes().eq(rebuild(&recording)?));
 /// assert_eq!(lo.routes().len(), 2);
 ///

@@ -5,24 +5,21 @@ use super::reach;
 use crate::call::Reply;
 use crate::faults::recordings::{FAULTS, RecordingFault};
 use crate::generate::recordings::Recordings;
-use crate::listed::{self, Wanted};
+use crate::listed::Source;
 use crate::port::{bytes, words};
 use crate::recording::{Beside, Model, Rebuilder, RecordingCase};
 use crate::vectors::check;
 use crate::words::EVENT_WORDS;
-use std::collections::{BTreeMap, BTreeSet};
 
-/// "NKR1" in the file's first four bytes.
-const MAGIC: u32 = u32::from_le_bytes(*b"NKR1");
 /// The words that the replayer has room for: of a recording, and of a buffer
 /// for rows, with what each of these holds.
 const MOST: usize = 272 * EVENT_WORDS;
 const ROOM: usize = 8300;
 const PATTERN: u32 = 0xa5a5_a5a5;
-/// A longer recording stands in the list only for what no shorter one shows.
+/// A longer record stands in the list only for what none before it shows.
 const SHORT: usize = 12 * EVENT_WORDS;
 
-struct Record {
+pub struct Record {
     first: Vec<u32>,
     beside: With,
 }
@@ -84,49 +81,37 @@ impl Record {
     }
 }
 
-/// Writes the list and what is to be printed into `folder`.
-pub fn write(count: usize, seed: u64, folder: &str) -> Result<(), String> {
-    let records = records(count, seed)?;
-    let total = records.len();
-    let mut list = vec![MAGIC, seed as u32, total as u32];
-    let mut lines = Vec::new();
-    let mut numbers: BTreeMap<u32, usize> = BTreeMap::new();
-    for record in &records {
-        list.extend(record.words());
-        let (reply, line) = record.answer(&mut Model);
-        lines.push(line);
-        *numbers.entry(reply.number).or_default() += 1;
-    }
-    let list = bytes(&list);
-    listed::write("recordings", folder, &list, &lines)?;
-    println!(
-        "recording-list: {total} recordings in {} bytes, seed {seed}; by number: {numbers:?}",
-        list.len()
-    );
-    Ok(())
-}
+impl Source for Recordings {
+    const NAMES: [&'static str; 2] = ["recording", "recordings"];
+    const MAGIC: [u8; 4] = *b"NKR1";
+    const FAULTS: &'static [RecordingFault] = FAULTS;
+    type Record = Record;
+    type Fault = RecordingFault;
 
-fn records(count: usize, seed: u64) -> Result<Vec<Record>, String> {
-    let wanted = Wanted {
-        what: "recordings",
-        count,
-        faults: FAULTS,
-        name: |fault| fault.name,
-        but: &[],
-    };
-    let mut recordings = Recordings::new(seed);
-    let (mut seen, mut missed) = (BTreeSet::new(), FAULTS.to_vec());
-    let next = || {
-        let case = recordings.next_case();
+    fn new(seed: u64) -> Self {
+        Self::new(seed)
+    }
+    fn name(fault: &RecordingFault) -> &'static str {
+        fault.name
+    }
+    fn next(&mut self) -> Option<(Record, Vec<String>)> {
+        let case = self.next_case();
         let record = Record::new(&case)?;
         let shown = shown(&case, &record);
-        let short = record.words().len() <= SHORT;
-        let before = (seen.len(), missed.len());
-        seen.extend(shown.clone());
-        missed.retain(|fault| !finds(&record, *fault));
-        (short || before != (seen.len(), missed.len())).then_some((record, shown))
-    };
-    listed::chosen(&wanted, Vec::new(), next, finds)
+        Some((record, shown))
+    }
+    fn may_fill(record: &Record) -> bool {
+        record.words().len() <= SHORT
+    }
+    fn bytes(&mut self, record: &Record) -> Vec<u8> {
+        bytes(&record.words())
+    }
+    fn right(record: &Record) -> (Reply, String) {
+        record.answer(&mut Model)
+    }
+    fn wrong(record: &Record, mut fault: RecordingFault) -> (Reply, String) {
+        record.answer(&mut fault)
+    }
 }
 
 /// What there is to see of a recording: its number, for either call, its
@@ -144,8 +129,4 @@ fn shown(case: &RecordingCase, record: &Record) -> Vec<String> {
     }
     all.extend(reach::shown(case).into_iter().map(ToString::to_string));
     all
-}
-
-fn finds(record: &Record, mut fault: RecordingFault) -> bool {
-    record.answer(&mut fault) != record.answer(&mut Model)
 }

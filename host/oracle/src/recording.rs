@@ -14,8 +14,8 @@ pub const UNKNOWN_EVENT: u32 = 208;
 /// "209 an unfit address or route row, ..".
 pub const UNFIT_EVENT: u32 = 209;
 /// "event 5 on every `down`", "event 6 when the last address goes".
-pub const WENT_DOWN: u32 = 5;
-pub const LAST_ADDRESS: u32 = 6;
+pub const LINK_DOWN: u32 = 5;
+pub const IP_DISABLED: u32 = 6;
 
 /// "flag 0x100 replaces", "else 0x800 adds after the alike rows".
 pub const REPLACES: u32 = 0x100;
@@ -58,9 +58,9 @@ pub fn step(rows: &mut Vec<RouteRow>, event: &EventRow) -> Result<(), u32> {
         3 => added(rows, *flags, words),
         4 => deleted(rows, *flags, words),
         // "device rows with scope other than 254 are gone"
-        &WENT_DOWN => gone(rows, event, |row| row[12] == 1 && row[7] != 254),
+        &LINK_DOWN => gone(rows, event, |row| row[12] == 1 && row[7] != 254),
         // "all device rows are gone"
-        &LAST_ADDRESS => gone(rows, event, |row| row[12] == 1),
+        &IP_DISABLED => gone(rows, event, |row| row[12] == 1),
         _ => Err(UNKNOWN_EVENT),
     }
 }

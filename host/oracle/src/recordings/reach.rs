@@ -1,9 +1,9 @@
 //! What generated recordings reach, and that each way of damage alone is met
 //! by its number.
-use crate::generate::recordings::{DAMAGES, Recordings};
+use crate::generate::recordings::{Recordings, damages};
 use crate::port::{Bytes, words};
 use crate::recording::{
-    APPENDS, Beside, LAST_ADDRESS, Model, NUMBERS, REPLACES, RecordingCase, WENT_DOWN, alike,
+    APPENDS, Beside, IP_DISABLED, LINK_DOWN, Model, NUMBERS, REPLACES, RecordingCase, alike,
     effect, events, rebuild, step,
 };
 use crate::words::ROUTE_LIMIT;
@@ -42,22 +42,22 @@ const KINDS: [(&str, Holds); 15] = [
         e[0] == 4 && first.is_some_and(|r| *r != row_of(e))
     }),
     ("event 5 leaves scope 254 of the device", |e, rows| {
-        e[0] == WENT_DOWN && rows.iter().any(|r| r[12] == 1 && r[7] == 254)
+        e[0] == LINK_DOWN && rows.iter().any(|r| r[12] == 1 && r[7] == 254)
     }),
     ("event 5 leaves rows without it", |e, rows| {
-        e[0] == WENT_DOWN && rows.iter().any(|r| r[12] == 0 && r[7] != 254)
+        e[0] == LINK_DOWN && rows.iter().any(|r| r[12] == 0 && r[7] != 254)
     }),
     ("event 5 takes another scope than 253", |e, rows| {
-        e[0] == WENT_DOWN
+        e[0] == LINK_DOWN
             && rows
                 .iter()
                 .any(|r| r[12] == 1 && !matches!(r[7], 253 | 254))
     }),
     ("event 6 takes scope 254", |e, rows| {
-        e[0] == LAST_ADDRESS && rows.iter().any(|r| r[12] == 1 && r[7] == 254)
+        e[0] == IP_DISABLED && rows.iter().any(|r| r[12] == 1 && r[7] == 254)
     }),
     ("event 6 leaves rows without the device", |e, rows| {
-        e[0] == LAST_ADDRESS && rows.iter().any(|r| r[12] == 0)
+        e[0] == IP_DISABLED && rows.iter().any(|r| r[12] == 0)
     }),
     ("an address comes", |e, _| e[0] == 1),
     ("an address goes", |e, _| e[0] == 2),
@@ -177,7 +177,7 @@ pub fn run(count: usize, seed: u64) -> bool {
             [] => 0,
             [name] => {
                 *alone.entry(name).or_default() += 1;
-                let found = DAMAGES.iter().find(|(other, _, _)| *other == name);
+                let found = damages().find(|(other, _)| *other == name);
                 found.expect("it has a name").1
             }
             _ => continue,
@@ -187,7 +187,7 @@ pub fn run(count: usize, seed: u64) -> bool {
             println!("{call} {all:?}: {} in place of {expected}", reply.number);
         }
     }
-    for (name, number, _) in DAMAGES {
+    for (name, number) in damages() {
         let times = alone.get(name).copied().unwrap_or(0);
         println!("{name:36} alone {number}: {times:6}");
     }
@@ -200,7 +200,7 @@ pub fn run(count: usize, seed: u64) -> bool {
         .iter()
         .filter(|name| !seen.contains_key(*name))
         .count()
-        + DAMAGES.len()
+        + damages().count()
         - alone.len();
     let unanswered = ["rebuild", "same"]
         .iter()
@@ -210,7 +210,7 @@ pub fn run(count: usize, seed: u64) -> bool {
     println!(
         "recordings: {count} generated, answers {numbers:?}, {unanswered} not given; {} ways of damage \
          and {} kinds, {unseen} not seen; {misfits} not met as they must",
-        DAMAGES.len(),
+        damages().count(),
         wanted.len()
     );
     unseen + unanswered + misfits == 0 && numbers.len() == 2 * NUMBERS.len()

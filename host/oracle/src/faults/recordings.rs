@@ -1,8 +1,8 @@
 //! Faults in what recordings rebuild (document 02, Paper 9).
 use crate::call::Reply;
 use crate::recording::{
-    APPENDS, LAST_ADDRESS, Model, REPLACES, Rebuilder, Rebuilt, Step, UNFIT_EVENT, UNKNOWN_EVENT,
-    WENT_DOWN, alike, compared, events, lent, place, rebuild, rebuild_by, step,
+    APPENDS, IP_DISABLED, LINK_DOWN, Model, REPLACES, Rebuilder, Rebuilt, Step, UNFIT_EVENT,
+    UNKNOWN_EVENT, alike, compared, events, lent, place, rebuild, rebuild_by, step,
 };
 use crate::words::{ADDRESS_WORDS, EVENT_WORDS, LISTING_BUFFER, ROUTE_LIMIT, ROUTE_WORDS};
 use reference::{EventRow, RouteRow};
@@ -215,25 +215,25 @@ pub const FAULTS: &[Fault] = &[
         Ok(())
     }),
     Fault::breaking("event 5 takes rows of scope 254", |rows, e| {
-        marked(rows, e, WENT_DOWN, |row| row[12] == 1)
+        marked(rows, e, LINK_DOWN, |row| row[12] == 1)
     }),
     Fault::event("event 5 takes rows without a device", |rows, e| {
-        marked(rows, e, WENT_DOWN, |row| row[7] != 254)
+        marked(rows, e, LINK_DOWN, |row| row[7] != 254)
     }),
     Fault::event("event 5 takes rows of link scope alone", |rows, e| {
-        marked(rows, e, WENT_DOWN, |row| row[12] == 1 && row[7] == 253)
+        marked(rows, e, LINK_DOWN, |row| row[12] == 1 && row[7] == 253)
     }),
     Fault::breaking("event 5 takes nothing", |rows, e| {
-        marked(rows, e, WENT_DOWN, |_| false)
+        marked(rows, e, LINK_DOWN, |_| false)
     }),
     Fault::breaking("event 6 leaves rows of scope 254", |rows, e| {
-        marked(rows, e, LAST_ADDRESS, |row| row[12] == 1 && row[7] != 254)
+        marked(rows, e, IP_DISABLED, |row| row[12] == 1 && row[7] != 254)
     }),
     Fault::breaking("event 6 takes rows without a device", |rows, e| {
-        marked(rows, e, LAST_ADDRESS, |_| true)
+        marked(rows, e, IP_DISABLED, |_| true)
     }),
     Fault::breaking("event 6 takes nothing", |rows, e| {
-        marked(rows, e, LAST_ADDRESS, |_| false)
+        marked(rows, e, IP_DISABLED, |_| false)
     }),
     Fault::event("a 257th row taken", |rows, e| {
         let row = row_of(e);
@@ -296,7 +296,7 @@ pub const FAULTS: &[Fault] = &[
     ),
     Fault::event("words behind events 5 and 6 not looked at", |rows, e| {
         let mut fit = *e;
-        if matches!(e[0], WENT_DOWN | LAST_ADDRESS) {
+        if matches!(e[0], LINK_DOWN | IP_DISABLED) {
             fit[2..].fill(0);
         }
         step(rows, &fit)
@@ -345,7 +345,7 @@ pub const FAULTS: &[Fault] = &[
         step(rows, e)
     }),
     Fault::event("events 5 and 6 unknown", |rows, e| match e[0] {
-        WENT_DOWN | LAST_ADDRESS => Err(UNKNOWN_EVENT),
+        LINK_DOWN | IP_DISABLED => Err(UNKNOWN_EVENT),
         _ => step(rows, e),
     }),
     Fault::new(

@@ -7,7 +7,8 @@ use super::states;
 use crate::event::event;
 use crate::port::bytes;
 use crate::recording::{
-    APPENDS, Beside, LAST_ADDRESS, REPLACES, RecordingCase, WENT_DOWN, mark, place, rebuild, step,
+    APPENDS, Beside, IP_DISABLED, LINK_DOWN, REPLACES, RecordingCase, UNFIT_EVENT, mark, place,
+    rebuild, step,
 };
 use crate::rng::Rng;
 use crate::words::{ADDRESS_WORDS, EVENT_WORDS, LISTING_BUFFER, ROUTE_LIMIT, decode};
@@ -16,7 +17,7 @@ use reference::{EventRow, RouteRow};
 /// What is done to a recording, with the number that it is met by alone. It
 /// says whether it could be done.
 type Damage = fn(&mut Rng, &mut Made) -> bool;
-pub const DAMAGES: [(&str, u32, Damage); 19] = [
+const DAMAGES: [(&str, u32, Damage); 19] = [
     ("part of an event", 200, |rng, made| {
         made.tail = rng.pick(&[1, 2, 22, 32, 33]);
         true
@@ -39,15 +40,17 @@ pub const DAMAGES: [(&str, u32, Damage); 19] = [
             },
         )
     }),
-    ("unfit address", 209, |rng, made| {
-        let (_, by) = rng.pick(&ADDRESS_CLAUSES);
+    (UNFIT_ROWS[0], 209, |rng, made| {
+        let (clause, by) = rng.pick(&ADDRESS_CLAUSES);
+        made.clause = Some(clause);
         made.change(rng, is_address, |rng, event| {
             let (row, _) = event[2..].split_first_chunk_mut().expect("it is shorter");
             by(rng, row);
         })
     }),
-    ("unfit route", 209, |rng, made| {
-        let (_, by) = rng.pick(&ROUTE_CLAUSES);
+    (UNFIT_ROWS[1], 209, |rng, made| {
+        let (clause, by) = rng.pick(&ROUTE_CLAUSES);
+        made.clause = Some(clause);
         made.change(rng, is_route, |rng, event| {
             let (row, _) = event[2..].split_first_chunk_mut().expect("it is as long");
             by(rng, row);
@@ -146,6 +149,18 @@ pub const DAMAGES: [(&str, u32, Damage); 19] = [
         true
     }),
 ];
+/// Those that go by the name of the clause that is broken.
+const UNFIT_ROWS: [&str; 2] = ["unfit address", "unfit route"];
+
+/// The names of all damage, with the number of each alone.
+pub fn damages() -> impl Iterator<Item = (&'static str, u32)> {
+    let rows = ADDRESS_CLAUSES.iter().map(|(name, _)| *name);
+    let rows = rows.chain(ROUTE_CLAUSES.iter().map(|(name, _)| *name));
+    let others = DAMAGES.iter().map(|(name, number, _)| (*name, *number));
+    let others = others.filter(|(name, _)| !UNFIT_ROWS.contains(name));
+    rows.map(|name| (name, UNFIT_EVENT)).chain(others)
+}
+
 /// Those of what is lent beside a recording.
 const OF_ROWS: usize = 2;
 const FLAGS: [u32; 6] = [1, 0x100, 0x400, 0x800, 65_535, 65_536];
@@ -157,7 +172,7 @@ fn is_route(event: &EventRow) -> bool {
     matches!(event[0], 3 | 4)
 }
 fn is_mark(event: &EventRow) -> bool {
-    matches!(event[0], WENT_DOWN | LAST_ADDRESS)
+    matches!(event[0], LINK_DOWN | IP_DISABLED)
 }
 
 /// A recording in the making, and the words lent for its rows.
@@ -170,6 +185,8 @@ pub struct Made {
     /// The words lent for rows, and the bytes cut off them.
     room: usize,
     cut: usize,
+    /// The clause that a row was made to break.
+    clause: Option<&'static str>,
     damage: Vec<&'static str>,
 }
 
@@ -181,6 +198,7 @@ impl Made {
             spare: 0,
             room: LISTING_BUFFER,
             cut: 0,
+            clause: None,
             damage: Vec::new(),
         }
     }
@@ -326,7 +344,9 @@ impl Recordings {
         let mut way = self.turn % ways;
         loop {
             let (name, _, by) = DAMAGES[way];
-            if by(&mut self.rng, made) {
+            let done = by(&mut self.rng, made);
+            let name = made.clause.take().unwrap_or(name);
+            if done {
                 made.damage.push(name);
             }
             if !self.rng.one_in(4) {
@@ -372,7 +392,7 @@ impl Recordings {
             8 => {
                 // what an event behind it changes, or not
                 let mut events = made.events.clone();
-                events.push(mark(rng.pick(&[WENT_DOWN, LAST_ADDRESS])));
+                events.push(mark(rng.pick(&[LINK_DOWN, IP_DISABLED])));
                 Made::new(events)
             }
             _ => Made::new(self.recording()),
@@ -413,8 +433,8 @@ fn any(rng: &mut Rng, rows: &[RouteRow]) -> Vec<u32> {
     let some = (!rows.is_empty()).then(|| rows[rng.below(rows.len())]);
     match rng.below(24) {
         0 | 1 => event(1 + rng.below(2) as u32, 0, &states::address(rng)),
-        2 => mark(WENT_DOWN).to_vec(),
-        3 if rng.one_in(2) => mark(LAST_ADDRESS).to_vec(),
+        2 => mark(LINK_DOWN).to_vec(),
+        3 if rng.one_in(2) => mark(IP_DISABLED).to_vec(),
         3..7 => match some {
             Some(row) => event(4, 0, &row),
             None => event(3, 0x400, &states::route(rng)),
