@@ -272,9 +272,10 @@ pub enum Event {
 }
 
 impl Event {
-    /// Whether netlink is told of it by a [`message`](Self::message): Linux
-    /// tells nobody of [`Event::LinkDown`] and [`Event::IpDisabled`], which
-    /// are for recordings ([`rebuild`](crate::rebuild)).
+    /// Whether rtnetlink has a [`message`](Self::message) for it: of an
+    /// address or a route it has one, and none for [`Event::LinkDown`] and
+    /// [`Event::IpDisabled`], which are for recordings
+    /// ([`rebuild`](crate::rebuild)).
     ///
     /// ```
     /// use naskrefim::{Addresses, Event, Refused};
