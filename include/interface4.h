@@ -25,7 +25,7 @@
  *
  * Stack. What a call needs besides is on its caller's stack: at most what
  * INTERFACE4W_STACK_* and INTERFACE4_STACK_* say, 4,096 to 94,208 bytes on
- * words and 4,096 to 184,320 on bytes.
+ * words and 4,096 to 188,416 on bytes.
  *
  * Addresses are 32-bit numbers, 10.1.0.5 being 0x0a010005. Clocks are in
  * nanoseconds, lifetimes in seconds.
@@ -234,7 +234,7 @@ typedef struct interface4_reply {
 #define INTERFACE4W_STACK_SAME 77824
 #define INTERFACE4W_STACK_ADD_V4_MASK 45056
 #define INTERFACE4W_STACK_DEL_V4_MASK 4096
-#define INTERFACE4_STACK_UP 184320
+#define INTERFACE4_STACK_UP 188416
 #define INTERFACE4_STACK_DOWN 40960
 #define INTERFACE4_STACK_ADD_V4 135168
 #define INTERFACE4_STACK_DEL_V4 98304
@@ -254,7 +254,7 @@ typedef struct interface4_reply {
 #define INTERFACE4_STACK_CHECK 40960
 #define INTERFACE4_STACK_READ 4096
 #define INTERFACE4_STACK_WRITE 4096
-#define INTERFACE4_STACK_REBUILD 77824
+#define INTERFACE4_STACK_REBUILD 40960
 #define INTERFACE4_STACK_SAME 77824
 #define INTERFACE4_STACK_ADD_V4_MASK 172032
 #define INTERFACE4_STACK_DEL_V4_MASK 131072
