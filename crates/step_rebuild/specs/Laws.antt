@@ -1,9 +1,10 @@
 -- What the code does for an event is what the definition says of it.
 -- Assumes nothing.
-use Rattle.std.specs.Prelude.{ℕ, suc, ◌+◌, ◌≤◌, ◌<◌, ◌≡◌, ◌≢◌, refl, Bool, true, false, ◌&&◌, List, [], ◌++◌, eqb, leb, length, take, drop, set, position, Option, Some, None, Result, Ok, Err, MatchResult, IsErrAnd, IfSome}
-use Rattle.std.proofs.Common.{sym, ap, ◌∙◌, arith, length-drop, take_all, ne_eqb, lt-ltb, le-ltb, le-leb}
+use Rattle.std.specs.Prelude.{ℕ, zero, suc, ◌+◌, ◌≤◌, ◌<◌, ◌≡◌, ◌≢◌, refl, Bool, true, false, ◌&&◌, List, [], ◌∷◌, ◌++◌, eqb, leb, length, get_or, take, drop, set, position, Option, Some, None, Result, Ok, Err, MatchOption, MatchResult, IsErrAnd, IfSome}
+use Rattle.std.proofs.Common.{sym, ap, ◌∙◌, arith, zero-add, length-drop, take_all, ne_eqb, lt-ltb, le-ltb, le-leb}
 use Rattle.std.specs.Option.{is_some, ok_or}
 use Rattle.std.proofs.lemmas.Bool.{eqb-false, lt-leb}
+use Rattle.std.specs.List.Sorted.{IsPartitionPoint}
 use denote.Ref.{Bor}
 use Rattle.lists.specs.Lists.{Row, any, remove_first, replace_first, eq_row}
 use Rattle.lists.specs.Bools.{fails, test-case}
@@ -13,7 +14,7 @@ use Rattle.lists.specs.Cut.{place-passes}
 use Rattle.lists.specs.Front.{any_here}
 use Rattle.lists.specs.Library.{found-place, missing-place}
 use Rattle.layout.specs.Flags.{has_bit, replace_bit, append_bit}
-use Rattle.layout.specs.Route.{fit_route, alike}
+use Rattle.layout.specs.Route.{fit_route, alike, before}
 use Rattle.refusal.specs.declared.Refusal.{Refusal}
 use Rattle.refusal.specs.declared.Refusal.TheVariants.{UnfitEvent}
 use Rattle.refusal.specs.Refusal.{unless}
@@ -25,7 +26,7 @@ use Rattle.definition.specs.Reference.Removal.{deviceless}
 use Rattle.definition.specs.Preservation.Fit.{FitRoutes}
 use Rattle.definition.specs.Preservation.Routes.{keep-fit, remove_first-fit, ahead-fit, behind-fit, replace_fit}
 use Rattle.state.specs.Represents.{Represents}
-use Rattle.step_insert.specs.Run.{Run, run-alike, run-within, run-ahead, run-behind, run-place}
+use Rattle.step_insert.specs.Run.{Run, before-not_equal, run-alike, run-within, run-ahead, run-behind, run-place}
 use Rattle.definition_recording.specs.Recording.{Rebuilt, rows, refused, kind, flags, route_row, fit_address_event, fit_new_route, fit_del_route, fit_mark, provided, added_row, deleted_row, after_down, after_last, event}
 use Rattle.step_rebuild.specs.Holds.{table_of, HoldsRows, Accepted, Denies, Came}
 
@@ -116,6 +117,25 @@ module _ (r : Row) (f : ℕ) (l : List Row) {start end : ℕ} {there : Bool} (s 
             came-rows (ahead r l) (rw (new_one, b, e, few)) (record { represents = rw (run-ahead r l start end there s h.in_order) at x; fit = ahead-fit r l h fit new_one })
 
 -- ---- a deletion: the row's place, if it has one
+abbrev pub IsPlace : Row → List Row → Option ℕ → Type 0
+IsPlace row l o = MatchOption o (place_of (eq_row row) l ≡ length l) (λ i. i ≡ place_of (eq_row row) l)
+
+-- the first i of which don't pass
+skipped : (p : Row → Bool) (l : List Row) (i : ℕ) → i ≤ length l → ((j : ℕ) → j < i → p (get_or l j []) ≡ false) → place_of p l ≡ i + place_of p (drop i l)
+skipped p l zero h f = sym (zero-add (place_of p l))
+skipped p [] (suc i) h f = absurd (omega arith)
+skipped p (x ∷ l) (suc i) h f = rw (f 0 (omega arith)) (omega (arith, skipped p l i (omega arith) (λ j k. f (suc j) (omega arith))))
+
+module _ (row : Row) (l : List Row) (start : ℕ) (within : start ≤ length l) (k : IsPartitionPoint (λ r. before r row ≡ true) (λ r. before r row ≡ false) l start) where
+  behind_those : place_of (eq_row row) l ≡ start + place_of (eq_row row) (drop start l)
+  behind_those = skipped (eq_row row) l start within (λ j b. before-not_equal row (get_or l j []) (k.0 j [] (omega arith) b))
+
+  pub place-behind : (i : ℕ) → position (eq_row row) (drop start l) ≡ Some i → IsPlace row l (Some (start + i))
+  place-behind i e = omega (arith, behind_those, found-place (eq_row row) (drop start l) i e)
+
+  pub none-behind : position (eq_row row) (drop start l) ≡ None → IsPlace row l None
+  none-behind e = omega (arith, behind_those, missing-place (eq_row row) (drop start l) e, length-drop start l)
+
 pub place-there : (o : Option ℕ) (i : ℕ) {r : Result ℕ Refusal} → r ≡ ok_or o UnfitEvent → r ≡ Ok i → o ≡ Some i
 place-there None i f e = let bad : ◌≡◌ {A = Result ℕ Refusal} (Ok i) (Err UnfitEvent) = sym e ∙ f in cc
 place-there (Some j) i f e = let same : ◌≡◌ {A = Result ℕ Refusal} (Ok i) (Ok j) = sym e ∙ f in cc
@@ -125,19 +145,18 @@ no-place None x f e = let same : ◌≡◌ {A = Result ℕ Refusal} (Err x) (Err
 no-place (Some j) x f e = let bad : ◌≡◌ {A = Result ℕ Refusal} (Err x) (Ok j) = sym e ∙ f in cc
 
 module _ (row : Row) (l : List Row) where
-  pub not_there : position (eq_row row) l ≡ None → Denies (deleted_row row l) UnfitEvent
+  pub not_there : IsPlace row l None → Denies (deleted_row row l) UnfitEvent
   unfolding deleted_row
   not_there e =
-      let none_is : any (eq_row row) l ≡ false = fails (any (eq_row row) l) (λ k. omega (arith, any_at (eq_row row) l k, missing-place (eq_row row) l e)) in
+      let none_is : any (eq_row row) l ≡ false = fails (any (eq_row row) l) (λ k. omega (arith, any_at (eq_row row) l k, e)) in
       came_unfit (rw none_is)
 
-  pub taken_out : {w : List ℕ} (i : ℕ) → position (eq_row row) l ≡ Some i → FitRoutes l → Represents w (with_routes (remove_at i l) (table_of l)) → Came (deleted_row row l) w (Ok tt)
+  pub taken_out : {w : List ℕ} (i : ℕ) → IsPlace row l (Some i) → i < length l → FitRoutes l → Represents w (with_routes (remove_at i l) (table_of l)) → Came (deleted_row row l) w (Ok tt)
   unfolding deleted_row remove_at
-  taken_out i e f k =
-      let at = found-place (eq_row row) l i e in
-      let here : place_of (eq_row row) l < length l = omega (arith, at.0, at.1) in
+  taken_out i at b f k =
+      let here : place_of (eq_row row) l < length l = omega (arith, at, b) in
       let there : any (eq_row row) l ≡ true = any_here (eq_row row) l (place_of (eq_row row) l) [] here (place-passes (eq_row row) l [] here) in
-      let gone : remove_first (eq_row row) l ≡ take i l ++ drop (suc i) l = rw (← at.0) at (remove_at_lem (eq_row row) l) in
+      let gone : remove_first (eq_row row) l ≡ take i l ++ drop (suc i) l = rw (← at) at (remove_at_lem (eq_row row) l) in
       came-rows (remove_first (eq_row row) l) (rw there) (record { represents = rw gone k; fit = remove_first-fit (eq_row row) l f })
 
 -- ---- an event that is its number alone
