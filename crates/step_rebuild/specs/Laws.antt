@@ -1,38 +1,34 @@
 -- What the code does for an event is what the definition says of it.
 -- Assumes nothing.
-use Rattle.std.specs.Prelude.{ℕ, suc, ◌+◌, ◌≤◌, ◌<◌, ◌≡◌, ◌≢◌, refl, Bool, true, false, cond, not, ◌&&◌, List, [], ◌∷◌, ◌++◌, eqb, leb, length, take, drop, position, Option, Some, None, Result, Ok, Err, MatchResult, IsErrAnd, IfSome}
-use Rattle.std.proofs.Common.{sym, ap, ◌∙◌, arith, length-drop, take_all, eqb-true, eq-eqb, ne_eqb, leb-true, le-leb}
+use Rattle.std.specs.Prelude.{ℕ, zero, suc, ◌+◌, ◌≤◌, ◌<◌, ◌≡◌, ◌≢◌, refl, Bool, true, false, ◌&&◌, List, [], ◌∷◌, ◌++◌, eqb, leb, length, get_or, take, drop, set, position, Option, Some, None, Result, Ok, Err, MatchOption, MatchResult, IsErrAnd, IfSome}
+use Rattle.std.proofs.Common.{sym, ap, ◌∙◌, arith, zero-add, length-drop, take_all, ne_eqb, lt-ltb, le-ltb, le-leb}
 use Rattle.std.specs.Option.{is_some, ok_or}
-use Rattle.std.specs.Result.{result_unwrap_or}
-use Rattle.std.proofs.lemmas.Bool.{eqb-false}
-use Rattle.std.proofs.Math.Option as Own
+use Rattle.std.proofs.lemmas.Bool.{eqb-false, lt-leb}
+use Rattle.std.specs.List.Sorted.{IsPartitionPoint}
 use denote.Ref.{Bor}
-use Rattle.lists.specs.Lists.{Row, any, keep, first, remove_first, replace_first, eq_row}
-use Rattle.lists.specs.Bools.{or-false, cond_same, fails, test-case, true-false, same_test}
-use Rattle.lists.specs.All.{eq_row-true}
-use Rattle.lists.specs.At.{remove_at}
-use Rattle.lists.specs.Place.{place_of, remove_at_lem, any_at}
+use Rattle.lists.specs.Lists.{Row, any, remove_first, replace_first, eq_row}
+use Rattle.lists.specs.Bools.{fails, test-case}
+use Rattle.lists.specs.At.{insert_at, remove_at, length-insert_at}
+use Rattle.lists.specs.Place.{place_of, remove_at_lem, replace_at, any_at}
 use Rattle.lists.specs.Cut.{place-passes}
 use Rattle.lists.specs.Front.{any_here}
-use Rattle.lists.specs.Count.{length-replace_first, first-there}
 use Rattle.lists.specs.Library.{found-place, missing-place}
-use Rattle.layout.specs.Flags.{has_bit, flag, replace_bit, create_bit, append_bit}
-use Rattle.layout.specs.Route.{fit_route, before, alike, dst}
+use Rattle.layout.specs.Flags.{has_bit, replace_bit, append_bit}
+use Rattle.layout.specs.Route.{fit_route, alike, before}
 use Rattle.refusal.specs.declared.Refusal.{Refusal}
 use Rattle.refusal.specs.declared.Refusal.TheVariants.{UnfitEvent}
 use Rattle.refusal.specs.Refusal.{unless}
+use Rattle.refusal.specs.Laws.{failed}
 use Rattle.definition.specs.State.{with_routes}
-use Rattle.definition.specs.Reference.Insert as Insert
-use Rattle.definition.specs.Reference.Insert.{ahead, behind, insert4, is_row}
+use Rattle.definition.specs.Reference.Insert.{ahead, behind}
 use Rattle.definition.specs.Reference.Addresses.{down}
 use Rattle.definition.specs.Reference.Removal.{deviceless}
 use Rattle.definition.specs.Preservation.Fit.{FitRoutes}
-use Rattle.definition.specs.Preservation.Routes.{keep-fit, remove_first-fit, insert_fit, Puts, none_equal}
-use Rattle.definition.specs.Preservation.Order.{level-alike, before-never}
+use Rattle.definition.specs.Preservation.Routes.{keep-fit, remove_first-fit, ahead-fit, behind-fit, replace_fit}
 use Rattle.state.specs.Represents.{Represents}
-use Rattle.step_insert.specs.Plan.{Inserted, InsertedInto, answer_of, rows_after}
+use Rattle.step_insert.specs.Run.{Run, before-not_equal, run-alike, run-within, run-ahead, run-behind, run-place}
 use Rattle.definition_recording.specs.Recording.{Rebuilt, rows, refused, kind, flags, route_row, fit_address_event, fit_new_route, fit_del_route, fit_mark, provided, added_row, deleted_row, after_down, after_last, event}
-use Rattle.step_rebuild.specs.Holds.{table_of, HoldsRows, Denies, Came}
+use Rattle.step_rebuild.specs.Holds.{table_of, HoldsRows, Accepted, Denies, Came}
 
 -- ---- answers
 pub came-rows : {x : Rebuilt} {w : List ℕ} (l : List Row) → x ≡ rows l → HoldsRows w l → Came x w (Ok tt)
@@ -45,6 +41,11 @@ came_unfit e = (e, λ z. omega (arith, z))
 pub handed-on : (x : Rebuilt) (w : List ℕ) (t : Result (Unit {0}) Refusal) (e : Refusal) → IsErrAnd t (λ y. y ≡ e) → Denies x e → Came x w t
 handed-on x w (Ok u) e h d = absurd h
 handed-on x w (Err y) e h d = rw h d
+
+-- one by a check that failed
+pub refused-by : (x : Rebuilt) (w : List ℕ) (t : Result (Unit {0}) Refusal) (e : Refusal) (b : Bool) {r : Result (Unit {0}) Refusal}
+    → r ≡ unless b UnfitEvent → r ≡ Err e → IsErrAnd t (λ y. y ≡ e) → (b ≡ false → Denies x UnfitEvent) → Came x w t
+refused-by x w t e b f g h d = let why = failed b UnfitEvent e (sym g ∙ f) in handed-on x w t e h (rw why.1 (d why.0))
 
 -- a check that refuses, or passes
 pub checked-came : (b : Bool) (l : List Row) {w : List ℕ} (r : Result (Unit {0}) Refusal) → HoldsRows w l → r ≡ unless b UnfitEvent → Came (provided b (rows l)) w r
@@ -61,88 +62,80 @@ pub route-answer : (o : Option (Bor Row)) (row : Row) (few : Bool) → is_some o
 route-answer None row few f s h = (refl, rw (h, ← f))
 route-answer (Some r) row few f s h = (s, rw (h, ← f))
 
--- ---- a new route: the flags of a request that does the same
-unfoldable pub asked : ℕ → ℕ
-asked f = cond (has_bit replace_bit f) (flag replace_bit) (cond (has_bit append_bit f) (flag create_bit + flag append_bit) (flag create_bit))
+-- ---- a new route, by where the rows alike it stand
+module _ (r : Row) (f : ℕ) (l : List Row) {start end : ℕ} {there : Bool} (s : Run r l start end there) where
+  pub there-already : there ≡ true → Denies (added_row r f l) UnfitEvent
+  unfolding added_row
+  there-already e = let is : any (eq_row r) l ≡ true = sym s.is-there ∙ e in came_unfit (rw is)
 
--- what an insertion comes to as a rebuilding
-abbrev pub rebuilt_by : Insert.Inserted → Rebuilt
-rebuilt_by (Insert.placed m emitted) = provided (leb (length m) 256) (rows m)
-rebuilt_by Insert.nothing = refused 209
-rebuilt_by (Insert.unplaced n) = refused 209
+  module _ (fresh : there ≡ false) where
+    new_one : any (eq_row r) l ≡ false
+    new_one = sym s.is-there ∙ fresh
 
--- and its answer as one
-abbrev pub put_in : Inserted → Result (Unit {0}) Refusal
-put_in r = unless (is_some (result_unwrap_or r None)) UnfitEvent
+    pub none-to-replace : has_bit replace_bit f ≡ true → end ≤ start → Denies (added_row r f l) UnfitEvent
+    unfolding added_row
+    none-to-replace b k =
+        let none_alike : any (alike r) l ≡ false = run-alike r l start end there s ∙ le-ltb start end k in
+        came_unfit (rw (new_one, b, none_alike))
 
--- where no row is alike, before the alike rows and after them is one place
-apart : (new : Row) (l : List Row) → any (alike new) l ≡ false
-    → (keep (λ r. before r new) l ≡ keep (λ r. not (before new r)) l) × (keep (λ r. not (before r new)) l ≡ keep (λ r. before new r) l)
-apart new [] h = (refl, refl)
-apart new (x ∷ l) h =
-    let o = or-false (alike new x) (any (alike new) l) h in
-    let later = apart new l o.1 in
-    let turned : before x new ≡ not (before new x) =
-    test-case (before new x)
-    (λ e. test-case (before x new) (λ f. absurd (before-never new x e f)) (λ f. rw (e, f)))
-    (λ e. test-case (before x new) (λ f. rw (e, f)) (λ f. absurd (true-false (alike new x) (level-alike new x e f) o.0)))
-    in
-    test-case (before new x) (λ e. rw (turned, e, later.0, later.1) (refl, refl)) (λ e. rw (turned, e, later.0, later.1) (refl, refl))
+    module _ (fit : fit_route r ≡ true) (h : FitRoutes l) {w : List ℕ} where
+      pub replaced : has_bit replace_bit f ≡ true → start < end → Represents w (with_routes (set l start r) (table_of l)) → Accepted (added_row r f l) w
+      unfolding added_row
+      replaced b k x =
+          let some_alike : any (alike r) l ≡ true = run-alike r l start end there s ∙ lt-ltb start end k in
+          let same : replace_first (alike r) r l ≡ set l start r =
+          replace_at (alike r) r l ∙ ap (λ (i : ℕ). set l i r) (run-place r l start end there s h.in_order some_alike)
+          in
+          came-rows (replace_first (alike r) r l) (rw (new_one, b, some_alike)) (record { represents = rw same x; fit = replace_fit r l h fit new_one })
 
-one_place : (new : Row) (l : List Row) → any (alike new) l ≡ false → ahead new l ≡ behind new l
-unfolding ahead behind
-one_place new l h = let k = apart new l h in rw (k.0, k.1)
+    module _ (b : has_bit replace_bit f ≡ false) (h : FitRoutes l) where
+      longer : (length (ahead r l) ≡ length l + 1) × (length (behind r l) ≡ length l + 1)
+      longer =
+          let within = run-within r l start end there s in (
+            ap (λ (m : List Row). length m) (sym (run-ahead r l start end there s h.in_order)) ∙ length-insert_at start r l (omega (arith, within)),
+            ap (λ (m : List Row). length m) (sym (run-behind r l start end there s h.in_order)) ∙ length-insert_at end r l within.1,
+          )
 
--- the first alike row is the new one: that one is there
-is-there : (new : Row) (l : List Row) → any (eq_row new) l ≡ false → is_row new (first (alike new) l) ≡ false
-is-there new l h = go (first (alike new) l) refl
-  where
-    go : (o : Own.Option Row) → first (alike new) l ≡ o → is_row new o ≡ false
-    go Own.none e = refl
-    go (Own.some r) e =
-        fails (eq_row new r) (λ k. true-false (any (eq_row new) l) (rw (← eq_row-true new r k) at (first-there (alike new) l r e)) h)
+      pub no-room : 256 ≤ length l → Denies (added_row r f l) UnfitEvent
+      unfolding added_row
+      no-room k =
+          test-case (has_bit append_bit f)
+          (λ e. let long : leb (length (behind r l)) 256 ≡ false = lt-leb (length (behind r l)) 256 (omega (arith, longer)) in came_unfit (rw (new_one, b, e, long)))
+          (λ e. let long : leb (length (ahead r l)) 256 ≡ false = lt-leb (length (ahead r l)) 256 (omega (arith, longer)) in came_unfit (rw (new_one, b, e, long)))
 
-module _ (r : Row) (f : ℕ) (l : List Row) (few : length l ≤ 256) where
-  replaces : has_bit replace_bit f ≡ true → added_row r f l ≡ rebuilt_by (insert4 r (flag replace_bit) l)
-  unfolding added_row insert4 has_bit
-  replaces a =
-      let fits : leb (length (replace_first (alike r) r l)) 256 ≡ true = le-leb (length (replace_first (alike r) r l)) 256 (omega (arith, length-replace_first (alike r) r l)) in
-      test-case (any (alike r) l)
-      (λ c. test-case (any (eq_row r) l)
-      (λ d. rw (c, d) (test-case (is_row r (first (alike r) l)) (λ i. rw i) (λ i. rw i)))
-      (λ d. rw (a, c, d, is-there r l d, fits)))
-      (λ c. rw (a, c) (cond_same (not (any (eq_row r) l)) (refused 209)))
+      module _ (fit : fit_route r ≡ true) (k : length l < 256) {w : List ℕ} where
+        pub put-behind : has_bit append_bit f ≡ true → Represents w (with_routes (insert_at end r l) (table_of l)) → Accepted (added_row r f l) w
+        unfolding added_row
+        put-behind e x =
+            let few : leb (length (behind r l)) 256 ≡ true = le-leb (length (behind r l)) 256 (omega (arith, longer)) in
+            came-rows (behind r l) (rw (new_one, b, e, few)) (record { represents = rw (run-behind r l start end there s h.in_order) at x; fit = behind-fit r l h fit new_one })
 
-  adds : (b : Bool) → has_bit replace_bit f ≡ false → has_bit append_bit f ≡ b
-      → added_row r f l ≡ rebuilt_by (insert4 r (cond b (flag create_bit + flag append_bit) (flag create_bit)) l)
-  unfolding added_row insert4 has_bit
-  adds true a b =
-      test-case (any (alike r) l) (λ c. test-case (any (eq_row r) l) (λ d. rw (c, d)) (λ d. rw (a, b, c, d)))
-      (λ c. rw (a, b, c, none_equal r l c, one_place r l c))
-  adds false a b =
-      test-case (any (alike r) l) (λ c. test-case (any (eq_row r) l) (λ d. rw (c, d)) (λ d. rw (a, b, c, d)))
-      (λ c. rw (a, b, c, none_equal r l c))
-
-  insert_rebuilds : added_row r f l ≡ rebuilt_by (insert4 r (asked f) l)
-  unfolding asked
-  insert_rebuilds =
-      test-case (has_bit replace_bit f) (λ a. rw a (replaces a))
-      (λ a. rw a (adds (has_bit append_bit f) a refl))
-
-module _ (new : Row) (f : ℕ) (l : List Row) (fit : fit_route new ≡ true) {w w' : List ℕ} (h : HoldsRows w l) where
-  inserted-came : (i : Insert.Inserted) → Puts i → Represents w' (with_routes (rows_after i l) (table_of l)) → Came (rebuilt_by i) w' (put_in (answer_of i))
-  inserted-came (Insert.placed m emitted) p k =
-      test-case (leb (length m) 256) (λ e. rw e (came-rows m refl (record { represents = rw e at k; fit = p }))) (λ e. rw e (came_unfit refl))
-  inserted-came Insert.nothing p k = came_unfit refl
-  inserted-came (Insert.unplaced n) p k = came_unfit refl
-
-  pub added-came : {r : Inserted} → InsertedInto new (asked f) (table_of l) w' r → Came (added_row new f l) w' (put_in r)
-  added-came {r} d =
-      let i = insert4 new (asked f) l in
-      rw (insert_rebuilds new f l h.represents.routes_within, d.answer)
-      (inserted-came i (insert_fit new (asked f) l fit h.fit) d.holds)
+        pub put-ahead : has_bit append_bit f ≡ false → Represents w (with_routes (insert_at start r l) (table_of l)) → Accepted (added_row r f l) w
+        unfolding added_row
+        put-ahead e x =
+            let few : leb (length (ahead r l)) 256 ≡ true = le-leb (length (ahead r l)) 256 (omega (arith, longer)) in
+            came-rows (ahead r l) (rw (new_one, b, e, few)) (record { represents = rw (run-ahead r l start end there s h.in_order) at x; fit = ahead-fit r l h fit new_one })
 
 -- ---- a deletion: the row's place, if it has one
+abbrev pub IsPlace : Row → List Row → Option ℕ → Type 0
+IsPlace row l o = MatchOption o (place_of (eq_row row) l ≡ length l) (λ i. i ≡ place_of (eq_row row) l)
+
+-- the first i of which don't pass
+skipped : (p : Row → Bool) (l : List Row) (i : ℕ) → i ≤ length l → ((j : ℕ) → j < i → p (get_or l j []) ≡ false) → place_of p l ≡ i + place_of p (drop i l)
+skipped p l zero h f = sym (zero-add (place_of p l))
+skipped p [] (suc i) h f = absurd (omega arith)
+skipped p (x ∷ l) (suc i) h f = rw (f 0 (omega arith)) (omega (arith, skipped p l i (omega arith) (λ j k. f (suc j) (omega arith))))
+
+module _ (row : Row) (l : List Row) (start : ℕ) (within : start ≤ length l) (k : IsPartitionPoint (λ r. before r row ≡ true) (λ r. before r row ≡ false) l start) where
+  behind_those : place_of (eq_row row) l ≡ start + place_of (eq_row row) (drop start l)
+  behind_those = skipped (eq_row row) l start within (λ j b. before-not_equal row (get_or l j []) (k.0 j [] (omega arith) b))
+
+  pub place-behind : (i : ℕ) → position (eq_row row) (drop start l) ≡ Some i → IsPlace row l (Some (start + i))
+  place-behind i e = omega (arith, behind_those, found-place (eq_row row) (drop start l) i e)
+
+  pub none-behind : position (eq_row row) (drop start l) ≡ None → IsPlace row l None
+  none-behind e = omega (arith, behind_those, missing-place (eq_row row) (drop start l) e, length-drop start l)
+
 pub place-there : (o : Option ℕ) (i : ℕ) {r : Result ℕ Refusal} → r ≡ ok_or o UnfitEvent → r ≡ Ok i → o ≡ Some i
 place-there None i f e = let bad : ◌≡◌ {A = Result ℕ Refusal} (Ok i) (Err UnfitEvent) = sym e ∙ f in cc
 place-there (Some j) i f e = let same : ◌≡◌ {A = Result ℕ Refusal} (Ok i) (Ok j) = sym e ∙ f in cc
@@ -152,19 +145,18 @@ no-place None x f e = let same : ◌≡◌ {A = Result ℕ Refusal} (Err x) (Err
 no-place (Some j) x f e = let bad : ◌≡◌ {A = Result ℕ Refusal} (Err x) (Ok j) = sym e ∙ f in cc
 
 module _ (row : Row) (l : List Row) where
-  pub not_there : position (eq_row row) l ≡ None → Denies (deleted_row row l) UnfitEvent
+  pub not_there : IsPlace row l None → Denies (deleted_row row l) UnfitEvent
   unfolding deleted_row
   not_there e =
-      let none_is : any (eq_row row) l ≡ false = fails (any (eq_row row) l) (λ k. omega (arith, any_at (eq_row row) l k, missing-place (eq_row row) l e)) in
+      let none_is : any (eq_row row) l ≡ false = fails (any (eq_row row) l) (λ k. omega (arith, any_at (eq_row row) l k, e)) in
       came_unfit (rw none_is)
 
-  pub taken_out : {w : List ℕ} (i : ℕ) → position (eq_row row) l ≡ Some i → FitRoutes l → Represents w (with_routes (remove_at i l) (table_of l)) → Came (deleted_row row l) w (Ok tt)
+  pub taken_out : {w : List ℕ} (i : ℕ) → IsPlace row l (Some i) → i < length l → FitRoutes l → Represents w (with_routes (remove_at i l) (table_of l)) → Came (deleted_row row l) w (Ok tt)
   unfolding deleted_row remove_at
-  taken_out i e f k =
-      let at = found-place (eq_row row) l i e in
-      let here : place_of (eq_row row) l < length l = omega (arith, at.0, at.1) in
+  taken_out i at b f k =
+      let here : place_of (eq_row row) l < length l = omega (arith, at, b) in
       let there : any (eq_row row) l ≡ true = any_here (eq_row row) l (place_of (eq_row row) l) [] here (place-passes (eq_row row) l [] here) in
-      let gone : remove_first (eq_row row) l ≡ take i l ++ drop (suc i) l = rw (← at.0) at (remove_at_lem (eq_row row) l) in
+      let gone : remove_first (eq_row row) l ≡ take i l ++ drop (suc i) l = rw (← at) at (remove_at_lem (eq_row row) l) in
       came-rows (remove_first (eq_row row) l) (rw there) (record { represents = rw gone k; fit = remove_first-fit (eq_row row) l f })
 
 -- ---- an event that is its number alone

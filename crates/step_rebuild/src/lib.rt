@@ -1,25 +1,23 @@
 // One event of a recording done again, on words that hold the rows rebuilt so far: those of a state with these routes alone.
 #![tactic(auto)]
 
-ghost use Rattle.std.specs.Prelude.{◌≡◌, true, false, ◌&&◌, List, MatchResult, leb, position};
+ghost use Rattle.std.specs.Prelude.{◌≡◌, true, false, ◌&&◌, ◌<◌, List, MatchResult, IfSome, leb, length, position};
 ghost use Rattle.lists.specs.Lists.{Row, eq_row};
 ghost use Rattle.layout.specs.Route.{fit_route};
 ghost use Rattle.refusal.specs.Refusal.{unless};
+ghost use Rattle.definition.specs.Words.{ordered};
 ghost use Rattle.definition_recording.specs.Recording.{event as Recording·event, rows as Recording·rows};
 ghost use Rattle.definition_recording.specs.Recording.{flags, route_row, fit_address_event, fit_new_route, fit_del_route, fit_mark, provided, added_row, deleted_row, after_down, after_last};
 ghost use Rattle.step_rebuild.specs.Holds.{HoldsRows, Came};
-ghost use Rattle.step_rebuild.specs.Laws.{asked};
+ghost use Rattle.step_rebuild.specs.Laws.{IsPlace};
 
-use layout::{EventRow, RouteRow, event, route};
+use layout::{EventRow, ROUTE_LIMIT, RouteRow, event};
 use refusal::Refusal;
 use row_address::has;
-use rows::Routes;
 use state::StoredMut;
 
 // The flags of a new route (netlink's NLM_F_*).
 const REPLACE: u32 = 0x100;
-
-const CREATE: u32 = 0x400;
 
 const APPEND: u32 = 0x800;
 
@@ -52,41 +50,47 @@ fn fit_route(e: &EventRow, most: u32) -> Result<&RouteRow, Refusal>
     row_route::fit_route(&e[event::ROW..]).ok_or(Refusal::UnfitEvent)
 }
 
-// The flags of a request that puts a row in as an event with these flags says.
-fn asked(flags: u32) -> u32
-    ensures { result ≡ asked flags }
-{
-    if has(flags, REPLACE) {
-        return REPLACE;
-    }
-    if has(flags, APPEND) {
-        return CREATE | APPEND;
-    }
-    CREATE
-}
-
-// A row put in, or in place of another, unless it is there already, or can't be.
+// A row put in, or in place of the first alike one, unless it is there already, or can't be. The rows are in order, so the alike ones
+// are found by halves.
 fn add(s: &mut StoredMut<'_>, row: &RouteRow, flags: u32) -> Result<(), Refusal>
     requires { fit_route row.now ≡ true }
     ensures came { (l : List Row) → HoldsRows s.old.words.now l → Came (added_row row.now flags l) s.new.words.now result }
     ensures place { s.new.words.ghost_name ≡ s.old.words.ghost_name }
 {
-    let put = step_insert::insert4(s, row, asked(flags)).unwrap_or(None);
-    refusal::unless(put.is_some(), Refusal::UnfitEvent)
+    let rows = s.stored().routes().rows;
+    let n = rows.len();
+    let alike = step_insert::alike4(rows, row);
+    refusal::unless(!alike.there, Refusal::UnfitEvent)?;
+    if has(flags, REPLACE) {
+        refusal::unless(alike.start < alike.end, Refusal::UnfitEvent)?;
+        s.replace_route(alike.start, row);
+        return Ok(());
+    }
+    refusal::unless(n < ROUTE_LIMIT, Refusal::UnfitEvent)?;
+    let place = if has(flags, APPEND) {
+        alike.end
+    } else {
+        alike.start
+    };
+    s.insert_route(place, row);
+    Ok(())
 }
 
-// Whether r is the row. Most rows are to other destinations, so that is asked first.
-fn is_row(row: &RouteRow, r: &RouteRow) -> bool
-    ensures { result ≡ eq_row row.now r.now }
+// The place of the row among any rows.
+fn find_in(rows: &[RouteRow], row: &RouteRow) -> Option<usize>
+    ensures { result ≡ position (eq_row row.now) rows.now }
 {
-    row[route::DST] == r[route::DST] && *row == *r
+    rows.iter().position(|r| *row == *r)
 }
 
-// The place of the row.
-fn find_row(routes: Routes<'_>, row: &RouteRow) -> Option<usize>
-    ensures { result ≡ position (eq_row row.now) routes.entry.rows.now }
+// The place of the row among rows in order, of which those before it are passed by halves.
+fn find_row(rows: &[RouteRow], row: &RouteRow) -> Option<usize>
+    ensures place { ordered rows.now ≡ true → IsPlace row.now rows.now result }
+    ensures bound { IfSome result (λ i. i < length rows.now) }
 {
-    routes.rows.iter().position(|r| is_row(row, r))
+    let start = rows.partition_point(|r| row_route::before(r, row));
+    let i = find_in(&rows[start..], row)?;
+    Some(start + i)
 }
 
 // A row taken out, if it is there.
@@ -94,7 +98,7 @@ fn delete(s: &mut StoredMut<'_>, row: &RouteRow) -> Result<(), Refusal>
     ensures came { (l : List Row) → HoldsRows s.old.words.now l → Came (deleted_row row.now l) s.new.words.now result }
     ensures place { s.new.words.ghost_name ≡ s.old.words.ghost_name }
 {
-    let i = find_row(s.stored().routes(), row).ok_or(Refusal::UnfitEvent)?;
+    let i = find_row(s.stored().routes().rows, row).ok_or(Refusal::UnfitEvent)?;
     s.remove_route(i);
     Ok(())
 }

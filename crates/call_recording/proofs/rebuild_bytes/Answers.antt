@@ -6,29 +6,23 @@ use Rattle.definition_bytes.specs.Recording.{whole_bytes, rebuild_on_bytes}
 use Rattle.call_recording.specs.Laws.{fresh, nothing-left, bytes-events, bytes-unfit, bytes-fit, call-refused, call-passed, reply-refused, reply-rows, says-no, says-rows, bytes-no, flattened}
 use Rattle.call_recording.proofs.rebuild_bytes.Goals as goal
 
-pub returns-in_err-unless-clause-value : goal.returns-in_err-unless-clause-value
-returns-in_err-unless-clause-value c =
+pub returns-in_err-unless : goal.returns-in_err-unless
+returns-in_err-unless c =
     let w = c.args.recording.now in
     let room = length c.args.rows.now in
     let fit = whole_bytes w && leb 32768 room in
     let same : (c.is_empty.result && leb 32768 room) ≡ fit = ap (λ (b : Bool). b && leb 32768 room) (nothing-left 136 w c.is_empty.ensures c.as_chunks.ensures.back_len) in
     let no = call-refused (rebuild_on_bytes room w) fit same c.unless.ensures _ c.in_err-unless.was (bytes-unfit room w) in
-    says-no (rebuild_on_bytes room w) _ c.from_residual.result no.0 no.1 c.from_residual.ensures.1
-
-pub returns-in_err-unless-clause-rows_after : goal.returns-in_err-unless-clause-rows_after
-returns-in_err-unless-clause-rows_after c =
-    let w = c.args.recording.now in
-    let room = length c.args.rows.now in
-    let fit = whole_bytes w && leb 32768 room in
-    let same : (c.is_empty.result && leb 32768 room) ≡ fit = ap (λ (b : Bool). b && leb 32768 room) (nothing-left 136 w c.is_empty.ensures c.as_chunks.ensures.back_len) in
-    let no = call-refused (rebuild_on_bytes room w) fit same c.unless.ensures _ c.in_err-unless.was (bytes-unfit room w) in
-    bytes-no c.args.rows.now no.0
+    record {
+      value = says-no (rebuild_on_bytes room w) _ c.from_residual.result no.0 no.1 c.from_residual.ensures.1;
+      rows_after = bytes-no c.args.rows.now no.0;
+    }
 
 pub rebuilt-requires : goal.rebuilt-requires
 rebuilt-requires c = fresh 9507
 
-pub returns-in_err-routes-clause-value : goal.returns-in_err-routes-clause-value
-returns-in_err-routes-clause-value c =
+pub returns-in_err-routes : goal.returns-in_err-routes
+returns-in_err-routes c =
     let w = c.args.recording.now in
     let room = length c.args.rows.now in
     let fit = whole_bytes w && leb 32768 room in
@@ -36,21 +30,13 @@ returns-in_err-routes-clause-value c =
     let is = bytes-fit room w (call-passed (rebuild_on_bytes room w) fit same c.unless.ensures c.in_ok-unless.was) in
     let events = ap (map words_of) c.as_chunks.ensures.front ∙ bytes-events w in
     let no = reply-refused is events c.in_err-routes.field-0.0 c.in_err-routes.ensures in
-    says-no (rebuild_on_bytes room w) _ c.from_residual-in_err-routes.result no c.in_err-routes.ensures.1 c.from_residual-in_err-routes.ensures.1
+    record {
+      value = says-no (rebuild_on_bytes room w) _ c.from_residual-in_err-routes.result no c.in_err-routes.ensures.1 c.from_residual-in_err-routes.ensures.1;
+      rows_after = bytes-no c.args.rows.now no;
+    }
 
-pub returns-in_err-routes-clause-rows_after : goal.returns-in_err-routes-clause-rows_after
-returns-in_err-routes-clause-rows_after c =
-    let w = c.args.recording.now in
-    let room = length c.args.rows.now in
-    let fit = whole_bytes w && leb 32768 room in
-    let same : (c.is_empty.result && leb 32768 room) ≡ fit = ap (λ (b : Bool). b && leb 32768 room) (nothing-left 136 w c.is_empty.ensures c.as_chunks.ensures.back_len) in
-    let is = bytes-fit room w (call-passed (rebuild_on_bytes room w) fit same c.unless.ensures c.in_ok-unless.was) in
-    let events = ap (map words_of) c.as_chunks.ensures.front ∙ bytes-events w in
-    let no = reply-refused is events c.in_err-routes.field-0.0 c.in_err-routes.ensures in
-    bytes-no c.args.rows.now no
-
-pub returns-clause-value : goal.returns-clause-value
-returns-clause-value c =
+pub returns : goal.returns
+returns c =
     let w = c.args.recording.now in
     let room = length c.args.rows.now in
     let fit = whole_bytes w && leb 32768 room in
@@ -59,16 +45,7 @@ returns-clause-value c =
     let events = ap (map words_of) c.as_chunks.ensures.front ∙ bytes-events w in
     let l = c.in_ok-routes.routes.now in
     let yes = reply-rows is events l c.in_ok-routes.ensures.0 in
-    rw yes (says-rows l refl)
-
-pub returns-clause-rows_after : goal.returns-clause-rows_after
-returns-clause-rows_after c =
-    let w = c.args.recording.now in
-    let room = length c.args.rows.now in
-    let fit = whole_bytes w && leb 32768 room in
-    let same : (c.is_empty.result && leb 32768 room) ≡ fit = ap (λ (b : Bool). b && leb 32768 room) (nothing-left 136 w c.is_empty.ensures c.as_chunks.ensures.back_len) in
-    let is = bytes-fit room w (call-passed (rebuild_on_bytes room w) fit same c.unless.ensures c.in_ok-unless.was) in
-    let events = ap (map words_of) c.as_chunks.ensures.front ∙ bytes-events w in
-    let l = c.in_ok-routes.routes.now in
-    let yes = reply-rows is events l c.in_ok-routes.ensures.0 in
-    rw yes (c.bytes_of.ensures ∙ ap (λ (v : List ℕ). put 0 (bytes_of v) c.args.rows.now) (c.as_flattened.ensures.value ∙ flattened l))
+    record {
+      value = rw yes (says-rows l refl);
+      rows_after = rw yes (c.bytes_of.ensures ∙ ap (λ (v : List ℕ). put 0 (bytes_of v) c.args.rows.now) (c.as_flattened.ensures.value ∙ flattened l));
+    }
