@@ -19,6 +19,7 @@ pub fn check(checks: &mut Checks) {
     most_events(checks);
     unfit(checks);
     ipv6_events(checks);
+    told_beside(checks);
     by_the_calls(checks);
     lifetimes(checks);
     allowances(checks);
@@ -534,6 +535,22 @@ fn ipv6_events(checks: &mut Checks) {
     told("P8 up again", call, request, 0, 0);
     // event 5, beside the Rust
     told("P8 down", Call::Down, Request::Down, 1, 2);
+}
+
+/// What the port tells beside the Rust (document 02, Paper 9).
+fn told_beside(checks: &mut Checks) {
+    let mut s = Script::default();
+    checks.same(
+        "P18 down, whether or not a route goes",
+        s.call(Call::Down).text,
+        lines(&["the device down"]),
+    );
+    s.add(address("10.1.0.5/24"));
+    checks.same(
+        "P19 the last address gone",
+        s.del("10.1.0.5").text,
+        lines(&["DelAddr4 10.1.0.5/24", "the last address gone"]),
+    );
 }
 
 /// What `naskrefim` lacks, made of what it has, on states of any kind.
