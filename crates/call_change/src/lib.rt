@@ -97,8 +97,8 @@ fn told_routes(events: &[u32], told: Result<usize, Refusal>) -> bool
 }
 
 // The same on the words of a state, and what is behind the lists settled where they changed: a step tells a row of whatever it changes
-// but tables. `other` says that the row told isn't the one that was there. The row counts are made anew only where they may be others,
-// which a replaced address leaves: to count takes longer than to replace it.
+// but tables. `other` says that the row told isn't the one that was there. The row counts are made anew only where they may be others: a
+// replaced address leaves them, and need not wait for that.
 fn changed<F: FnOnce(&mut Change<'_, '_>) -> Result<(), Refusal>>(
     state: &mut [u32],
     events: &mut [u32],
