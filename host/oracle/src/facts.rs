@@ -549,7 +549,11 @@ fn told_beside(checks: &mut Checks) {
     checks.same(
         "P19 the last address gone",
         s.del("10.1.0.5").text,
-        lines(&["DelAddr4 10.1.0.5/24", "the last address gone"]),
+        lines(&[
+            "DelAddr4 10.1.0.5/24",
+            "DelRoute4 255 10.1.0.5/32 kind 2 from 10.1.0.5",
+            "the last address gone",
+        ]),
     );
 }
 
