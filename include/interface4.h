@@ -1,9 +1,9 @@
 /*
  * IPv4 on a guest's loopback: addresses, routes, source choice, requests as
- * they come off an rtnetlink socket, and events as they go onto it. The
- * functions of libinterface4.a (`rt lib` in crates/interface4), for x86-64
- * Linux, to be used from C99 or C++. Each is proved to do what documents 01 and
- * 02 say for any lent words at all.
+ * they come off an rtnetlink socket, events as they go onto it, and recordings
+ * of events. The functions of libinterface4.a (`rt lib` in crates/interface4),
+ * for x86-64 Linux, to be used from C99 or C++. Each is proved to do what
+ * documents 01 and 02 say for any lent words at all.
  *
  * Each call is there twice: interface4w_* on words of 32 bits where they are,
  * and interface4_* on bytes, each word as four, the lowest first, which copies
@@ -25,7 +25,7 @@
  *
  * Stack. What a call needs besides is on its caller's stack: at most what
  * INTERFACE4W_STACK_* and INTERFACE4_STACK_* say, 4,096 to 94,208 bytes on
- * words and 4,096 to 184,320 on bytes.
+ * words and 4,096 to 188,416 on bytes.
  *
  * Addresses are 32-bit numbers, 10.1.0.5 being 0x0a010005. Clocks are in
  * nanoseconds, lifetimes in seconds.
@@ -48,7 +48,7 @@ extern "C" {
 #define INTERFACE4_ADDRESSES 64
 #define INTERFACE4_ROUTES 256
 #define INTERFACE4_TABLES 32
-#define INTERFACE4_EVENTS 384
+#define INTERFACE4_EVENTS 385
 
 /*
  * An address row, in words: local, address (a peer, or the same), prefix,
@@ -72,6 +72,14 @@ extern "C" {
 #define INTERFACE4_DEL_ADDR4 2
 #define INTERFACE4_NEW_ROUTE4 3
 #define INTERFACE4_DEL_ROUTE4 4
+/*
+ * Two events are their number and zeros, and tell of rows that nothing else
+ * tells of. Every down tells that the device's rows are gone, but for those of
+ * scope 254. When the last address goes, all of them are gone, which is its
+ * call's last event. Neither has a message.
+ */
+#define INTERFACE4_LINK_DOWN 5
+#define INTERFACE4_IP_DISABLED 6
 
 /*
  * A state: the counts of addresses, routes and tables, their rows (64, 256)
@@ -93,7 +101,7 @@ extern "C" {
 #define INTERFACE4_COUNT_AT 9507
 #define INTERFACE4_ROW_COUNTS_AT 9509
 /* The fewest words of a buffer for events, for a listing, for one route. */
-#define INTERFACE4_EVENT_BUFFER_WORDS 13056
+#define INTERFACE4_EVENT_BUFFER_WORDS 13090
 #define INTERFACE4_LISTING_BUFFER_WORDS 8192
 #define INTERFACE4_ROW_BUFFER_WORDS 32
 /*
@@ -128,7 +136,7 @@ extern "C" {
 #define INTERFACE4_EVENT_BYTES 136
 #define INTERFACE4_STATE_BYTES 38164
 #define INTERFACE4_CURSOR_BYTES 12
-#define INTERFACE4_EVENT_BUFFER_BYTES 52224
+#define INTERFACE4_EVENT_BUFFER_BYTES 52360
 #define INTERFACE4_LISTING_BUFFER_BYTES 32768
 #define INTERFACE4_ROW_BUFFER_BYTES 128
 #define INTERFACE4_ADD_V4_BYTES 72
@@ -151,7 +159,7 @@ extern "C" {
 #define INTERFACE4_MESSAGE_BYTES 216
 
 /* The last of document 02's papers that this header knows: see interface4_sizes. */
-#define INTERFACE4_PAPER 8
+#define INTERFACE4_PAPER 9
 
 /* A lifetime that never ends. */
 #define INTERFACE4_FOREVER UINT32_MAX
@@ -186,6 +194,8 @@ extern "C" {
 #define INTERFACE4_NOT_IPV4 205            /* a message of another type or family */
 #define INTERFACE4_BAD_ATTRIBUTE 206       /* of the wrong size; or no local address */
 #define INTERFACE4_BAD_MASK 207            /* a netmask that isn't ones, then zeros */
+#define INTERFACE4_UNKNOWN_EVENT 208       /* in a recording: of another kind */
+#define INTERFACE4_UNFIT_EVENT 209         /* in a recording: its words, or for the rows so far */
 
 /* What every call replies: number is 0, or a refusal and then the rest 0. */
 typedef struct interface4_reply {
@@ -220,9 +230,11 @@ typedef struct interface4_reply {
 #define INTERFACE4W_STACK_CHECK 4096
 #define INTERFACE4W_STACK_READ 4096
 #define INTERFACE4W_STACK_WRITE 4096
+#define INTERFACE4W_STACK_REBUILD 40960
+#define INTERFACE4W_STACK_SAME 77824
 #define INTERFACE4W_STACK_ADD_V4_MASK 45056
 #define INTERFACE4W_STACK_DEL_V4_MASK 4096
-#define INTERFACE4_STACK_UP 184320
+#define INTERFACE4_STACK_UP 188416
 #define INTERFACE4_STACK_DOWN 40960
 #define INTERFACE4_STACK_ADD_V4 135168
 #define INTERFACE4_STACK_DEL_V4 98304
@@ -242,6 +254,8 @@ typedef struct interface4_reply {
 #define INTERFACE4_STACK_CHECK 40960
 #define INTERFACE4_STACK_READ 4096
 #define INTERFACE4_STACK_WRITE 4096
+#define INTERFACE4_STACK_REBUILD 40960
+#define INTERFACE4_STACK_SAME 77824
 #define INTERFACE4_STACK_ADD_V4_MASK 172032
 #define INTERFACE4_STACK_DEL_V4_MASK 131072
 #define INTERFACE4_STACK_SIZES 4096
@@ -256,7 +270,7 @@ typedef struct interface4_reply {
 interface4_reply interface4w_up(uint32_t *state, size_t state_len, uint32_t *events, size_t events_len, uint64_t now);
 interface4_reply interface4_up(uint8_t *state, size_t state_len, uint8_t *events, size_t events_len, uint64_t now);
 
-/* The device goes down: its routes go, but for those of host scope. No event. */
+/* The device goes down: its routes go, but for those of host scope. One event, INTERFACE4_LINK_DOWN. */
 interface4_reply interface4w_down(uint32_t *state, size_t state_len, uint32_t *events, size_t events_len);
 interface4_reply interface4_down(uint8_t *state, size_t state_len, uint8_t *events, size_t events_len);
 
@@ -266,7 +280,10 @@ interface4_reply interface4w_add_v4(uint32_t *state, size_t state_len, const uin
 interface4_reply interface4_add_v4(uint8_t *state, size_t state_len, const uint8_t *request, size_t request_len,
                                    uint8_t *events, size_t events_len, uint64_t now);
 
-/* The first address that meets the conditions goes, a primary with its secondaries. */
+/*
+ * The first address that meets the conditions goes, a primary with its
+ * secondaries; with the last address all routes of the device.
+ */
 interface4_reply interface4w_del_v4(uint32_t *state, size_t state_len, const uint32_t *request, size_t request_len,
                                     uint32_t *events, size_t events_len);
 interface4_reply interface4_del_v4(uint8_t *state, size_t state_len, const uint8_t *request, size_t request_len,
@@ -428,6 +445,36 @@ interface4_reply interface4w_write(const uint32_t *event, size_t event_len, uint
                                    uint32_t sequence, uint32_t port, uint64_t now);
 interface4_reply interface4_write(const uint8_t *event, size_t event_len, uint8_t *message, size_t message_len,
                                   uint32_t sequence, uint32_t port, uint64_t now);
+
+/*
+ * Recordings: the event rows that calls told, one behind the other. No state.
+ */
+
+/*
+ * The route rows that a recording rebuilds, `value` of them, are written from
+ * the start of `rows`, at least INTERFACE4_LISTING_BUFFER_WORDS; what is behind
+ * them keeps what it held, and a refusal leaves all. Of all events of a run
+ * from empty they are the state's route rows, in order. A new route with flag
+ * 0x100 replaces the first row alike in dst, len, table, tos and priority; else
+ * 0x800 adds it after the alike rows, otherwise before them. Addresses rebuild
+ * nothing.
+ *
+ * 200 for a recording that isn't whole event rows, or shorter rows. Then the
+ * earliest event that is refused decides: 208 for another kind; 209 for an
+ * address or route row that could stand in no state, flags over 65,535 or of
+ * another kind than a new route, another word that should be 0, a deletion of a
+ * row not there, a replacement with no alike row, an addition of or replacement
+ * by a row already there, or a 257th row.
+ */
+interface4_reply interface4w_rebuild(const uint32_t *recording, size_t recording_len, uint32_t *rows, size_t rows_len);
+interface4_reply interface4_rebuild(const uint8_t *recording, size_t recording_len, uint8_t *rows, size_t rows_len);
+
+/*
+ * Whether two recordings rebuild the same rows in the same order: `value` is 1
+ * or 0. 200 for either; then 208 or 209 for the first, then for the second.
+ */
+interface4_reply interface4w_same(const uint32_t *first, size_t first_len, const uint32_t *second, size_t second_len);
+interface4_reply interface4_same(const uint8_t *first, size_t first_len, const uint8_t *second, size_t second_len);
 
 /*
  * The prefix of a netmask, `value`, the count of its ones: 255.255.255.0 is 24.

@@ -1,7 +1,7 @@
 /*
  * A loopback from C: up, an address, a lookup, a message off a socket and one
- * onto it, refusals; every function of the header on words, and every one on
- * bytes.
+ * onto it, recordings, refusals; every function of the header on words, and
+ * every one on bytes.
  * Each number is held against a literal; the status is 1 if one differs.
  */
 #include "interface4.h"
@@ -32,6 +32,9 @@ static uint32_t route[INTERFACE4_ADD_ROUTE4_WORDS];
 static uint32_t same_route[INTERFACE4_DEL_ROUTE4_WORDS];
 static uint32_t request[INTERFACE4_REQUEST_BUFFER_WORDS];
 static uint8_t written[INTERFACE4_MESSAGE_BYTES];
+/* Event rows, one call's behind the other's. */
+static uint32_t recording[16 * INTERFACE4_EVENT_WORDS], again[16 * INTERFACE4_EVENT_WORDS];
+static size_t recorded;
 static int failed;
 
 /* ip addr add 10.1.0.5/24 dev lo valid_lft 10 preferred_lft 5 */
@@ -247,7 +250,10 @@ static void on_words(void)
   told("expire", interface4w_expire(W(state), W(events), 6000000000u, INTERFACE4_FUZZ), 0, 1, 0);
   told("del_v4", interface4w_del_v4(W(state), W(by_local), W(events)), 0, 4, 0);
   is("its first event", events[0], INTERFACE4_DEL_ADDR4);
-  told("down", interface4w_down(W(state), W(events)), 0, 0, 0);
+  told("down", interface4w_down(W(state), W(events)), 0, 1, 0);
+  is("its event", events[0], INTERFACE4_LINK_DOWN);
+  reply = interface4w_write(events, INTERFACE4_EVENT_WORDS, written, sizeof written, 7, 9, 0);
+  refused("a message of it", reply, 201);
   is("the routes that are left", state[1], 2);
   is("of 255", state[INTERFACE4_ROW_COUNTS_AT + 1], 2);
 }
@@ -289,8 +295,58 @@ static void on_bytes(void)
   is("its event, on bytes", events[0], INTERFACE4_DEL_ROUTE4);
   told("expire, on bytes", interface4_expire(B(state), B(events), 6000000000u, INTERFACE4_FUZZ), 0, 1, 0);
   told("del_v4, on bytes", interface4_del_v4(B(state), B(by_local), B(events)), 0, 4, 0);
-  told("down, on bytes", interface4_down(B(state), B(events)), 0, 0, 0);
+  told("down, on bytes", interface4_down(B(state), B(events)), 0, 1, 0);
   is("the routes that are left, on bytes", state[1], 2);
+}
+
+static void record(const char *what, interface4_reply reply, uint32_t rows)
+{
+  told(what, reply, 0, rows, 0);
+  memcpy(recording + recorded, events, rows * INTERFACE4_EVENT_BYTES);
+  recorded += rows * INTERFACE4_EVENT_WORDS;
+}
+
+/* What the recording rebuilds is what the state has. */
+static void rebuilt(const char *what, uint32_t rows)
+{
+  const size_t bytes = rows * INTERFACE4_ROUTE_BYTES;
+
+  is("the rows that there are", state[1], rows);
+  memset(listing, 0x5a, sizeof listing);
+  told(what, interface4w_rebuild(recording, recorded, W(listing)), 0, rows, 0);
+  is("the rows", (uint32_t)memcmp(listing, state + INTERFACE4_ROUTES_AT, bytes), 0);
+  is("what is behind the rows", listing[rows * INTERFACE4_ROUTE_WORDS], 0x5a5a5a5au);
+  memset(listing, 0x5a, sizeof listing);
+  told(what, interface4_rebuild((uint8_t *)recording, 4 * recorded, B(listing)), 0, rows, 0);
+  is("the rows, on bytes", (uint32_t)memcmp(listing, state + INTERFACE4_ROUTES_AT, bytes), 0);
+}
+
+static void recordings(void)
+{
+  const size_t up = 4 * INTERFACE4_EVENT_WORDS;
+
+  memset(state, 0, sizeof state);
+  record("up, recorded", interface4w_up(W(state), W(events), 0), 4);
+  rebuilt("up, rebuilt", 3);
+  record("add_route4, recorded", interface4w_add_route4(W(state), W(route), W(events)), 1);
+  rebuilt("a route, rebuilt", 4);
+  record("down, recorded", interface4w_down(W(state), W(events)), 1);
+  rebuilt("down, rebuilt", 2);
+  memcpy(again, recording, sizeof again);
+  told("the same", interface4w_same(recording, recorded, again, recorded), 0, 1, 0);
+  told("not the same", interface4_same((uint8_t *)recording, 4 * recorded, (uint8_t *)again, 4 * up), 0, 0, 0);
+  by_local[1] = LOCALHOST;
+  record("del_v4 of the last address, recorded", interface4w_del_v4(W(state), W(by_local), W(events)), 4);
+  is("its last event", events[3 * INTERFACE4_EVENT_WORDS], INTERFACE4_IP_DISABLED);
+  rebuilt("no address, rebuilt", 0);
+  refused("a part of an event", interface4w_rebuild(recording, recorded - 1, W(listing)), 200);
+  refused("short rows", interface4w_rebuild(recording, recorded, listing, INTERFACE4_LISTING_BUFFER_WORDS - 1), 200);
+  recording[0] = 7;
+  refused("an unknown event", interface4w_rebuild(recording, recorded, W(listing)), 208);
+  refused("a part of a second one", interface4_same(B(recording), (uint8_t *)again, 35), 200);
+  refused("a second one with it", interface4w_same(again, up, recording, recorded), 208);
+  again[1] = 1;
+  refused("an address with flags", interface4w_same(again, up, recording, recorded), 209);
 }
 
 int main(void)
@@ -299,6 +355,7 @@ int main(void)
   requests();
   on_words();
   on_bytes();
+  recordings();
   puts(failed ? "loopback: FAILED" : "loopback: every number as it must be");
   return failed;
 }

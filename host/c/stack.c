@@ -30,6 +30,9 @@ static uint32_t request[INTERFACE4_REQUEST_BUFFER_WORDS];
 /* An event, and where it is written to. */
 static uint32_t event[INTERFACE4_EVENT_WORDS];
 static uint8_t written[INTERFACE4_MESSAGE_BYTES];
+/* Two recordings of events: an address, the most routes, and three events more. */
+#define R ((INTERFACE4_ROUTES + 4) * INTERFACE4_EVENT_WORDS)
+static uint32_t recording[R], second[R];
 static uint64_t now;
 static uint32_t ip;
 static interface4_reply reply;
@@ -60,7 +63,9 @@ static interface4_reply reply;
   CALL(left, (P(own), now))                                     \
   CALL(check, (P(state)))                                       \
   CALL(read, (message, sizeof message, P(request), 1))          \
-  CALL(write, (P(event), written, sizeof written, 1, 2, now))
+  CALL(write, (P(event), written, sizeof written, 1, 2, now))   \
+  CALL(rebuild, (P(recording), P(listing)))                     \
+  CALL(same, (P(recording), P(second)))
 
 #define P W
 #define ON_WORDS(name, arguments) static void words_##name(void) { reply = interface4w_##name arguments; }
@@ -277,6 +282,31 @@ static void tells(uint32_t kind)
   must("write");
 }
 
+/* An address, as many routes as there may be, all alike; the last taken out and put in again, the first replaced. */
+static void records(void)
+{
+  uint32_t i, *at = recording;
+  at[0] = INTERFACE4_NEW_ADDR4;
+  for (i = 0; i < INTERFACE4_ROUTES + 3; i++) {
+    at += INTERFACE4_EVENT_WORDS;
+    at[0] = INTERFACE4_NEW_ROUTE4;
+    at[1] = 0xc00;
+    at[7] = 1;
+    at[33] = i;
+  }
+  at = recording + (INTERFACE4_ROUTES + 1) * INTERFACE4_EVENT_WORDS;
+  at[0] = INTERFACE4_DEL_ROUTE4;
+  at[1] = 0;
+  at[33] = INTERFACE4_ROUTES - 1;
+  at += 2 * INTERFACE4_EVENT_WORDS;
+  at[1] = 0x100;
+  memcpy(second, recording, sizeof recording);
+  words_rebuild();
+  must("rebuild");
+  words_same();
+  must("same");
+}
+
 static void clear(int up)
 {
   memset(state, 0, sizeof state);
@@ -292,6 +322,7 @@ int main(void)
   static const uint32_t lives[] = {INTERFACE4_FOREVER, 1};
   size_t i, f;
 
+  records();
   del_by_local(0x7f000001u);
   for (i = 0; i < 2; i++) {
     clear((int)i);

@@ -12,7 +12,7 @@ use Rattle.definition.specs.State.{sizes}
 use Rattle.definition.specs.Words.{state_of, within}
 use Rattle.definition.specs.Call as Call
 use Rattle.definition.specs.Call.{Reply, refusal, written}
-use Rattle.definition.specs.Step.{Result, Action, changes, replies, lists, alters, semantics, outcome, step, up_call, down_call, add_v4_call, del_v4_call, expire_call, add_route4_call, del_route4_call}
+use Rattle.definition.specs.Step.{Result, Action, changes, replies, lists, alters, event_limit, semantics, outcome, step, up_call, down_call, add_v4_call, del_v4_call, expire_call, add_route4_call, del_route4_call}
 use Rattle.definition.specs.Reference.Addresses.{Outcome}
 use Rattle.definition.proofs.Preservation.Step.{acted, perform-case, emitted-bound}
 use Rattle.refusal.specs.declared.Refusal.{Refusal}
@@ -41,7 +41,7 @@ emission c w t = perform-case (λ (r : Result). Emission r.reply) w (semantics c
 pub record EmittedRows (r : Reply) : Type 0 where
   pub says : one_value r ≡ numbers r
   pub counts : r.value ≡ length r.rows
-  pub few : length r.rows ≤ 384
+  pub few : length r.rows ≤ event_limit
   pub size : sized 34 r.rows ≡ true
 
 pub emitted : (c : Call.Call) (w : List ℕ) → alters (semantics c).action ≡ true → EmittedRows (step c w).reply

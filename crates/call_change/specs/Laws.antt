@@ -1,20 +1,25 @@
 -- A changing call's answer and what it leaves, by its checks and by what the step below it left of the words that it was lent.
 -- Assumes nothing.
-use Rattle.std.specs.Prelude.{ℕ, ◌≤◌, ◌≡◌, ◌≢◌, refl, Bool, true, false, ◌&&◌, ◌||◌, List, [], eqb, ltb, length, Ok, Err, IsErrAnd}
+use Rattle.std.specs.Prelude.{ℕ, ◌+◌, ◌*◌, ◌/◌, ◌≤◌, ◌≡◌, ◌≢◌, refl, Bool, true, false, ◌&&◌, ◌||◌, List, [], ◌++◌, eqb, ltb, length, drop, Ok, Err, IsErrAnd}
 use Rattle.std.specs.Prelude.{Result as Answer}
-use Rattle.std.proofs.Common.{arith, sym, ap, subst, ◌∙◌, ne_eqb, eq-eqb, leb-true}
+use Rattle.std.specs.Result.{result_unwrap_or}
+use Rattle.std.proofs.Common.{arith, sym, ap, subst, ◌∙◌, ne_eqb, eq-eqb, leb-true, length-append, zero-add}
 use Rattle.std.proofs.Math.Bool.{and-false}
-use Rattle.lists.specs.Lists.{Row, flat, put}
+use Rattle.lists.specs.Lists.{Row, any, flat, put, chop}
+use Rattle.lists.specs.Rows.{length-flat, chop-flat}
 use Rattle.lists.specs.Put.{put-no-rows}
-use Rattle.lists.specs.Bools.{and_right}
+use Rattle.lists.specs.Bools.{and_right, test-case}
 use Rattle.definition.specs.State.{State}
-use Rattle.definition.specs.Words.{state_size, well_formed, base, table_count, leaves}
+use Rattle.definition.specs.Words.{row_counts_at, state_size, decode, well_formed, base, row_counts, table_count, leaves}
 use Rattle.definition.specs.Call.{Call, Reply, Numbers, numbers}
-use Rattle.definition.specs.Step.{Result, Semantics, checked, answered, result, roomy, outcome, perform, request_is, events_fit, event_room, step}
+use Rattle.definition.specs.Step.{Result, Semantics, alters, semantics, checked, answered, result, roomy, outcome, perform, request_is, events_fit, event_room, step}
 use Rattle.definition.specs.Reference.Addresses.{Outcome}
 use Rattle.definition.proofs.Preservation.Step.{Held, base-leaves, step-held, acted}
-use Rattle.definition_parts.specs.Rule.{has_events, altered}
+use Rattle.definition_parts.specs.Rule.{has_events, more_tables, altered}
 use Rattle.definition_parts.proofs.Counting.{step-words, step-idle}
+use Rattle.definition_recording.specs.Recording.{of_routes}
+use Rattle.definition_recording.proofs.Counts.{row_counts-stay}
+use Rattle.request_fit.specs.Laws.{chunks_take}
 use Rattle.state.specs.Represents.{Represents, holds-encodable}
 use Rattle.call_read.specs.Laws.{Passed, call-refused, call-passed, exit, refuses_some}
 use Rattle.call_read.specs.Answer.{answer_by, valuing, refused_by}
@@ -22,7 +27,8 @@ use Rattle.refusal.specs.declared.Refusal.{Refusal}
 use Rattle.refusal.specs.declared.Refusal.TheVariants.{WrongLength, Full}
 use Rattle.refusal.specs.Refusal.{number_of, Refuses}
 use Rattle.call_change.specs.Answer.{Answers}
-use Rattle.call_change.specs.Ran.{told_some}
+use Rattle.call_change.specs.Ran.{told_some, told_rows}
+use Rattle.call_change.specs.Emitted.{EmittedRows, emitted}
 use Rattle.call_change.specs.Count.{leaving}
 
 -- ---- the checks of a call by a request of so many words
@@ -98,17 +104,43 @@ left-words c {w} {v} false h t e = sym (step-idle c w v h t.lists e)
 pub left-formed : (c : Call) {w v ev ev' : List ℕ} {r : Answer ℕ Refusal} → Held w → Left (step c w) v ev ev' r → well_formed v ≡ true
 left-formed c {w} h t = ap well_formed t.lists ∙ (step-held c w h).well
 
+-- the rows that it told are the reply's
+counted-rows : (r : Answer ℕ Refusal) (x : Reply) → answer_by valuing r ≡ numbers x → result_unwrap_or r 0 ≡ x.value
+counted-rows (Ok n) x e = ap (λ (m : Numbers). m.value) e
+counted-rows (Err d) x e = ap (λ (m : Numbers). m.value) e
+
+rows-told : {x : Result} {v ev ev' : List ℕ} {r : Answer ℕ Refusal} → EmittedRows x.reply → Left x v ev ev' r → told_rows r ev' ≡ x.reply.rows
+unfolding put
+rows-told {x} {v} {ev} {ev'} {r} k t =
+    let rows = x.reply.rows in
+    let n : result_unwrap_or r 0 ≡ length rows = counted-rows r x.reply t.says ∙ k.counts in
+    let words : ev' ≡ flat rows ++ drop (length (flat rows)) ev = rw zero-add at t.events in
+    let long : length ev' ≡ 34 * length rows + length (drop (length (flat rows)) ev) =
+    ap length words ∙ length-append (flat rows) (drop (length (flat rows)) ev) ∙ ap (λ (m : ℕ). m + length (drop (length (flat rows)) ev)) (length-flat 34 rows k.size)
+    in
+    chunks_take 34 (result_unwrap_or r 0) (length ev' / 34) ev' (omega (arith, n, long))
+    ∙ ap (λ (m : ℕ). chop 34 m ev') n
+    ∙ ap (chop 34 (length rows)) words
+    ∙ chop-flat 34 rows (drop (length (flat rows)) ev) k.size
+
+-- where none of them is of routes, and no table came, the row counts are still true
+still : (c : Call) {w v ev ev' : List ℕ} {r : Answer ℕ Refusal} → Held w → Left (step c w) v ev ev' r → any of_routes (told_rows r ev') ≡ false → more_tables w v ≡ false
+    → row_counts (decode v) ≡ drop row_counts_at w
+still c {w} {v} h t none few =
+    row_counts-stay c w v h t.lists
+    (test-case (alters (semantics c).action) (λ a. rw a (rw (rows-told (emitted c w a) t) at none)) (λ a. rw a)) few
+
 -- behind the lists all is settled, as that rule says
 pub counts : (c : Call) {w v w' ev ev' : List ℕ} {r : Answer ℕ Refusal} (other : Bool) → Held w → Left (step c w) v ev ev' r
     → ((x : Reply) → altered c w x v ≡ (has_events x && other) || ltb (table_count w) (table_count v))
-    → (well_formed v ≡ true → w' ≡ leaving ((told_some r && other) || ltb (table_count w) (table_count v)) w v)
+    → (well_formed v ≡ true → (any of_routes (told_rows r ev') ≡ false → more_tables w v ≡ false → row_counts (decode v) ≡ drop row_counts_at w) → w' ≡ leaving ((told_some r && other) || ltb (table_count w) (table_count v)) w v)
     → Answers (step c w) w' ev ev' r
 counts c {w} {v} {r = r} other h t rule e =
     record {
       refuses = t.refuses;
       says = t.says;
       words =
-          e (left-formed c h t)
+          e (left-formed c h t) (still c h t)
           ∙ ap (λ (b : Bool). leaving ((b && other) || ltb (table_count w) (table_count v)) w v) (some-told r (step c w).reply t.says)
           ∙ left-words c _ h t (rule (step c w).reply);
       events = t.events;

@@ -1,9 +1,14 @@
 -- What a step on a change that had told nothing was, by what it left in the places that it was lent.
-use Rattle.std.specs.Prelude.{ℕ, ◌≡◌, Bool, true, false, ◌&&◌, ◌||◌, List, Ok, Err, ltb, length}
+use Rattle.std.specs.Prelude.{ℕ, ◌/◌, ◌≡◌, Bool, true, false, ◌&&◌, ◌||◌, List, Ok, Err, ltb, length, take, drop}
 use Rattle.std.specs.Prelude.{Result as Answer}
 use denote.Ref.{MutBor}
+use Rattle.std.specs.Simd.{first_chunks}
+use Rattle.std.specs.Result.{result_unwrap_or}
 use Rattle.std.specs.Fn.{Once, FnOnceTakesAtMut, FnOnceReturnsAtMut}
-use Rattle.definition.specs.Words.{base_size, well_formed, base, table_count}
+use Rattle.lists.specs.Lists.{Row, any}
+use Rattle.layout.specs.Event as Event
+use Rattle.definition.specs.Words.{base_size, row_counts_at, decode, well_formed, base, row_counts, table_count}
+use Rattle.definition_recording.specs.Recording.{of_routes}
 use Rattle.refusal.specs.declared.Refusal.{Refusal}
 use Rattle.step_events.specs.declared.change.Change.{Change}
 use Rattle.call_change.specs.declared.Ended.{Ended}
@@ -23,6 +28,10 @@ telling b (Err e) = Err e
 abbrev pub told_some : Answer ℕ Refusal → Bool
 told_some (Ok n) = ltb 0 n
 told_some (Err e) = false
+
+-- the rows that it told, of the event buffer; one that is refused told none
+abbrev pub told_rows : Answer ℕ Refusal → List ℕ → List Row
+told_rows r ev = take (result_unwrap_or r 0) (first_chunks Event.size (length ev / Event.size) ev)
 
 -- the predicates of a step
 abbrev pub Step : Type 0 → Type 1
@@ -58,9 +67,11 @@ module _ {F : Type 0} (g : Step F) (f : F) where
     pub rows : from.events.ghost_name ≡ to.events.ghost_name → ev' ≡ to.events.now
     pub answer : r ≡ telling to gave
 
-  -- the same on the words of a state: what was lent are those of the lists, which become `lists`; what is behind them is settled
+  -- the same on the words of a state: what was lent are those of the lists, which become `lists`; what is behind them is settled, if the
+  -- row counts are still true where no route was told and no table came
   pub record Counts (other : Bool) (w w' ev ev' : List ℕ) (r : Answer ℕ Refusal) : Type 0 where
     pub lists : List ℕ
     pub long : length lists ≡ base_size
     pub ran : Ran (base w) lists ev ev' r
-    pub words : well_formed lists ≡ true → w' ≡ leaving ((told_some r && other) || ltb (table_count w) (table_count lists)) w lists
+    pub words : well_formed lists ≡ true → (any of_routes (told_rows r ev') ≡ false → ltb (table_count w) (table_count lists) ≡ false → row_counts (decode lists) ≡ drop row_counts_at w)
+        → w' ≡ leaving ((told_some r && other) || ltb (table_count w) (table_count lists)) w lists

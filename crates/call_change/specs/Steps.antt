@@ -8,19 +8,17 @@ use Rattle.std.proofs.Math.Bool.{and-true}
 use Rattle.lists.specs.Lists.{Row, first, flat, put}
 use Rattle.lists.specs.Count.{count_most}
 use Rattle.lists.specs.Bools.{and_iff, test-case, cond-true, cond-false}
-use Rattle.lists.specs.Put.{put-no-rows}
 use Rattle.definition.specs.State.{State, Out, sizes}
-use Rattle.definition.specs.Words.{within, base_size, well_formed, base, state_of}
+use Rattle.definition.specs.Words.{within, well_formed, base, state_of}
 use Rattle.definition.specs.Call.{Call, Reply}
-use Rattle.definition.specs.Step.{Result, Checks, semantics, outcome, roomy, event_room, step}
+use Rattle.definition.specs.Step.{Result, Checks, semantics, outcome, roomy, event_limit, event_room, step}
 use Rattle.definition.proofs.Preservation.Step.{acted}
 use Rattle.definition_parts.specs.Rule.{has_events, more_tables, fewer_routes, row_changes, altered}
 use Rattle.definition.specs.Reference.Addresses.{Outcome, goes, refused, down, same_address}
 use Rattle.definition.specs.Preservation.Shrinking.{potential, live}
-use Rattle.definition.proofs.Preservation.Peaks.{down-roomy}
-use Rattle.definition.specs.Preservation.Encode.{Admissible, length-encode}
+use Rattle.definition.specs.Preservation.Encode.{Admissible}
 use Rattle.definition.proofs.Preservation.Numbers.{Numbered}
-use Rattle.state.specs.Represents.{Represents, holds-encodable}
+use Rattle.state.specs.Represents.{Represents}
 use Rattle.step_events.specs.Emits.{Emits}
 use Rattle.step_events.specs.EmitsWithin.{RoomFor}
 use Rattle.step_events.specs.Comes.{Comes, ComesWhole, made, goes-made, whole-made}
@@ -34,19 +32,14 @@ use Rattle.call_change.specs.Count.{leaving}
 use Rattle.call_change.specs.Laws.{Left, left-made, left-full, left-words, left-formed, counts}
 use Rattle.call_change.specs.Ran.{Step, Begins, Ran, Counts, telling}
 
--- ---- room for what a step may emit: 384 rows suffice
-potential-few : (st : State) → Admissible st → potential st ≤ 384
+-- ---- room for what a step may emit: 385 rows suffice
+potential-few : (st : State) → Admissible st → potential st ≤ event_limit
 potential-few st g =
     let k = simp and_iff at g.limits in
     omega (arith, leb-true (length st.addresses) 64 k.0.0, leb-true (length st.routes) 256 k.0.1, count_most live st.addresses)
 
 pub fitting : {k : Checks} {w ev : List ℕ} {a : Change} → Passed k w → Begins (base w) ev a → event_room ≤ length ev → RoomFor potential (state_of w) a
 fitting {w = w} p begins room = record { holds = rw begins.words p.holds; room = omega (arith, potential-few (state_of w) p.good, begins.none, ap length begins.buffer, room) }
-
-pub down-left : {k : Checks} (w : List ℕ) {v : List ℕ} (ev : List ℕ) → Passed k w → Represents v (down (state_of w)).state
-    → Left (outcome (goes (down (state_of w))) w) v ev ev (Ok 0)
-unfolding down
-down-left w ev p h = left-made (goes (down (state_of w))) w (down-roomy (state_of w) p.good) h refl refl (put-no-rows ev)
 
 -- ---- a step on a change that had told nothing
 module _ {u v ev ev' : List ℕ} {a b : Change} (begins : Begins u ev a)
@@ -119,14 +112,15 @@ pub row-rule : (q : Row) (now : ℕ) (w : List ℕ) {other : Bool} → other ≡
 row-rule q now w e x v = ap (λ (b : Bool). (has_events x && b) || more_tables w v) (sym e)
 
 -- down, whose change is told by fewer routes
-pub down-answers : (w ev : List ℕ) (room : ℕ) {v w' : List ℕ} → Passed (semantics (Call.down room)).checks w → Represents v (down (state_of w)).state
-    → (length v ≡ base_size → well_formed v ≡ true → w' ≡ leaving (fewer_routes w v) w v) → Answers (step (Call.down room) w) w' ev ev (Ok 0)
-down-answers w ev room {v} p h e =
-    let left = subst (λ (x : Result). Left x v ev ev (Ok 0)) (sym (call-passed (semantics (Call.down room)) w p)) (down-left w ev p h) in
-    let long : length v ≡ base_size = ap length h.words ∙ length-encode (down (state_of w)).state (holds-encodable h) in
+pub down-answers : (w : List ℕ) (room : ℕ) {v w' ev ev' : List ℕ} {r : Answer ℕ Refusal} {F : Type 0} {g : Step F} {f : F} → Passed (semantics (Call.down room)).checks w
+    → Ran g f (base w) v ev ev' r
+    → ((a b : MutBor Change) (d : Answer (Unit {0}) Refusal) → Begins (base w) ev a.now → g.post f (a, tt) (d, (b, tt)) → ComesWhole (state_of w) (goes (down (state_of w))) a.now b.now d)
+    → (well_formed v ≡ true → w' ≡ leaving (fewer_routes w v) w v) → Answers (step (Call.down room) w) w' ev ev' r
+down-answers w room {v} {ev = ev} {ev'} {r} p t comes e =
+    let left = subst (λ (x : Result). Left x v ev ev' r) (sym (call-passed (semantics (Call.down room)) w p)) (ran-left (goes (down (state_of w))) p t tt comes) in
     record {
       refuses = left.refuses;
       says = left.says;
-      words = e long (left-formed (Call.down room) p.well left) ∙ left-words (Call.down room) _ p.well left refl;
+      words = e (left-formed (Call.down room) p.well left) ∙ left-words (Call.down room) _ p.well left refl;
       events = left.events;
     }

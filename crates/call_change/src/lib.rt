@@ -8,15 +8,17 @@ ghost use Rattle.layout.specs.Event as Event;
 ghost use Rattle.definition.specs.Step.{event_room, up_call, down_call, add_v4_call, del_v4_call, expire_call, add_route4_call, del_route4_call};
 ghost use Rattle.definition.specs.State.{State};
 ghost use Rattle.definition.specs.Words.{state_size, base};
-ghost use Rattle.lists.specs.Lists.{first};
-ghost use Rattle.definition.specs.Reference.Addresses.{down, same_address};
+ghost use Rattle.lists.specs.Lists.{any, first};
+ghost use Rattle.definition.specs.Reference.Addresses.{same_address};
 ghost use Rattle.definition_parts.specs.Rule.{row_changes};
 ghost use Rattle.state.specs.Represents.{Represents, represents};
 ghost use Rattle.call_change.specs.Answer.{Answers};
-ghost use Rattle.call_change.specs.Ran.{Takes, Went, Ran, Counts, told_some};
+ghost use Rattle.call_change.specs.Ran.{Takes, Went, Ran, Counts, told_some, told_rows};
+ghost use Rattle.definition_recording.specs.Recording.{of_routes};
 
 use layout::{
-    AddRoute4, AddV4, BASE_WORDS, DelRoute4, DelV4, EVENT_BUFFER, ROUTE_COUNT, TABLE_COUNT,
+    AddRoute4, AddV4, BASE_WORDS, DelRoute4, DelV4, EVENT_BUFFER, EVENT_WORDS, ROUTE_COUNT,
+    TABLE_COUNT, event,
 };
 use life::Nanoseconds;
 use refusal::Refusal;
@@ -84,8 +86,19 @@ fn told_some(told: Result<usize, Refusal>) -> bool
     told.is_ok_and(|n| 0 < n)
 }
 
+// Whether a row told is of a route, or of all that the device has: then the rows of a table may be more or fewer.
+fn told_routes(events: &[u32], told: Result<usize, Refusal>) -> bool
+    ensures { result ≡ any of_routes (told_rows told events.now) }
+{
+    let (rows, _) = events.as_chunks::<EVENT_WORDS>();
+    rows.iter()
+        .take(told.unwrap_or(0))
+        .any(|row| event::NEW_ROUTE4 <= row[event::KIND])
+}
+
 // The same on the words of a state, and what is behind the lists settled where they changed: a step tells a row of whatever it changes
-// but tables. `other` says that the row told isn't the one that was there.
+// but tables. `other` says that the row told isn't the one that was there. The row counts are made anew only where they may be others: a
+// replaced address leaves them, and need not wait for that.
 fn changed<F: FnOnce(&mut Change<'_, '_>) -> Result<(), Refusal>>(
     state: &mut [u32],
     events: &mut [u32],
@@ -99,7 +112,11 @@ fn changed<F: FnOnce(&mut Change<'_, '_>) -> Result<(), Refusal>>(
     let tables = state[TABLE_COUNT];
     let told = stepped(&mut state[..BASE_WORDS], events, step);
     if (told_some(told) & other) | (tables < state[TABLE_COUNT]) {
-        state_count::settle(state);
+        if told_routes(events, told) | (tables < state[TABLE_COUNT]) {
+            state_count::settle(state);
+        } else {
+            state_count::count(state);
+        }
     }
     told
 }
@@ -117,32 +134,29 @@ pub fn up(state: &mut [u32], events: &mut [u32], clock: u64) -> Result<usize, Re
     )
 }
 
-// The device goes down. It emits nothing.
+// The device goes down.
 pub fn down(state: &mut [u32], events: &mut [u32]) -> Result<usize, Refusal>
     ensures { Answers (down_call (length events.old) state.old) state.new events.old events.new result }
 {
     down_lent(state, events.len(), events)
 }
 
-fn down_held(words: &mut [u32])
-    requires { represents words.old ≡ true }
-    ensures { (st : State) → Represents words.old st → Represents words.new (down st).state }
-{
-    let mut state = StoredMut { words };
-    state_retain::down(&mut state);
-}
-
-// The same for a caller that was lent room for so many words of events, and lends on any.
+// The same for a caller that was lent room for so many words of events, and lends on that of a row. Its row tells nothing of what changed:
+// that is told by fewer routes.
 pub fn down_lent(state: &mut [u32], room: usize, events: &mut [u32]) -> Result<usize, Refusal>
+    requires { event_room ≤ room → Event.size ≤ length events.old }
     ensures { Answers (down_call room state.old) state.new events.old events.new result }
 {
     call_read::checked(state, EVENT_BUFFER <= room, Ok(()))?;
     let routes = state[ROUTE_COUNT];
-    down_held(&mut state[..BASE_WORDS]);
+    let told = stepped(&mut state[..BASE_WORDS], events, |change| {
+        step_drop_routes::down(change);
+        Ok(())
+    });
     if state[ROUTE_COUNT] < routes {
         state_count::settle(state);
     }
-    Ok(0)
+    told
 }
 
 // Addresses whose time is up go, and those past their preferred time are marked. Both numbers are nanoseconds; the allowance is by how

@@ -68,6 +68,7 @@ pub fn del_route4(state: &mut [u32], q: &[u32], events: &mut [u32]) -> Reply
 // ---- those that write one row at most, for a caller that was lent room for so many words and lends on that of a row
 // (interface4 hands both over)
 pub fn down_lent(state: &mut [u32], room: usize, events: &mut [u32]) -> Reply
+    requires { event_room ≤ room → Event.size ≤ length events.old }
     ensures { Did (step (Call.down room) state.old)
         events.old result state.new events.new }
 {

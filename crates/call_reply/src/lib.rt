@@ -104,7 +104,7 @@ impl Values for u32 {
     }
 }
 
-// How many rows a call wrote: never more than 384.
+// How many rows a call wrote: never more than 385.
 impl Values for usize {
     ghost numbers = { valuing };
 

@@ -1,3 +1,4 @@
 pub mod Laws
 pub mod Noninterference
 pub mod Preservation
+pub mod Events

@@ -17,6 +17,9 @@ ip a b c d = ((a * 256 + b) * 256 + c) * 256 + d
 abbrev pub up : Call
 up = Call.up event_room 0
 
+abbrev pub down : Call
+down = Call.down event_room
+
 -- an address equal to local, no broadcast, the label lo, the device up: local, prefix, valid, preferred, whether it replaces
 abbrev pub ask_v4 : ℕ → ℕ → ℕ → ℕ → ℕ → Call
 ask_v4 local prefix valid preferred replace =
@@ -34,6 +37,14 @@ del_v4 local = Call.del_v4 (1 ∷ local ∷ zeros 9) event_room
 abbrev pub add_route4 : ℕ → ℕ → ℕ → ℕ → ℕ → Call
 add_route4 dst len tos kind oif =
     Call.add_route4 (254 ∷ dst ∷ len ∷ tos ∷ 0 ∷ kind ∷ 4 ∷ 0 ∷ 0 ∷ 0 ∷ 0 ∷ 0 ∷ oif ∷ 0 ∷ 0x400 ∷ 0 ∷ (zeros 17 ++ (1 ∷ []))) event_room
+
+-- a blackhole of table 254 with a preferred source: what is asked for, and the row
+abbrev pub add_blackhole : ℕ → ℕ → Call
+add_blackhole dst source =
+    Call.add_route4 (254 ∷ dst ∷ 32 ∷ 0 ∷ 0 ∷ 6 ∷ 4 ∷ 0 ∷ 1 ∷ source ∷ 0 ∷ 0 ∷ 0 ∷ 0 ∷ 0x400 ∷ 0 ∷ (zeros 17 ++ (1 ∷ []))) event_room
+
+abbrev pub blackhole : ℕ → ℕ → Row
+blackhole dst source = 254 ∷ dst ∷ 32 ∷ 0 ∷ 0 ∷ 6 ∷ 4 ∷ 0 ∷ 1 ∷ source ∷ 0 ∷ 0 ∷ 0 ∷ 0 ∷ 0 ∷ zeros 17
 
 -- ---- a row of the table
 pub data Example : Type 0 where
@@ -130,20 +141,22 @@ examples =
     (1 ∷ 3 ∷ 2 ∷ []) (254 ∷ 255 ∷ zeros 30)
     -- Add 10.1.0.5/24, then 10.1.0.6/24, each with address equal to local, no broadcast, device up: four events, then two; the
     -- second is secondary, its route's prefsrc 10.1.0.5.
-    -- Delete 10.1.0.5: DelAddr.6, DelRoute .6/32, DelAddr.5, DelRoute 10.1.0.0/24, 10.1.0.255/32, .5/32.
+    -- Delete 10.1.0.5: DelAddr .6, DelRoute .6/32, DelAddr .5, DelRoute 10.1.0.0/24, 10.1.0.255/32, .5/32. (Since document 02, Paper 9,
+    -- event 6 stands behind them: it was the last address. So it does below.)
     ∷ run (add_v4 (ip 10 1 0 5) 24 4294967295 ∷ add_v4 (ip 10 1 0 6) 24 4294967295 ∷ del_v4 (ip 10 1 0 5) ∷ [])
     (five_said 128 0
     ∷ reply 0 0 2 0
     ((1 ∷ 0 ∷ ip 10 1 0 6 ∷ ip 10 1 0 6 ∷ 24 ∷ 0 ∷ 0 ∷ 0 ∷ 129 ∷ 0 ∷ 2 ∷ 28524 ∷ 0 ∷ 0 ∷ 0 ∷ 0 ∷ 0 ∷ 0 ∷ 0 ∷ 0 ∷ 0 ∷ 0 ∷ zeros 12)
     ∷ (3 ∷ 0x600 ∷ 255 ∷ ip 10 1 0 6 ∷ 32 ∷ 0 ∷ 0 ∷ 2 ∷ 2 ∷ 254 ∷ 1 ∷ ip 10 1 0 5 ∷ 0 ∷ 0 ∷ 1 ∷ 0 ∷ 0 ∷ zeros 17)
     ∷ [])
-    ∷ reply 0 0 6 0
+    ∷ reply 0 0 7 0
     ((2 ∷ 0 ∷ ip 10 1 0 6 ∷ ip 10 1 0 6 ∷ 24 ∷ 0 ∷ 0 ∷ 0 ∷ 129 ∷ 0 ∷ 2 ∷ 28524 ∷ 0 ∷ 0 ∷ 0 ∷ 0 ∷ 0 ∷ 0 ∷ 0 ∷ 0 ∷ 0 ∷ 0 ∷ zeros 12)
     ∷ (4 ∷ 0 ∷ 255 ∷ ip 10 1 0 6 ∷ 32 ∷ 0 ∷ 0 ∷ 2 ∷ 2 ∷ 254 ∷ 1 ∷ ip 10 1 0 5 ∷ 0 ∷ 0 ∷ 1 ∷ 0 ∷ 0 ∷ zeros 17)
     ∷ (2 ∷ 0 ∷ ip 10 1 0 5 ∷ ip 10 1 0 5 ∷ 24 ∷ 0 ∷ 0 ∷ 0 ∷ 128 ∷ 0 ∷ 2 ∷ 28524 ∷ 0 ∷ 0 ∷ 0 ∷ 0 ∷ 0 ∷ 0 ∷ 0 ∷ 0 ∷ 0 ∷ 0 ∷ zeros 12)
     ∷ (4 ∷ 0 ∷ 255 ∷ ip 10 1 0 0 ∷ 24 ∷ 0 ∷ 0 ∷ 2 ∷ 2 ∷ 254 ∷ 1 ∷ ip 10 1 0 5 ∷ 0 ∷ 0 ∷ 1 ∷ 0 ∷ 0 ∷ zeros 17)
     ∷ (4 ∷ 0 ∷ 255 ∷ ip 10 1 0 255 ∷ 32 ∷ 0 ∷ 0 ∷ 3 ∷ 2 ∷ 253 ∷ 1 ∷ ip 10 1 0 5 ∷ 0 ∷ 0 ∷ 1 ∷ 0 ∷ 0 ∷ zeros 17)
     ∷ (4 ∷ 0 ∷ 255 ∷ ip 10 1 0 5 ∷ 32 ∷ 0 ∷ 0 ∷ 2 ∷ 2 ∷ 254 ∷ 1 ∷ ip 10 1 0 5 ∷ 0 ∷ 0 ∷ 1 ∷ 0 ∷ 0 ∷ zeros 17)
+    ∷ (6 ∷ zeros 33)
     ∷ [])
     ∷ [])
     (0 ∷ 0 ∷ 2 ∷ []) (254 ∷ 255 ∷ zeros 30)
@@ -152,11 +165,12 @@ examples =
     (254 ∷ 255 ∷ zeros 30)
     ∷ run (add_v4 (ip 10 1 0 5) 24 10 ∷ Call.expire event_room 9980000000 20000000 ∷ [])
     (five_said 0 10
-    ∷ reply 0 0 4 0
+    ∷ reply 0 0 5 0
     ((2 ∷ 0 ∷ ip 10 1 0 5 ∷ ip 10 1 0 5 ∷ 24 ∷ 0 ∷ 0 ∷ 0 ∷ 0 ∷ 0 ∷ 2 ∷ 28524 ∷ 0 ∷ 0 ∷ 0 ∷ 0 ∷ 10 ∷ 10 ∷ 0 ∷ 0 ∷ 0 ∷ 0 ∷ zeros 12)
     ∷ (4 ∷ 0 ∷ 255 ∷ ip 10 1 0 0 ∷ 24 ∷ 0 ∷ 0 ∷ 2 ∷ 2 ∷ 254 ∷ 1 ∷ ip 10 1 0 5 ∷ 0 ∷ 0 ∷ 1 ∷ 0 ∷ 0 ∷ zeros 17)
     ∷ (4 ∷ 0 ∷ 255 ∷ ip 10 1 0 255 ∷ 32 ∷ 0 ∷ 0 ∷ 3 ∷ 2 ∷ 253 ∷ 1 ∷ ip 10 1 0 5 ∷ 0 ∷ 0 ∷ 1 ∷ 0 ∷ 0 ∷ zeros 17)
     ∷ (4 ∷ 0 ∷ 255 ∷ ip 10 1 0 5 ∷ 32 ∷ 0 ∷ 0 ∷ 2 ∷ 2 ∷ 254 ∷ 1 ∷ ip 10 1 0 5 ∷ 0 ∷ 0 ∷ 1 ∷ 0 ∷ 0 ∷ zeros 17)
+    ∷ (6 ∷ zeros 33)
     ∷ [])
     ∷ [])
     (0 ∷ 0 ∷ 2 ∷ []) (254 ∷ 255 ∷ zeros 30)
@@ -199,10 +213,58 @@ lifetimes =
     (1 ∷ 3 ∷ 2 ∷ []) (254 ∷ 255 ∷ zeros 30)
     ∷ []
 
+-- Document 02, Paper 9: event 5 on every `down`, though no row went; event 6 when the last address goes, behind that address's other
+-- events, and not when another one goes; both with zeros after their number. Main rows that fall by their prefsrc have each its DelRoute4
+-- with flags 0, in list order, after the address's other events and before event 6.
+unfoldable pub device_events : List Example
+device_events =
+    run (down ∷ up ∷ add_v4 (ip 127 0 0 9) 8 4294967295 ∷ down ∷ down ∷ del_v4 (ip 127 0 0 9) ∷ del_v4 (ip 127 0 0 1) ∷ [])
+    (reply 0 0 1 0 ((5 ∷ zeros 33) ∷ [])
+    ∷ up_said
+    ∷ reply 0 0 2 0
+    ((1 ∷ 0 ∷ ip 127 0 0 9 ∷ ip 127 0 0 9 ∷ 8 ∷ 0 ∷ 0 ∷ 0 ∷ 129 ∷ 0 ∷ 2 ∷ 28524 ∷ 0 ∷ 0 ∷ 0 ∷ 0 ∷ 0 ∷ 0 ∷ 0 ∷ 0 ∷ 0 ∷ 0 ∷ zeros 12)
+    ∷ (3 ∷ 0x600 ∷ 255 ∷ ip 127 0 0 9 ∷ 32 ∷ 0 ∷ 0 ∷ 2 ∷ 2 ∷ 254 ∷ 1 ∷ ip 127 0 0 1 ∷ 0 ∷ 0 ∷ 1 ∷ 0 ∷ 0 ∷ zeros 17)
+    ∷ [])
+    ∷ reply 0 0 1 0 ((5 ∷ zeros 33) ∷ [])
+    ∷ reply 0 0 1 0 ((5 ∷ zeros 33) ∷ [])
+    ∷ reply 0 0 2 0
+    ((2 ∷ 0 ∷ ip 127 0 0 9 ∷ ip 127 0 0 9 ∷ 8 ∷ 0 ∷ 0 ∷ 0 ∷ 129 ∷ 0 ∷ 2 ∷ 28524 ∷ 0 ∷ 0 ∷ 0 ∷ 0 ∷ 0 ∷ 0 ∷ 0 ∷ 0 ∷ 0 ∷ 0 ∷ zeros 12)
+    ∷ (4 ∷ 0 ∷ 255 ∷ ip 127 0 0 9 ∷ 32 ∷ 0 ∷ 0 ∷ 2 ∷ 2 ∷ 254 ∷ 1 ∷ ip 127 0 0 1 ∷ 0 ∷ 0 ∷ 1 ∷ 0 ∷ 0 ∷ zeros 17)
+    ∷ [])
+    ∷ reply 0 0 4 0
+    ((2 ∷ 0 ∷ ip 127 0 0 1 ∷ ip 127 0 0 1 ∷ 8 ∷ 0 ∷ 0 ∷ 254 ∷ 128 ∷ 0 ∷ 2 ∷ 28524 ∷ 0 ∷ 0 ∷ 0 ∷ 0 ∷ 0 ∷ 0 ∷ 0 ∷ 0 ∷ 0 ∷ 0 ∷ zeros 12)
+    ∷ (4 ∷ 0 ∷ 255 ∷ ip 127 0 0 0 ∷ 8 ∷ 0 ∷ 0 ∷ 2 ∷ 2 ∷ 254 ∷ 1 ∷ ip 127 0 0 1 ∷ 0 ∷ 0 ∷ 1 ∷ 0 ∷ 0 ∷ zeros 17)
+    ∷ (4 ∷ 0 ∷ 255 ∷ ip 127 0 0 1 ∷ 32 ∷ 0 ∷ 0 ∷ 2 ∷ 2 ∷ 254 ∷ 1 ∷ ip 127 0 0 1 ∷ 0 ∷ 0 ∷ 1 ∷ 0 ∷ 0 ∷ zeros 17)
+    ∷ (6 ∷ zeros 33)
+    ∷ [])
+    ∷ [])
+    (0 ∷ 0 ∷ 2 ∷ []) (254 ∷ 255 ∷ zeros 30)
+    ∷ run
+    (add_v4 (ip 10 1 0 5) 24 4294967295
+    ∷ add_blackhole (ip 10 3 0 2) (ip 10 1 0 5)
+    ∷ add_blackhole (ip 10 3 0 1) (ip 10 1 0 5)
+    ∷ del_v4 (ip 10 1 0 5)
+    ∷ [])
+    (five_said 128 0
+    ∷ reply 0 0 1 0 ((3 ∷ 0x600 ∷ blackhole (ip 10 3 0 2) (ip 10 1 0 5)) ∷ [])
+    ∷ reply 0 0 1 0 ((3 ∷ 0x600 ∷ blackhole (ip 10 3 0 1) (ip 10 1 0 5)) ∷ [])
+    ∷ reply 0 0 7 0
+    ((2 ∷ 0 ∷ ip 10 1 0 5 ∷ ip 10 1 0 5 ∷ 24 ∷ 0 ∷ 0 ∷ 0 ∷ 128 ∷ 0 ∷ 2 ∷ 28524 ∷ 0 ∷ 0 ∷ 0 ∷ 0 ∷ 0 ∷ 0 ∷ 0 ∷ 0 ∷ 0 ∷ 0 ∷ zeros 12)
+    ∷ (4 ∷ 0 ∷ 255 ∷ ip 10 1 0 0 ∷ 24 ∷ 0 ∷ 0 ∷ 2 ∷ 2 ∷ 254 ∷ 1 ∷ ip 10 1 0 5 ∷ 0 ∷ 0 ∷ 1 ∷ 0 ∷ 0 ∷ zeros 17)
+    ∷ (4 ∷ 0 ∷ 255 ∷ ip 10 1 0 255 ∷ 32 ∷ 0 ∷ 0 ∷ 3 ∷ 2 ∷ 253 ∷ 1 ∷ ip 10 1 0 5 ∷ 0 ∷ 0 ∷ 1 ∷ 0 ∷ 0 ∷ zeros 17)
+    ∷ (4 ∷ 0 ∷ 255 ∷ ip 10 1 0 5 ∷ 32 ∷ 0 ∷ 0 ∷ 2 ∷ 2 ∷ 254 ∷ 1 ∷ ip 10 1 0 5 ∷ 0 ∷ 0 ∷ 1 ∷ 0 ∷ 0 ∷ zeros 17)
+    ∷ (4 ∷ 0 ∷ blackhole (ip 10 3 0 1) (ip 10 1 0 5))
+    ∷ (4 ∷ 0 ∷ blackhole (ip 10 3 0 2) (ip 10 1 0 5))
+    ∷ (6 ∷ zeros 33)
+    ∷ [])
+    ∷ [])
+    (0 ∷ 0 ∷ 2 ∷ []) (254 ∷ 255 ∷ zeros 30)
+    ∷ []
+
 pub as_document_01_says : map given examples ≡ map said examples
 unfolding examples computing
 as_document_01_says = refl
 
-pub as_document_02_says : map given lifetimes ≡ map said lifetimes
-unfolding lifetimes computing
+pub as_document_02_says : map given (lifetimes ++ device_events) ≡ map said (lifetimes ++ device_events)
+unfolding lifetimes device_events computing
 as_document_02_says = refl

@@ -5,6 +5,7 @@ pub mod Call
 pub mod Step
 pub mod Computing
 pub mod Examples
+pub mod Events
 pub mod Laws
 pub mod Preservation
 pub mod Noninterference

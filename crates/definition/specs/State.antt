@@ -44,13 +44,9 @@ pub record Out : Type 0 where
 abbrev pub becomes : State → List Row → Out
 becomes st rows = record { state = st; emitted = rows; peak = sizes st }
 
--- the state becomes st without a word
-abbrev pub silently : State → Out
-silently st = becomes st []
-
 -- nothing is done: st is the state as it was
 abbrev pub stays : State → Out
-stays st = silently st
+stays st = becomes st []
 
 -- one step and then another on the state that the first left
 unfoldable pub also : Out → (State → Out) → Out

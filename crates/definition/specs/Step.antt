@@ -62,7 +62,7 @@ pub record Semantics : Type 0 where
 -- ---- the refusals, in order
 -- event rows that suffice for every call (Preservation/Step: emitted-bound), and the words of the buffers
 abbrev pub event_limit : ℕ
-event_limit = 384
+event_limit = 385
 
 abbrev pub event_room : ℕ
 event_room = event_limit * Event.size

@@ -1,3 +1,4 @@
 pub mod AsWords
 pub mod Theorem
 pub mod Parts
+pub mod Recording

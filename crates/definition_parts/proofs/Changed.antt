@@ -1,7 +1,7 @@
 -- The rule without a copy says of every call on well-formed words whether the words of the lists are others afterwards; so the change
 -- count goes up by that rule.
 -- Assumes nothing.
-use Rattle.std.specs.Prelude.{ℕ, ◌≡◌, refl, Bool, true, false, not, ◌&&◌, ◌||◌, List, ◌++◌, ltb, length, get_or, drop}
+use Rattle.std.specs.Prelude.{ℕ, ◌≡◌, refl, Bool, true, false, not, ◌&&◌, ◌||◌, List, ◌++◌, ltb, length, get_or}
 use Rattle.std.proofs.Common.{sym, ap, ap₂, subst, ◌∙◌, arith, take-append-drop, get_or-take, le-ltb}
 use Rattle.lists.specs.Lists.{eq_row, first}
 use Rattle.lists.specs.Bools.{cond-case, not_so}
@@ -33,7 +33,7 @@ module _ (w : List ℕ) (h : Held w) where
   unfolding encode
   routes-counted = sym (get_or-take base_size w 1 0 (omega arith)) ∙ ap (λ (v : List ℕ). get_or v 1 0) (sym base-encode)
 
-  tables-counted : table_count w ≡ length (state_of w).tables
+  pub tables-counted : table_count w ≡ length (state_of w).tables
   unfolding encode
   tables-counted = sym (get_or-take base_size w 2 0 (omega arith)) ∙ ap (λ (v : List ℕ). get_or v 2 0) (sym base-encode)
 

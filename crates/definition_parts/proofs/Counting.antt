@@ -1,7 +1,7 @@
 -- For the code: the words that a call leaves, by the words of the lists that its step left and by the rule; and the change count's words,
 -- of which what stands before them says nothing.
 -- Assumes nothing.
-use Rattle.std.specs.Prelude.{ℕ, ◌+◌, ◌*◌, ◌<◌, ◌≤◌, ◌≡◌, Bool, true, false, ◌&&◌, List, ◌++◌, cond, suc, ltb, length, get_or, take, drop}
+use Rattle.std.specs.Prelude.{ℕ, ◌+◌, ◌*◌, ◌<◌, ◌≤◌, ◌≡◌, Bool, false, ◌&&◌, List, ◌++◌, cond, suc, ltb, length, get_or, take, drop}
 use Rattle.std.proofs.Common.{sym, ap, ap₂, ◌∙◌, arith, drop_at, get_or-drop, take-append-drop}
 use Rattle.std.proofs.lemmas.Bool.{not-false}
 use Rattle.lists.specs.Lists.{eq_row, span}

@@ -71,13 +71,13 @@ countings =
       lists = 1 ∷ 3 ∷ 2 ∷ [];
       count = 2 ∷ 0 ∷ [];
     }
-    -- `down` takes routes the first time only; an address that isn't there is 99
+    -- `down` tells an event each time and takes routes the first time only; an address that isn't there is 99
     ∷ record {
       low = 0;
       high = 0;
       calls = up ∷ Call.down event_room ∷ Call.down event_room ∷ del_v4 (ip 10 1 0 9) ∷ [];
       numbers = 0 ∷ 0 ∷ 0 ∷ 99 ∷ [];
-      values = 4 ∷ 0 ∷ 0 ∷ 0 ∷ [];
+      values = 4 ∷ 1 ∷ 1 ∷ 0 ∷ [];
       lists = 1 ∷ 2 ∷ 2 ∷ [];
       count = 2 ∷ 0 ∷ [];
     }
@@ -87,7 +87,7 @@ countings =
       high = 0;
       calls = ask_v4 (ip 10 1 0 5) 24 9 8 0 ∷ Call.expire event_room 0 20000000 ∷ Call.expire event_room 8000000000 20000000 ∷ Call.expire event_room 9000000000 20000000 ∷ [];
       numbers = 0 ∷ 0 ∷ 0 ∷ 0 ∷ [];
-      values = 4 ∷ 0 ∷ 1 ∷ 4 ∷ [];
+      values = 4 ∷ 0 ∷ 1 ∷ 5 ∷ [];
       lists = 0 ∷ 0 ∷ 2 ∷ [];
       count = 3 ∷ 0 ∷ [];
     }

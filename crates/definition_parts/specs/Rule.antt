@@ -23,8 +23,8 @@ abbrev pub row_changes : Row → ℕ → Option Row → Bool
 row_changes q now none = true
 row_changes q now (some old) = not (eq_row (changed_to q old now) old)
 
--- what it is told by, for each call: a call that reads changes nothing; `down` tells no event of the routes that it takes; an add_v4 that
--- replaces an address by an equal one tells an event and changes nothing
+-- what it is told by, for each call: a call that reads changes nothing; `down` tells its event whether or not it takes a route; an add_v4
+-- that replaces an address by an equal one tells an event and changes nothing
 pub data Rule : Type 0 where
   never : Rule
   by_routes : Rule

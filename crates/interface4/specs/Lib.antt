@@ -6,3 +6,4 @@ pub mod Reading
 pub mod Message
 pub mod Mask
 pub mod Parts
+pub mod Recording

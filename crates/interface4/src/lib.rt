@@ -13,6 +13,7 @@ mod messages;
 mod on_words;
 mod parts;
 mod reading;
+mod recordings;
 
 const STATE_BYTES: usize = 4 * STATE_WORDS;
 

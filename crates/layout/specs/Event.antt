@@ -1,4 +1,5 @@
--- An event row: 34 words, what it is, the flags of a new route or 0, the address or route row, zeros (document 01).
+-- An event row: 34 words, what it is, the flags of a new route or 0, the address or route row, zeros (document 01; document 02, Paper 9,
+-- for the events of all the device's rows).
 use Rattle.std.specs.Prelude.{ℕ, ◌∷◌, ◌++◌}
 use Rattle.lists.specs.Lists.{Row, zeros}
 
@@ -17,3 +18,15 @@ new_route4 r flags = 3 ∷ flags ∷ r
 
 unfoldable pub del_route4 : Row → Row
 del_route4 r = 4 ∷ 0 ∷ r
+
+-- an event that is its number and zeros: of rows that go without an event of each
+unfoldable pub bare : ℕ → Row
+bare kind = kind ∷ zeros 33
+
+-- the device is down: its rows with a scope other than 254 are gone [down; fib_sync_down_dev]
+abbrev pub link_down : Row
+link_down = bare 5
+
+-- the last address went: all rows of the device are gone [the end of remove_v4; fib_disable_ip]
+abbrev pub ip_disabled : Row
+ip_disabled = bare 6

@@ -18,3 +18,7 @@ pub const DEL_ADDR4: u32 = 2;
 pub const NEW_ROUTE4: u32 = 3;
 
 pub const DEL_ROUTE4: u32 = 4;
+
+pub const LINK_DOWN: u32 = 5;
+
+pub const IP_DISABLED: u32 = 6;

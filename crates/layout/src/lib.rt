@@ -77,7 +77,7 @@ pub const ROW_COUNTS_AT: usize = COUNT_HIGH + 1;
 pub const STATE_WORDS: usize = ROW_COUNTS_AT + TABLE_LIMIT;
 
 // The buffers: the event rows that a call may need at most, and a listing of all routes.
-pub const EVENT_ROWS: usize = 384;
+pub const EVENT_ROWS: usize = 385;
 
 pub const EVENT_BUFFER: usize = EVENT_ROWS * EVENT_WORDS;
 

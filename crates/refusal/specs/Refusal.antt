@@ -2,7 +2,7 @@
 use Rattle.std.specs.Prelude.{ℕ, ◌≡◌, ◌≢◌, refl, Bool, true, false, cond, Result, Ok, Err, MatchResult}
 use Rattle.std.specs.Result.{IsErrAnd}
 use Rattle.refusal.specs.declared.Refusal.{Refusal}
-use Rattle.refusal.specs.declared.Refusal.TheVariants.{WrongLength, Malformed, Unfit, Full, BadLength, OtherType, WrongSize, BadMask, Errno}
+use Rattle.refusal.specs.declared.Refusal.TheVariants.{WrongLength, Malformed, Unfit, Full, BadLength, OtherType, WrongSize, BadMask, UnknownEvent, UnfitEvent, TooMany, NotRising, Errno}
 
 abbrev pub number_of : Refusal → ℕ
 number_of WrongLength = 200
@@ -13,6 +13,10 @@ number_of BadLength = 204
 number_of OtherType = 205
 number_of WrongSize = 206
 number_of BadMask = 207
+number_of UnknownEvent = 208
+number_of UnfitEvent = 209
+number_of TooMany = 210
+number_of NotRising = 211
 number_of (Errno n) = n
 
 -- an answer is a refusal exactly where the number isn't 0, and then by that number

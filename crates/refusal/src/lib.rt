@@ -26,11 +26,19 @@ pub enum Refusal {
     WrongSize,
     // A netmask that is the mask of no prefix.
     BadMask,
+    // An event of a kind that there isn't.
+    UnknownEvent,
+    // An event that can't be, or not on the rows before it.
+    UnfitEvent,
+    // More destinations than one call looks up.
+    TooMany,
+    // A destination below the one before it.
+    NotRising,
     Errno(u32),
 }
 
 impl Refusal {
-    // Numbers, since a host knows a refusal by its own; 200 to 207 are given here alone.
+    // Numbers, since a host knows a refusal by its own; 200 to 211 are given here alone.
     pub fn number(self) -> u32
         ensures { result ≡ number_of self }
     {
@@ -43,6 +51,10 @@ impl Refusal {
             Refusal::OtherType => 205,
             Refusal::WrongSize => 206,
             Refusal::BadMask => 207,
+            Refusal::UnknownEvent => 208,
+            Refusal::UnfitEvent => 209,
+            Refusal::TooMany => 210,
+            Refusal::NotRising => 211,
             Refusal::Errno(n) => n,
         }
     }

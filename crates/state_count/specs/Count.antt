@@ -34,7 +34,7 @@ module _ (w : List ℕ) (long : length w ≡ state_size) where
 
 -- ---- the words behind the lists, both counts
 module _ (w u : List ℕ) (long : length w ≡ state_size) (raised : u ≡ put base_size (counted true w) w) where
-  parts : u ≡ base w ++ (counted true w ++ drop row_counts_at w)
+  pub parts : u ≡ base w ++ (counted true w ++ drop row_counts_at w)
   unfolding put
   parts = raised ∙ ap (λ (n : ℕ). base w ++ (counted true w ++ drop (base_size + n) w)) (length-counted true w long)
 

@@ -1,5 +1,5 @@
 // What stands behind a state's lists: the change count, in two words (document 02, Paper 6), and the row counts, made anew where a call
-// changed something (Paper 8).
+// changed a route or listed a table (Paper 8).
 #![tactic(auto)]
 
 ghost use Rattle.std.specs.Prelude.{◌≡◌, ◌+◌, ◌*◌, ◌++◌, true, length};
@@ -26,8 +26,8 @@ pub fn read(state: &[u32]) -> u64
     of_words(state[COUNT_LOW], state[COUNT_HIGH])
 }
 
-// One change more.
-fn count(state: &mut [u32])
+// One change more, which leaves the row counts true.
+pub fn count(state: &mut [u32])
     requires { length state.old ≡ state_size }
     ensures { state.new ≡ put base_size (counted true state.old) state.old }
 {

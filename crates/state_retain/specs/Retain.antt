@@ -1,7 +1,7 @@
 -- Rows retained in place, one after the other.
 -- Assumes nothing.
 use Rattle.std.specs.Prelude.{ℕ, ◌+◌, ◌-◌, ◌*◌, ◌≤◌, ◌<◌, ◌≡◌, refl, Bool, true, false, cond, not, ◌&&◌, List, [], ◌∷◌, ◌++◌, eqb, length, get_or, take, drop, set}
-use Rattle.std.proofs.Common.{sym, ap, ◌∙◌, subst, arith, append-nil, length-append, drop-drop, take_all, eq-eqb, ne_eqb}
+use Rattle.std.proofs.Common.{sym, ap, ◌∙◌, subst, arith, append-nil, length-append, drop-drop, take_all}
 use Rattle.std.proofs.Math.Bool.{and-true}
 use Rattle.std.proofs.lemmas.List.{take_more}
 use Rattle.std.specs.Fn.{Shared, FnReturnsAt}
@@ -20,7 +20,7 @@ use Rattle.layout.specs.Route.{fit_route, device, scope}
 use Rattle.definition.specs.State.{State, with_routes}
 use Rattle.definition.specs.Words.{route_count, base_size, routes_at}
 use Rattle.definition.specs.Reference.Addresses.{down}
-use Rattle.definition.specs.Reference.Removal.{disable}
+use Rattle.definition.specs.Reference.Removal.{deviceless}
 use Rattle.definition.specs.Preservation.Fit.{sized-routes}
 use Rattle.state.specs.Represents.{Represents, count-routes, holds-long}
 use Rattle.state.specs.Stored.{decode-held}
@@ -143,18 +143,11 @@ pub is_down : (st : State) → with_routes (keep (remains true) st.routes) st �
 unfolding down remains
 is_down st = refl
 
-pub is-disable : (st : State) → length st.addresses ≡ 0 → with_routes (keep (remains false) st.routes) st ≡ (disable st).state
-unfolding disable
-is-disable st e =
-    rw (eq-eqb (length st.addresses) 0 e)
-    (ap (λ (l : List Row). with_routes l st) (keep_same (remains false) (λ r. not (eqb (device r) 1)) st.routes same))
+pub is_deviceless : (st : State) → with_routes (keep (remains false) st.routes) st ≡ deviceless st
+is_deviceless st = ap (λ (l : List Row). with_routes l st) (keep_same (remains false) (λ r. not (eqb (device r) 1)) st.routes same)
   where
     same : (r : Row) → remains false r ≡ not (eqb (device r) 1)
     same r = unfold remains in ap not (and-true (eqb (device r) 1))
-
-pub no-disable : (st : State) → (length st.addresses ≡ 0 → ⊥) → st ≡ (disable st).state
-unfolding disable
-no-disable st e = rw (ne_eqb (length st.addresses) 0 e)
 
 -- ---- a row where it stands
 -- row i, cut from the words as rows

@@ -5,7 +5,7 @@ ghost use Rattle.std.specs.Prelude.{◌≡◌, Bool, ◌+◌, ◌-◌, ◌*◌, 
 ghost use Rattle.lists.specs.Lists.{Row, put, span, keep, zeros};
 ghost use Rattle.definition.specs.State.{with_routes};
 ghost use Rattle.definition.specs.Reference.Addresses.{down};
-ghost use Rattle.definition.specs.Reference.Removal.{disable};
+ghost use Rattle.definition.specs.Reference.Removal.{deviceless};
 ghost use Rattle.state.specs.Stored.{Becomes};
 ghost use Rattle.state_retain.specs.Retain.{Decides, remains};
 ghost use Rattle.definition.specs.Words.{routes_at};
@@ -76,11 +76,9 @@ pub fn down(s: &mut StoredMut<'_>)
     retain(s, |r| remains(r, true));
 }
 
-// With the last address the device's routes go.
-pub fn disable(s: &mut StoredMut<'_>)
-    ensures { Becomes (λ st. (disable st).state) s.old s.new }
+// All of the device's routes go.
+pub fn deviceless(s: &mut StoredMut<'_>)
+    ensures { Becomes deviceless s.old s.new }
 {
-    if s.stored().address_count() == 0 {
-        retain(s, |r| remains(r, false));
-    }
+    retain(s, |r| remains(r, false));
 }

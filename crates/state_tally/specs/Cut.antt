@@ -1,7 +1,7 @@
 -- The rows and the tables in use, cut from a state's words.
 -- Assumes nothing.
 use Rattle.std.specs.Prelude.{ℕ, ◌+◌, ◌-◌, ◌*◌, ◌/◌, ◌≤◌, ◌<◌, ◌≡◌, true, List, length, get_or, take, drop}
-use Rattle.std.proofs.Common.{sym, ap, ◌∙◌, arith, length-drop, length-take-le, leb-true}
+use Rattle.std.proofs.Common.{ap, ◌∙◌, arith, length-drop, length-take-le, leb-true}
 use Rattle.std.proofs.Math.Nat.{mul-div_cancel_left, min-eq_left, min-le_right}
 use Rattle.std.specs.Prelude.{min}
 use Rattle.std.specs.Simd.{first_chunks}

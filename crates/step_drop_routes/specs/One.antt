@@ -1,22 +1,22 @@
 -- What goes with an address, step by step: those of its routes that none wants, what falls with it, the device's routes.
 -- Assumes nothing.
-use Rattle.std.specs.Prelude.{ℕ, suc, ◌+◌, ◌≤◌, ◌<◌, ◌≡◌, refl, Bool, cond, not, ◌&&◌, List, [], ◌∷◌, ◌++◌, eqb, length, get_or, drop}
-use Rattle.std.proofs.Common.{ap, ◌∙◌, append-nil, arith, add-one, drop_of_length-le, drop-cons}
+use Rattle.std.specs.Prelude.{ℕ, suc, ◌+◌, ◌≤◌, ◌<◌, ◌≡◌, refl, Bool, cond, not, ◌&&◌, List, [], ◌∷◌, eqb, length, get_or, drop}
+use Rattle.std.proofs.Common.{ap, ◌∙◌, add-one, drop_of_length-le, drop-cons}
 use Rattle.lists.specs.Lists.{Row, any, keep}
-use Rattle.lists.specs.Bools.{test-case, cond-case}
+use Rattle.lists.specs.Bools.{test-case}
 use Rattle.lists.specs.Count.{count}
 use Rattle.layout.specs.Address.{local}
 use Rattle.layout.specs.Route as Route
 use Rattle.definition.specs.State.{State, Out, stays, also, through}
 use Rattle.definition.specs.Reference.Lookup.{main_table, local_kind, listed, local4}
 use Rattle.definition.specs.Reference.Insert.{kernel_del4}
-use Rattle.definition.specs.Reference.Removal.{wanted, of_kind, dependent_on, fall, disable}
-use Rattle.definition.specs.Preservation.Shrinking.{potential, live, kernel_del4_away, disable_away}
-use Rattle.state.specs.Represents.{Represents}
-use Rattle.step_events.specs.Tells.{Tells}
-use Rattle.step_events.specs.EmitsWithin.{EmitsWithin}
+use Rattle.definition.specs.Reference.Removal.{wanted, of_kind, dependent_on, fall}
+use Rattle.definition.specs.Preservation.Shrinking.{live, kernel_del4_away}
 use Rattle.step_events.specs.Iterations.{Like, like_refl, like_sym, like_trans, stays-also, also_like}
-use Rattle.step_events.specs.declared.change.Change.{Change}
+
+-- the rows that may still be told while an address goes: as many as the potential says, and one whether or not it was the last
+abbrev pub closing : State → ℕ
+closing st = suc (length st.routes + (length st.addresses + count live st.addresses))
 
 -- ---- routes that none wants
 -- a route goes unless an address wants it
@@ -70,23 +70,3 @@ fall_from ip lost st =
 pub fall-from : (a : Row) (left l : List Row) (st : State) → fall a (keep (λ r. not (wanted left r)) l) st ≡ fall_from (local a) (any (loses left) l) st
 unfolding fall fall_from
 fall-from a left l st = rw (loses-any left l)
-
--- a step that says nothing, behind another
-pub step-quiet : {st : State} {o : Out} {a b : Change} (f : State → Out) {c : Change} → EmitsWithin potential st o a b
-    → Represents c.state.words.now (f o.state).state → Tells o.emitted a c → (f o.state).emitted ≡ [] → potential (f o.state).state ≤ potential o.state → EmitsWithin potential st (also o f) a c
-unfolding also
-step-quiet {o = o} f t h k e l =
-    let emitted : o.emitted ++ (f o.state).emitted ≡ o.emitted = ap (λ (x : List Row). o.emitted ++ x) e ∙ append-nil o.emitted in
-    record {
-      emits = record { holds = h; wide = rw emitted t.emits.wide; tells = rw emitted k };
-      less = rw emitted (omega (arith, t.less));
-      room = t.room;
-    }
-
-pub disable-quiet : (st : State) → ((disable st).emitted ≡ []) × (potential (disable st).state ≤ potential st)
-unfolding disable
-disable-quiet st =
-    let away = disable_away st in (
-      cond-case (λ (o : Out). o.emitted ≡ []) (eqb (length st.addresses) 0) (λ e. refl) (λ e. refl),
-      omega (arith, away.shrunk, ap length away.same_addresses, ap (count live) away.same_addresses),
-    )

@@ -1,12 +1,12 @@
 -- What a step comes to: its answer by the definition's outcome, and what it leaves unless a list passed its limit.
 -- Assumes nothing.
-use Rattle.std.specs.Prelude.{ℕ, max, ◌≡◌, refl, Bool, true, false, cond, ◌&&◌, leb, List, [], length, Result, Ok, Err}
+use Rattle.std.specs.Prelude.{ℕ, max, ◌≡◌, refl, Bool, true, false, cond, ◌&&◌, leb, [], Result, Ok, Err}
 use Rattle.std.proofs.Common.{sym, ◌∙◌, arith, leb-true, leb-false, le-leb}
 use Rattle.std.proofs.lemmas.Bool.{lt-leb}
 use Rattle.refusal.specs.declared.Refusal.{Refusal}
 use Rattle.refusal.specs.declared.Refusal.TheVariants.{Full, Errno}
-use Rattle.lists.specs.Bools.{test-case, true-false, and_iff, cond-true, cond-false}
-use Rattle.definition.specs.State.{State, Sizes, Out, sizes, most, stays, also}
+use Rattle.lists.specs.Bools.{test-case, true-false, cond-true, cond-false}
+use Rattle.definition.specs.State.{State, Sizes, Out, most, stays, also}
 use Rattle.definition.specs.Words.{within}
 use Rattle.definition.specs.Reference.Addresses.{Outcome, goes, refused, out_of}
 use Rattle.definition.specs.Step.{roomy}

@@ -4,7 +4,7 @@
 
 ghost use Rattle.std.specs.Prelude.{◌≡◌, ◌∷◌, [], ◌++◌, ◌+◌, ◌-◌, ◌*◌, ◌≤◌, length};
 ghost use Rattle.lists.specs.Lists.{zeros};
-ghost use Rattle.layout.specs.Event.{new_addr4, del_addr4, new_route4, del_route4};
+ghost use Rattle.layout.specs.Event.{new_addr4, del_addr4, new_route4, del_route4, link_down, ip_disabled};
 ghost use Rattle.step_events.specs.Tells.{Tells};
 
 mod change;
@@ -34,8 +34,8 @@ impl Change<'_, '_> {
         self.told += 1;
     }
 
-    // Four, and each asks for room: only a caller knows how many rows it still tells, so that is no fact of the struct. One method for an
-    // enum of four would have the caller build what the method takes apart.
+    // One for each event, and each asks for room: only a caller knows how many rows it still tells, so that is no fact of the struct. One
+    // method for an enum of them would have the caller build what the method takes apart.
     pub fn new_addr4(&mut self, a: &AddressRow)
         requires { 34 * (self.old.told + 1) ≤ length self.old.events.now }
         ensures tells { Tells (new_addr4 a.now ∷ []) self.old self.new }
@@ -66,5 +66,24 @@ impl Change<'_, '_> {
         ensures state { self.new.state.words.now ≡ self.old.state.words.now }
     {
         self.tell(&event_row(event::DEL_ROUTE4, 0, r));
+    }
+
+    // The device's rows go but for those of host scope; and with the last address all of them. One event for all, without a row.
+    #[tactic(auto, using(crate::specs::Row::bare_row))]
+    pub fn link_down(&mut self)
+        requires { 34 * (self.old.told + 1) ≤ length self.old.events.now }
+        ensures tells { Tells (link_down ∷ []) self.old self.new }
+        ensures state { self.new.state.words.now ≡ self.old.state.words.now }
+    {
+        self.tell(&event_row(event::LINK_DOWN, 0, &[]));
+    }
+
+    #[tactic(auto, using(crate::specs::Row::bare_row))]
+    pub fn ip_disabled(&mut self)
+        requires { 34 * (self.old.told + 1) ≤ length self.old.events.now }
+        ensures tells { Tells (ip_disabled ∷ []) self.old self.new }
+        ensures state { self.new.state.words.now ≡ self.old.state.words.now }
+    {
+        self.tell(&event_row(event::IP_DISABLED, 0, &[]));
     }
 }

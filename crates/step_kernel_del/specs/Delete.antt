@@ -1,6 +1,6 @@
 -- A route deleted: the first that is matches.
 -- Assumes nothing.
-use Rattle.std.specs.Prelude.{ℕ, suc, ◌+◌, ◌*◌, ◌≤◌, ◌<◌, ◌≡◌, List, [], ◌∷◌, ◌++◌, length, get_or, take, drop, position, Some, None}
+use Rattle.std.specs.Prelude.{ℕ, suc, ◌+◌, ◌*◌, ◌≤◌, ◌<◌, ◌≡◌, [], ◌∷◌, ◌++◌, length, get_or, take, drop, position, Some, None}
 use Rattle.std.proofs.Common.{arith, sym, ap, ◌∙◌}
 use Rattle.std.proofs.Math.Option.{none, some}
 use Rattle.std.proofs.Math.ListN.{get_elem?}
@@ -45,7 +45,7 @@ module _ (p : Row) (st : State) {a : Change} (h : Represents a.state.words.now s
 pub deletes : {st : State} {a b : Change} (p : Row) → RoomFor potential st a → Emits (kernel_del4 p st) a b → EmitsWithin potential st (kernel_del4 p st) a b
 deletes {st} p f d =
     let away = kernel_del4_away p st in
-    does-step potential d f (omega (arith, away.shrunk, ap (λ (l : List Row). length l + count live l) away.same_addresses))
+    does-step potential d f (omega (arith, away.shrunk, ap length away.same_addresses, ap (count live) away.same_addresses))
 
 pub ready_row : {a : Change} → SomeRoom potential a → 0 < route_count a.state.words.now → 34 * (a.told + 1) ≤ length a.events.now
 ready_row y b = omega (arith, y.fits.room, count-routes y.fits.holds)

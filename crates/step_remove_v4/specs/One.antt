@@ -23,14 +23,15 @@ use Rattle.definition.specs.Reference.Lookup.{local_kind, broadcast_kind}
 use Rattle.definition.specs.Reference.Addresses.{kernel_route, local_route, up_routes, prefix_route, primary_of, only, names_broadcast, own_network}
 use Rattle.definition.specs.Reference.Removal.{any_priority, of_kind, wanted, leaving, unwanted, fall, disable, remove_one, remove_v4}
 use Rattle.definition.specs.Preservation.Fit.{length-address}
-use Rattle.definition.specs.Preservation.Shrinking.{potential, live}
+use Rattle.definition.specs.Preservation.Shrinking.{potential, live, removes_drops, remove_one_removes}
 use Rattle.state.specs.Represents.{Represents, count-addresses}
 use Rattle.step_events.specs.Tells.{Tells}
-use Rattle.step_events.specs.EmitsWithin.{RoomFor, SomeRoom, EmitsWithin, rest-fits, step_same, step-one, step-also, step-none}
+use Rattle.step_events.specs.Emits.{Emits, does-same, does-also}
+use Rattle.step_events.specs.EmitsWithin.{RoomFor, SomeRoom, EmitsWithin, rest-fits, step_same, step-one, step-also, step-none, does-step}
 use Rattle.step_events.specs.Iterations.{Like, like_refl, like_sym, like_trans, like_eq, also_like, also_assoc, Going, going_start, going-iteration, going_end}
 use Rattle.step_events.specs.declared.change.Change.{Change}
 use Rattle.step_drop_prefsrc.specs.Delete.{step_eq}
-use Rattle.step_drop_routes.specs.One.{unless_wanted, unwanted-turns, loses, fall_from, fall-from}
+use Rattle.step_drop_routes.specs.One.{closing, unless_wanted, unwanted-turns, loses, fall_from, fall-from}
 use Rattle.step_drop_routes.specs.Iterations.{routes_go}
 use Rattle.step_remove_v4.specs.Gone.{goes_with, gone_turn, secondaries, remove_parts, primary_there, pass, Passed, pass-start, gone-iteration, pass-end}
 
@@ -44,7 +45,8 @@ pub record Present (r : Row) (a : Change) : Type 0 where
 abbrev pub gone_from : Row → State → Out
 gone_from a st = becomes (with_addresses (remove_first (eq_row a) st.addresses) st) (del_addr4 a ∷ [])
 
-pub gone-lighter : (a : Row) (st : State) → any (eq_row a) st.addresses ≡ true → 1 + potential (with_addresses (remove_first (eq_row a) st.addresses) st) ≤ potential st
+-- and there is room for what goes with the last address
+pub gone-lighter : (a : Row) (st : State) → any (eq_row a) st.addresses ≡ true → 1 + closing (gone_from a st).state ≤ potential st
 gone-lighter a st h = omega (arith, length-remove_first (eq_row a) st.addresses h, count-remove_first live (eq_row a) st.addresses)
 
 -- ---- the whole
@@ -123,7 +125,7 @@ gone-step {st} r i f t g e h w =
     remove_at_lem (eq_row r) st.addresses ∙ ap (λ (n : ℕ). take n st.addresses ++ drop (suc n) st.addresses) (sym (found-place (eq_row r) st.addresses i e).0)
     in
     step-one potential (with_addresses (remove_first (eq_row r) st.addresses) st) (del_addr4 r) f (rw same h)
-    (omega (arith, length-append r (zeros 12), length-zeros 12, length-address r g)) (gone-lighter r st t) w
+    (omega (arith, length-append r (zeros 12), length-zeros 12, length-address r g)) (omega (arith, gone-lighter r st t)) w
 
 -- where an address is there is room for its event, and a place among the rows
 pub present-room : {r : Row} {a : Change} → Present r a → 34 * (a.told + 1) ≤ length a.events.now
@@ -136,12 +138,17 @@ pub present_ready : {r : Row} {a : Change} → Present r a → SomeRoom potentia
 present_ready p = record { state = p.state; fits = p.fits }
 
 -- with what goes with it
-pub one-step : {st : State} {a b c : Change} (r : Row) → EmitsWithin potential st (gone_from r st) a b
-    → EmitsWithin potential (gone_from r st).state (routes_go (local r) (leaving st.addresses r) (gone_from r st).state) b c
+pub closing_room : {st : State} {a b : Change} (r : Row) → any (eq_row r) st.addresses ≡ true → EmitsWithin potential st (gone_from r st) a b → RoomFor closing (gone_from r st).state b
+closing_room {st} r h t =
+    record { holds = t.emits.holds; room = omega (arith, gone-lighter r st h, t.room, t.emits.tells.told, t.emits.tells.long) }
+
+pub one-step : {st : State} {a b c : Change} (r : Row) → RoomFor potential st a → any (eq_row r) st.addresses ≡ true → EmitsWithin potential st (gone_from r st) a b
+    → Emits (routes_go (local r) (leaving st.addresses r) (gone_from r st).state) b c
     → EmitsWithin potential st (remove_one r st) a c
-one-step {st} r t u =
+one-step {st} r f h t u =
     let e = like_sym (one-parts r st) in
-    step_same potential e.leaves e.same_emitted (step-also potential t (routes_go (local r) (leaving st.addresses r)) u)
+    does-step potential (does-same e.leaves e.same_emitted (does-also t.emits (routes_go (local r) (leaving st.addresses r)) u)) f
+    (removes_drops r st (remove_one r st) h (remove_one_removes r st)).lighter
 
 -- ---- a primary and its secondaries
 module _ {st : State} {a : Change} (p : Row) (i : ℕ) (b : i < address_count a.state.words.now) (f : RoomFor potential st a) where

@@ -7,6 +7,8 @@ mod measure;
 mod messages;
 mod parts;
 mod reader;
+mod recorder;
+mod recordings;
 mod same_job;
 mod states;
 mod writer;
@@ -26,7 +28,8 @@ const USAGE: &str = "usage: bench [--addresses] [--rounds N] [--only TEXT]
   --rounds N     501 if it isn't said
   --only TEXT    only calls whose name has TEXT in it; check: the check of a
                  state alone; read: messages; mask: netmasks; write: events;
-                 part: listings taken in parts";
+                 part: listings taken in parts; rebuild: recordings of
+                 events";
 /// Cases on which the Rust on lent words is first compared with the model.
 const COMPARED: usize = 3_000;
 
@@ -68,9 +71,9 @@ fn main() -> ExitCode {
     if addresses {
         return swap(&usual, &special, rounds);
     }
-    let others = ["check", "read", "mask", "write", "part"];
+    let others = ["check", "read", "mask", "write", "part", "rebuild"];
     let others = others.map(|name| name.contains(only.as_str()));
-    let [check, read, mask, write, part] = others;
+    let [check, read, mask, write, part, rebuild] = others;
     if usual.is_empty() && special.is_empty() && !others.contains(&true) {
         eprintln!("no call has {only} in its name\n{USAGE}");
         return ExitCode::FAILURE;
@@ -113,6 +116,9 @@ fn main() -> ExitCode {
     }
     if part {
         parts::table(rounds);
+    }
+    if rebuild {
+        recordings::table(rounds);
     }
     ExitCode::SUCCESS
 }

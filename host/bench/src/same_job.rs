@@ -1,9 +1,10 @@
 //! The Rust doing the port's job: lent words in, lent words out. They are
 //! checked, the lists are decoded, the unchanged Rust answers, and what a
 //! changing call left and told is written back; if that changed a word of the
-//! lists, the change count goes up and the row counts are made anew. Rows are
-//! compared only where they are alike. 203 is read off the lengths after the
-//! call, which is one case short of exact: a changed priority at 256 routes.
+//! lists, the change count goes up and the row counts are made anew; events 5
+//! and 6 are told. Rows are compared only where they are alike. 203 is read off
+//! the lengths after the call, which is one case short of exact: a changed
+//! priority at 256 routes.
 //!
 //! Two ways: as one writes it, and tuned: unused words or-ed together in
 //! place of a search for one that isn't 0 (which no compiler vectorises), no
@@ -12,9 +13,10 @@
 //! those with its low byte.
 use oracle::call::{Buffer, Call, Reply};
 use oracle::fit;
+use oracle::recording::{IP_DISABLED, LINK_DOWN, mark};
 use oracle::words::{
-    ADDRESSES_AT, BASE_WORDS, LIMITS, ROUTES_AT, ROW_COUNTS_AT, STATE_WORDS, TABLE_LIMIT,
-    TABLES_AT, change_count, set_change_count,
+    ADDRESSES_AT, BASE_WORDS, EVENT_WORDS, LIMITS, ROUTES_AT, ROW_COUNTS_AT, STATE_WORDS,
+    TABLE_LIMIT, TABLES_AT, change_count, set_change_count,
 };
 use reference::{Arguments, Native};
 
@@ -60,6 +62,13 @@ pub fn call<const TUNED: bool>(call: &Call, state: &mut [u32], buffer: &mut [u32
         },
     );
     let told = native.call(&arguments);
+    let marked = match call {
+        Call::Down => Some(LINK_DOWN),
+        Call::DelV4 { .. } | Call::Expire { .. } if a > 0 && native.lengths()[0] == 0 => {
+            Some(IP_DISABLED)
+        }
+        _ => None,
+    };
     if call.buffer() == Buffer::Events {
         if native
             .lengths()
@@ -77,7 +86,11 @@ pub fn call<const TUNED: bool>(call: &Call, state: &mut [u32], buffer: &mut [u32
             state[ROW_COUNTS_AT..].copy_from_slice(&counts);
         }
     }
-    let [number, present, value, second] = told.write(buffer);
+    let [number, present, mut value, second] = told.write(buffer);
+    if let Some(kind) = marked {
+        buffer[value as usize * EVENT_WORDS..][..EVENT_WORDS].copy_from_slice(&mark(kind));
+        value += 1;
+    }
     Reply {
         number,
         // `source` has no mark for presence
@@ -211,7 +224,7 @@ fn optional(present: u32, value: u32) -> bool {
     present == 1 || present | value == 0
 }
 
-fn address(row: &[u32; 20]) -> bool {
+pub fn address(row: &[u32; 20]) -> bool {
     row[2] <= 32 && optional(row[3], row[4]) && row[5] | row[7] < 256 && row[8] <= 15 && label(row)
 }
 
@@ -224,7 +237,7 @@ fn label(row: &[u32; 20]) -> bool {
     bytes >> (8 * row[8]) == 0
 }
 
-fn route(row: &[u32; 32]) -> bool {
+pub fn route(row: &[u32; 32]) -> bool {
     row[2] <= 32
         && row[3] | row[6] | row[7] < 256
         && matches!(row[5], 1 | 2 | 3 | 6 | 7 | 8 | 9)

@@ -10,6 +10,7 @@ use oracle::model::model;
 use oracle::netmask::{self, Masked};
 use oracle::part::{self, Ask, Lister, Take};
 use oracle::port::{self, Bytes, Model, WordPort, make};
+use oracle::recording::{self, Rebuilder};
 use oracle::words::{BASE_WORDS, ROW_COUNTS_AT};
 use std::slice::{from_raw_parts, from_raw_parts_mut};
 
@@ -62,6 +63,8 @@ trait Element: Copy + Default {
         listing: &mut [Self],
         cursor: &mut [Self],
     ) -> oracle::call::Reply;
+    fn rebuild(recording: &[Self], rows: &mut [Self]) -> oracle::call::Reply;
+    fn same(first: &[Self], second: &[Self]) -> oracle::call::Reply;
 }
 
 impl Element for u8 {
@@ -90,6 +93,12 @@ impl Element for u8 {
     }
     fn part(ask: Ask, state: &[u8], listing: &mut [u8], cursor: &mut [u8]) -> oracle::call::Reply {
         Bytes(part::Model).part(ask, state, listing, cursor)
+    }
+    fn rebuild(recording: &[u8], rows: &mut [u8]) -> oracle::call::Reply {
+        Bytes(recording::Model).rebuild(recording, rows)
+    }
+    fn same(first: &[u8], second: &[u8]) -> oracle::call::Reply {
+        Bytes(recording::Model).same(first, second)
     }
 }
 
@@ -133,6 +142,12 @@ impl Element for u32 {
         cursor: &mut [u32],
     ) -> oracle::call::Reply {
         part::Model.part(ask, state, listing, cursor)
+    }
+    fn rebuild(recording: &[u32], rows: &mut [u32]) -> oracle::call::Reply {
+        recording::Model.rebuild(recording, rows)
+    }
+    fn same(first: &[u32], second: &[u32]) -> oracle::call::Reply {
+        recording::Model.same(first, second)
     }
 }
 
@@ -332,6 +347,45 @@ fn part<E: Element>(mut ask: Ask, state: &mut [E], listing: &mut [E], cursor: &m
     reply
 }
 
+/// The rows of a recording.
+fn rebuild<E: Element>(recording: &mut [E], rows: &mut [E]) -> Reply {
+    let fault = fault();
+    let before = rows.to_vec();
+    let mut reply = Reply::from(E::rebuild(recording, rows));
+    match fault.as_str() {
+        // SAFETY: none, this is the fault; the comparison lends guarded slices
+        "past the rows" => unsafe {
+            rows.as_mut_ptr_range().end.write(E::default());
+        },
+        "the rows cleared behind" if reply.number == 0 => {
+            if let Some(last) = rows.last_mut() {
+                *last = E::default();
+            }
+        }
+        "the rows not written back" if !E::ALIGNED => rows.copy_from_slice(&before),
+        "writes the recording" => recording.fill(E::default()),
+        "a recording's words unlike bytes" if E::ALIGNED && reply.number == 209 => {
+            reply.number = 208;
+        }
+        _ => {}
+    }
+    reply
+}
+
+/// Two recordings held together.
+fn same<E: Element>(first: &mut [E], second: &mut [E]) -> Reply {
+    let fault = fault();
+    let reply = match fault.as_str() {
+        "first and second swapped" => E::same(second, first),
+        "the first recording for both" => E::same(first, first),
+        _ => E::same(first, second),
+    };
+    if fault == "writes the second recording" {
+        second.fill(E::default());
+    }
+    reply.into()
+}
+
 /// The check alone: what `local4` refuses.
 fn checked(local4: Reply) -> Reply {
     let lax = fault() == "a lax check" && local4.number == 201;
@@ -381,6 +435,25 @@ macro_rules! parts {
             let cursor = unsafe { from_raw_parts_mut(cursor, cursor_length) };
             let take = Take::$take;
             part::<$element>(Ask { take, rows }, state, listing, cursor)
+        }
+    )*};
+}
+
+/// The functions that are lent two slices and nothing else.
+macro_rules! recordings {
+    ($element:ty, $prefix:literal: $($name:ident),*) => {$(
+        /// # Safety
+        /// Each pointer and length are those of one slice.
+        #[unsafe(export_name = concat!($prefix, stringify!($name)))]
+        pub unsafe extern "C" fn $name(
+            first: *mut $element,
+            first_length: usize,
+            second: *mut $element,
+            second_length: usize,
+        ) -> Reply {
+            let first = unsafe { from_raw_parts_mut(first, first_length) };
+            let second = unsafe { from_raw_parts_mut(second, second_length) };
+            super::$name::<$element>(first, second)
         }
     )*};
 }
@@ -464,6 +537,7 @@ macro_rules! all {
         }
 
         parts! { $element, $prefix: dump4_begin Begin, dump4_next Next }
+        recordings! { $element, $prefix: rebuild, same }
     };
 }
 
@@ -489,12 +563,12 @@ pub extern "C" fn prefix(mask: u32) -> Reply {
 pub extern "C" fn sizes() -> Reply {
     Reply {
         number: 0,
-        present: 8,
+        present: 9,
         value: if fault() == "other sizes" {
             9_509
         } else {
             9_541
         },
-        second: 384,
+        second: 385,
     }
 }

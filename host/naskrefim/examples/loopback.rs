@@ -50,6 +50,8 @@ fn tell(what: &str, events: &[Event]) {
             Event::DelAddr4(a) => println!("  address gone {}/{}", a.local, a.prefix),
             Event::NewRoute4(r, flags) => println!("  new route {}/{} {flags:#x}", r.dst, r.len),
             Event::DelRoute4(r) => println!("  route gone {}/{}", r.dst, r.len),
+            Event::LinkDown => println!("  down"),
+            Event::IpDisabled => println!("  no address is left"),
         }
     }
 }

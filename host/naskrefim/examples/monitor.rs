@@ -155,6 +155,8 @@ fn line(event: &Event, now: u64) -> Result<String, Refused> {
         Event::DelAddr4(own) => format!("Deleted {}", address(own, now)?),
         Event::NewRoute4(to, _) => route(to),
         Event::DelRoute4(to) => format!("Deleted {}", route(to)),
+        // netlink isn't told of these
+        Event::LinkDown | Event::IpDisabled => return Err(Refused::UNFIT_STATE),
     })
 }
 

@@ -22,7 +22,7 @@ use core::net::Ipv4Addr;
 /// Whether the device is up is the caller's to know: [`Self::up`] and
 /// [`Self::down`] say what a change does, and requests carry it.
 ///
-/// It has 38,164 bytes for the state, and 52,224 for events from its first
+/// It has 38,164 bytes for the state, and 52,360 for events from its first
 /// change on. The latter are scratch: a clone has none, and two are equal
 /// if their addresses, routes and tables are, whatever [`Self::changes`]
 /// led to them.
@@ -112,7 +112,13 @@ impl Addresses {
     }
 
     /// The loopback goes down: routes through it go, except those of host
-    /// scope, and none is told.
+    /// scope. [`Event::LinkDown`] alone is told, whether there were any or
+    /// not.
+    ///
+    /// ```
+    /// use naskrefim::{Addresses, Event};
+    /// assert_eq!(Addresses::new().down(), [Event::LinkDown]);
+    /// ```
     pub fn down(&mut self) -> Vec<Event> {
         let (state, events) = self.lent();
         let reply = words::down(state, events);
@@ -155,7 +161,9 @@ impl Addresses {
     }
 
     /// Removes the first address with `local`, with `label`, and with
-    /// `address` in its subnet of `prefix`, each as far as it is given.
+    /// `address` in its subnet of `prefix`, each as far as it is given. With
+    /// the last address all routes through the loopback go, and
+    /// [`Event::IpDisabled`] is told last.
     ///
     /// # Errors
     /// [`Refused::NO_SUCH_ADDRESS`]; [`Refused::UNFIT_REQUEST`] for a prefix
@@ -233,7 +241,8 @@ impl Addresses {
     /// those whose preferred one has. A lifetime that ends within the next
     /// `allowance` nanoseconds counts as ended: a host that calls this at
     /// its timer's ticks allows for the tick. [`FUZZ`](crate::FUZZ), 20 ms,
-    /// is what the Rust and Linux allow for.
+    /// is what the Rust and Linux allow for. The last address goes as in
+    /// [`Self::del_v4`].
     ///
     /// ```
     /// use core::net::Ipv4Addr;

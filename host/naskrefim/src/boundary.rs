@@ -122,7 +122,8 @@ macro_rules! exported {
             /// number of event rows.
             up(state: write, events: write; now: u64);
             /// The device goes down: see
-            /// [`Addresses::down`](crate::Addresses::down).
+            /// [`Addresses::down`](crate::Addresses::down). `value` is the
+            /// number of event rows, 1.
             down(state: write, events: write;);
             /// An address is added, or changed: see
             /// [`Addresses::add_v4`](crate::Addresses::add_v4). `value` is
@@ -211,6 +212,18 @@ macro_rules! exported {
             /// [`Event::message`](crate::Event::message). `value` is the
             /// number of bytes written.
             write(event: read, message: write_bytes; sequence: u32, port: u32, now: u64);
+            /// The route rows that a recording of event rows rebuilds are
+            /// written from the start of `rows`, which has room for
+            /// [`LISTING_BUFFER_WORDS`](crate::LISTING_BUFFER_WORDS): see
+            /// [`rebuild`](crate::rebuild). `value` is the number of rows.
+            /// 200 for a recording that isn't whole event rows; then the
+            /// earliest event that is refused decides, by 208 for its kind
+            /// and else 209.
+            rebuild(recording: read, rows: write;);
+            /// Whether two recordings rebuild the same rows in the same
+            /// order: `value` is 1 or 0. 200 for either; then 208 or 209 for
+            /// the first, then for the second.
+            same(first: read, second: read;);
         }
     };
 }
@@ -279,7 +292,7 @@ pub struct Sizes {
 /// use naskrefim::{EVENT_LIMIT, STATE_WORDS, sizes};
 /// let sizes = sizes();
 /// assert_eq!((sizes.state_words, sizes.event_rows), (STATE_WORDS, EVENT_LIMIT));
-/// assert_eq!(sizes.paper, 8);
+/// assert_eq!(sizes.paper, 9);
 /// ```
 #[must_use]
 pub fn sizes() -> Sizes {

@@ -287,12 +287,15 @@ pub(crate) fn event_row(event: &Event) -> [u32; EVENT_WORDS] {
             rest[..ADDRESS_WORDS].copy_from_slice(&address_row(a));
         }
         Event::NewRoute4(r, _) | Event::DelRoute4(r) => *rest = route_row(r),
+        Event::LinkDown | Event::IpDisabled => {}
     }
     *what = match event {
         Event::NewAddr4(_) => 1,
         Event::DelAddr4(_) => 2,
         Event::NewRoute4(..) => 3,
         Event::DelRoute4(_) => 4,
+        Event::LinkDown => 5,
+        Event::IpDisabled => 6,
     };
     if let Event::NewRoute4(_, of) = event {
         *flags = (*of).into();
@@ -311,7 +314,9 @@ pub(crate) fn event(row: &[u32; EVENT_WORDS]) -> Event {
             u16::try_from(*flags).expect("an event's flags have 16 bits"),
         ),
         4 => Event::DelRoute4(route(rest)),
-        other => panic!("an event row begins with 1 to 4, not {other}"),
+        5 => Event::LinkDown,
+        6 => Event::IpDisabled,
+        other => panic!("an event row begins with 1 to 6, not {other}"),
     }
 }
 

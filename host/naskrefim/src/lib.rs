@@ -9,7 +9,9 @@
 //! rtnetlink message asks for, as it comes off the socket, and
 //! [`Addresses::perform`] does it; [`Event::message`] is what those who
 //! listen are told. [`Parts`] lists the routes a few at a time while other
-//! calls go on. No function of this crate is unsafe, whatever it is given.
+//! calls go on. [`rebuild`] makes the routes of a recording of events, and
+//! [`same`] holds two recordings together. No function of this crate is
+//! unsafe, whatever it is given.
 //!
 //! ```
 //! use core::net::Ipv4Addr;
@@ -49,7 +51,7 @@
 //!
 //! | call | [`words`] | [`bytes`] |
 //! |---|---:|---:|
-//! | `up` | 94,208 | 184,320 |
+//! | `up` | 94,208 | 188,416 |
 //! | `down` | 4,096 | 40,960 |
 //! | `add_v4` | 45,056 | 135,168 |
 //! | `del_v4` | 4,096 | 98,304 |
@@ -71,6 +73,8 @@
 //! | `add_v4_mask` | 45,056 | 172,032 |
 //! | `del_v4_mask` | 4,096 | 131,072 |
 //! | `write` | 4,096 | 4,096 |
+//! | `rebuild` | 40,960 | 40,960 |
+//! | `same` | 77,824 | 77,824 |
 //!
 //! [`Addresses`] calls [`words`], and needs less than 4,096 bytes of its
 //! own. The numbers are those of the C header; `host/c/stack` finds them
@@ -87,6 +91,7 @@ mod constants;
 mod layout;
 mod netmask;
 mod parts;
+mod recordings;
 mod records;
 mod refused;
 mod request;
@@ -102,6 +107,7 @@ pub use constants::{
 };
 pub use netmask::Netmask;
 pub use parts::{Cursor, Part, Parts};
+pub use recordings::{rebuild, same};
 pub use records::{Ask4, Event, Kind, Life, Lifetimes, Metrics, Route4, Select4, V4};
 pub use refused::Refused;
 pub use request::Request;
@@ -118,7 +124,7 @@ pub const ROUTE_LIMIT: usize = 256;
 /// The most tables that a state lists.
 pub const TABLE_LIMIT: usize = 32;
 /// The most events that a call tells.
-pub const EVENT_LIMIT: usize = 384;
+pub const EVENT_LIMIT: usize = 385;
 
 /// The words of an address row.
 pub const ADDRESS_WORDS: usize = 20;

@@ -261,9 +261,34 @@ pub enum Event {
     NewRoute4(Route4, u16),
     /// A route went.
     DelRoute4(Route4),
+    /// The loopback went down, and with it the routes through it, but for
+    /// those of host scope ([`SCOPE_HOST`](crate::SCOPE_HOST)): nothing else
+    /// tells of these.
+    LinkDown,
+    /// The last address went, and with it the routes through the loopback
+    /// that were left: nothing else tells of these. It is its call's last
+    /// event.
+    IpDisabled,
 }
 
 impl Event {
+    /// Whether rtnetlink has a [`message`](Self::message) for it: of an
+    /// address or a route it has one, and none for [`Event::LinkDown`] and
+    /// [`Event::IpDisabled`], which are for recordings
+    /// ([`rebuild`](crate::rebuild)).
+    ///
+    /// ```
+    /// use naskrefim::{Addresses, Event, Refused};
+    /// let mut lo = Addresses::new();
+    /// assert!(lo.up(0)?.iter().all(Event::has_message));
+    /// assert!(!lo.down().iter().any(Event::has_message));
+    /// # Ok::<(), Refused>(())
+    /// ```
+    #[must_use]
+    pub const fn has_message(&self) -> bool {
+        !matches!(self, Self::LinkDown | Self::IpDisabled)
+    }
+
     /// The event as the rtnetlink message that tells it, of type 20, 21, 24
     /// or 25: netlink's header with `sequence` and `port`, `ifaddrmsg` or
     /// `rtmsg`, attributes by rising code; at most [`MESSAGE_BYTES`], and a
@@ -280,10 +305,11 @@ impl Event {
     /// but for a label with a zero byte in it, which is read up to there.
     ///
     /// # Errors
-    /// None for an event that a call told, or whose address or route is one
-    /// of a state. [`Refused::UNFIT_STATE`] for one that could stand in none:
-    /// a prefix over 32, a label over 15 bytes, or a destination with bits
-    /// outside its length.
+    /// [`Refused::UNFIT_STATE`] for one that has no message
+    /// ([`Self::has_message`]). None for another that a call told, or whose
+    /// address or route is one of a state; [`Refused::UNFIT_STATE`] for one
+    /// that could stand in none: a prefix over 32, a label over 15 bytes, or
+    /// a destination with bits outside its length.
     ///
     /// ```
     /// use core::net::Ipv4Addr;

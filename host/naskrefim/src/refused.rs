@@ -81,6 +81,12 @@ numbers! {
     /// Ones and trailing zeros that don't make 32
     /// ([`Netmask`](crate::Netmask)).
     BAD_MASK = 207, "a netmask that is not good";
+    /// A recording with an event that is none of those that a call tells.
+    UNKNOWN_EVENT = 208, "an unknown kind of event in a recording";
+    /// A recording with an event that doesn't fit: its address or route could
+    /// stand in no state, another word should be 0, or the routes so far
+    /// don't allow it ([`rebuild`](crate::rebuild)).
+    UNFIT_EVENT = 209, "an event that does not fit its recording";
 }
 
 impl Refused {

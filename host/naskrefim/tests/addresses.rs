@@ -187,7 +187,7 @@ fn routes() {
     select.metrics = Some(vec![(16, 16), (0, 0)]);
     assert_eq!(lo.del_route4(&select), Ok(vec![Event::DelRoute4(made)]));
     assert_eq!(lo, up());
-    assert_eq!(lo.down(), []);
+    assert_eq!(lo.down(), [Event::LinkDown]);
     assert_eq!(lo.dump4().len(), 2);
 }
 

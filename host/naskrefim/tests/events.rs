@@ -237,6 +237,16 @@ fn what_is_refused() {
     ] {
         assert_eq!(reply.number, expected);
     }
+    // an event that is none of a message's, as `down` and `del_v4` write it
+    for (kind, mark) in [(5, Event::LinkDown), (6, Event::IpDisabled)] {
+        assert_eq!(number(mark), refused);
+        let mut event = [0; EVENT_WORDS];
+        event[0] = kind;
+        assert_eq!(words::write(&event, &mut message, 0, 0, 0).number, 201);
+        let mut event = [0; 4 * EVENT_WORDS];
+        event[0] = kind as u8;
+        assert_eq!(bytes::write(&event, &mut message, 0, 0, 0).number, 201);
+    }
     assert_eq!(message, [7; MESSAGE_BYTES]);
 }
 

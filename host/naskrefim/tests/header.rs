@@ -79,7 +79,7 @@ fn refusals() {
         NO_CREATE_FLAG NO_SUCH_ROUTE PROHIBITED THERE_ALREADY WRONG_DEVICE INVALID NOT_SUPPORTED
         NO_SUCH_ADDRESS DOWN NO_ROUTE_TO_NETWORK UNREACHABLE
         UNFIT_BUFFER UNFIT_STATE UNFIT_REQUEST NO_SPACE
-        BAD_LENGTH NOT_IPV4 BAD_ATTRIBUTE BAD_MASK
+        BAD_LENGTH NOT_IPV4 BAD_ATTRIBUTE BAD_MASK UNKNOWN_EVENT UNFIT_EVENT
     };
     let defined = defined();
     for (name, number) in all {
@@ -114,5 +114,5 @@ fn stack() {
         assert!(docs.lines().any(|line| line == row), "{row}");
         rows += 1;
     }
-    assert_eq!(rows, 22);
+    assert_eq!(rows, 24);
 }

@@ -21,7 +21,7 @@ fn constants_are_linuxs() {
     assert_eq!((PROTO_KERNEL, NO_METRICS), (2, [0; 17]));
     assert_eq!(
         [STATE_WORDS, EVENT_BUFFER_WORDS, LISTING_BUFFER_WORDS],
-        [9_541, 13_056, 8_192]
+        [9_541, 13_090, 8_192]
     );
 }
 

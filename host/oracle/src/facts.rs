@@ -19,6 +19,7 @@ pub fn check(checks: &mut Checks) {
     most_events(checks);
     unfit(checks);
     ipv6_events(checks);
+    told_beside(checks);
     by_the_calls(checks);
     lifetimes(checks);
     allowances(checks);
@@ -432,7 +433,7 @@ fn space(checks: &mut Checks) {
     }
 }
 
-/// 63 NewAddr4, 64 DelAddr4 and 256 DelRoute4 in one `expire`.
+/// 63 NewAddr4, 64 DelAddr4 and 256 DelRoute4 in one `expire`, and event 6.
 fn most_events(checks: &mut Checks) {
     let mut lists = filled(64, 0, vec![254, 255]);
     for (i, a) in lists.addresses.iter_mut().enumerate() {
@@ -461,9 +462,9 @@ fn most_events(checks: &mut Checks) {
     let of = |name: &str| told.iter().filter(|t| t.starts_with(name)).count();
     let counts = (of("NewAddr4"), of("DelAddr4"), of("DelRoute4"), told.len());
     checks.same(
-        "P2 383 event rows in one expire",
+        "P2 383 event rows in one expire, and event 6",
         counts,
-        (63, 64, 256, 383),
+        (63, 64, 256, 384),
     );
 }
 
@@ -532,7 +533,28 @@ fn ipv6_events(checks: &mut Checks) {
     let (call, request) = (Call::Up { now: 0 }, Request::Up { now: 0 });
     told("P8 up", call.clone(), request, 4, 2);
     told("P8 up again", call, request, 0, 0);
-    told("P8 down", Call::Down, Request::Down, 0, 2);
+    // event 5, beside the Rust
+    told("P8 down", Call::Down, Request::Down, 1, 2);
+}
+
+/// What the port tells beside the Rust (document 02, Paper 9).
+fn told_beside(checks: &mut Checks) {
+    let mut s = Script::default();
+    checks.same(
+        "P18 down, whether or not a route goes",
+        s.call(Call::Down).text,
+        lines(&["the device down"]),
+    );
+    s.add(address("10.1.0.5/24"));
+    checks.same(
+        "P19 the last address gone",
+        s.del("10.1.0.5").text,
+        lines(&[
+            "DelAddr4 10.1.0.5/24",
+            "DelRoute4 255 10.1.0.5/32 kind 2 from 10.1.0.5",
+            "the last address gone",
+        ]),
+    );
 }
 
 /// What `naskrefim` lacks, made of what it has, on states of any kind.

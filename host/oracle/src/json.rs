@@ -7,10 +7,12 @@ use crate::generate::cases::{Cases, Weights};
 use crate::generate::events::Events;
 use crate::generate::messages::{MessageCase, Messages};
 use crate::generate::parts::{Runs, Step};
+use crate::generate::recordings::Recordings;
 use crate::message::read;
 use crate::model::model;
 use crate::part::{self, Lister, PartCase, Take};
-use crate::port::exact;
+use crate::port::{Bytes, exact, words as words_of};
+use crate::recording::{self, Beside, RecordingCase};
 use crate::rng::Rng;
 use crate::script::written;
 use crate::well_formed;
@@ -101,7 +103,54 @@ pub fn parts(count: usize, seed: u64) {
     }
 }
 
-/// Routes of a long list, and of how many cases one may have so many.
+/// Prints `count` recordings of whole words, each rebuilt or held beside
+/// another, few of them long.
+pub fn recordings(count: usize, seed: u64) {
+    let mut recordings = Recordings::new(seed);
+    let (mut printed, mut long) = (0, 0);
+    while printed < count {
+        let case = recordings.next_case();
+        let lengths = match &case.beside {
+            Beside::Rows(_) => [case.first.len(), 0],
+            Beside::Second(second) => [case.first.len(), second.len()],
+        };
+        let is_long = lengths.iter().any(|&n| n > 4 * EVENT_WORDS * LONG as usize);
+        let whole = lengths.iter().all(|n| n.is_multiple_of(4));
+        if !whole || (is_long && long * PER_LONG >= printed) {
+            continue;
+        }
+        long += usize::from(is_long);
+        printed += 1;
+        println!("{}", recording_line(&case));
+    }
+}
+
+/// A recording, or two, of whole words, with the answer.
+pub fn recording_line(case: &RecordingCase) -> String {
+    let effect = recording::effect(&mut Bytes(recording::Model), case);
+    let reply = effect.reply;
+    let (beside, rows) = match &case.beside {
+        Beside::Rows(rows) => {
+            let written = words_of(&effect.rows);
+            let given = written.chunks(ROUTE_WORDS).take(reply.value as usize);
+            let given = list(given.map(array));
+            (format!("\"buffer\":{}", rows.len() / 4), given)
+        }
+        Beside::Second(second) => (
+            format!("\"second\":{}", array(&words_of(second))),
+            list([].into_iter()),
+        ),
+    };
+    format!(
+        "{{\"recording\":{},{beside},\"expect\":{{\"number\":{},\"value\":{},\"rows\":{rows}}}}}",
+        array(&words_of(&case.first)),
+        reply.number,
+        reply.value
+    )
+}
+
+/// Routes or events of a long list, and of how many cases one may have so
+/// many.
 const LONG: u32 = 40;
 const PER_LONG: usize = 20;
 

@@ -25,6 +25,8 @@ pub mod pairs;
 pub mod part;
 pub mod parts;
 pub mod port;
+pub mod recording;
+pub mod recordings;
 pub mod rfc;
 pub mod rng;
 pub mod script;

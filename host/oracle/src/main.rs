@@ -1,9 +1,12 @@
 //! The oracle's commands. Every one ends with a line of counts; the exit
 //! status is 0 only if nothing failed.
+use oracle::generate::events::Events;
+use oracle::generate::messages::Messages;
+use oracle::generate::recordings::Recordings;
 use oracle::vectors::{MODELS, Makers};
 use oracle::{
-    checks, coverage, document, events, examples, facts, faults, json, linux, messages, netmask,
-    pairs, parts, rfc, tables, vectors,
+    checks, coverage, document, events, examples, facts, faults, json, linux, listed, messages,
+    netmask, pairs, parts, recordings, rfc, tables, vectors,
 };
 use std::process::ExitCode;
 use std::time::Instant;
@@ -25,6 +28,9 @@ const USAGE: &str = "usage: oracle COMMAND
                          and with planted faults
   events [N] [SEED]      the writer of events: by hand, on N generated ones,
                          and with planted faults
+  recordings [N] [SEED]  recordings of events: by hand, the paper's sentences
+                         on runs and on N generated cases, N generated
+                         recordings, and planted faults
   selftest [SEED]        planted faults, which the comparison must find
   vectors FOLDER [SEED]  writes the fixed list of answers, and damaged ones
   replay FILE            replays such a list against the model and against
@@ -35,6 +41,7 @@ const USAGE: &str = "usage: oracle COMMAND
   part-cases N SEED      prints N parts of listings as JSON lines
   message-cases N SEED   prints N random messages as JSON lines
   event-cases N SEED     prints N random events as JSON lines
+  recording-cases N SEED prints N recordings as JSON lines
   message-list N SEED FOLDER
                          writes a list of N messages, and what is to be
                          printed of them
@@ -42,10 +49,12 @@ const USAGE: &str = "usage: oracle COMMAND
                          the same of N events
   part-list N SEED FOLDER
                          the same of N parts of listings
+  recording-list N SEED FOLDER
+                         the same of N recordings
   all                    all of examples, linux, rfc, facts, tables,
                          netmasks, document, generator, pairs, parts,
-                         messages, events, selftest, and a list of answers
-                         replayed";
+                         messages, events, recordings, selftest, and a list of
+                         answers replayed";
 
 const CASES: usize = 30_000;
 const PAIRS: usize = 2_000;
@@ -116,6 +125,11 @@ fn command(arguments: &[String]) -> Result<bool, String> {
             let (count, seed) = (number(rest, 0, CASES)?, number(rest, 1, SEED)?);
             Ok(events::run(count, seed))
         }
+        "recordings" => {
+            most(2)?;
+            let count = number(rest, 0, recordings::RECORDINGS)?;
+            Ok(recordings::run(count, number(rest, 1, SEED)?))
+        }
         "selftest" => {
             most(1)?;
             Ok(faults::selftest(number(rest, 0, SEED)?))
@@ -132,25 +146,27 @@ fn command(arguments: &[String]) -> Result<bool, String> {
             replayed(&oracle::port::words(&data))
         }
         "cases" => cases(rest),
-        "message-cases" | "event-cases" | "part-cases" => match rest {
+        "message-cases" | "event-cases" | "part-cases" | "recording-cases" => match rest {
             [_, _] => {
                 let (count, seed) = (number(rest, 0, 0)?, number(rest, 1, SEED)?);
                 match name.as_str() {
                     "message-cases" => json::messages(count, seed),
                     "event-cases" => json::events(count, seed),
+                    "recording-cases" => json::recordings(count, seed),
                     _ => json::parts(count, seed),
                 }
                 Ok(true)
             }
             _ => Err(USAGE.to_string()),
         },
-        "message-list" | "event-list" | "part-list" => match rest {
+        "message-list" | "event-list" | "part-list" | "recording-list" => match rest {
             [_, _, folder] => {
                 let (count, seed) = (number(rest, 0, 0)?, number(rest, 1, SEED)?);
                 let write = match name.as_str() {
-                    "message-list" => messages::list::write,
-                    "event-list" => events::list::write,
-                    _ => parts::list::write,
+                    "message-list" => listed::write::<Messages>,
+                    "event-list" => listed::write::<Events>,
+                    "recording-list" => listed::write::<Recordings>,
+                    _ => listed::write::<parts::list::Parts>,
                 };
                 write(count, seed, folder).map(|()| true)
             }
@@ -207,7 +223,7 @@ type Part = dyn Fn() -> Result<bool, String>;
 /// Everything, and one line of counts for each part.
 fn all() -> Result<bool, String> {
     let begin = Instant::now();
-    let parts: [(&str, &Part); 14] = [
+    let parts: [(&str, &Part); 15] = [
         ("examples", &|| Ok(checks::run("examples", examples::check))),
         ("linux", &|| Ok(checks::run("linux", linux::check))),
         ("rfc", &|| Ok(checks::run("rfc", rfc::check))),
@@ -220,6 +236,9 @@ fn all() -> Result<bool, String> {
         ("parts", &|| Ok(parts::run(parts::STEPS, SEED))),
         ("messages", &|| Ok(messages::run(CASES, SEED))),
         ("events", &|| Ok(events::run(CASES, SEED))),
+        ("recordings", &|| {
+            Ok(recordings::run(recordings::RECORDINGS, SEED))
+        }),
         ("selftest", &|| Ok(faults::selftest(SEED))),
         ("replay", &|| replayed(&vectors::vectors(vectors::SEED))),
     ];

@@ -1,13 +1,14 @@
 //! The model: what each call does to lent words. 200, 201, 202, lifetimes
 //! that Linux turns down (22) and 203 in that order, then the Rust on the
-//! decoded lists, then back to words with their row counts, and the change
-//! count.
-use crate::call::{Call, Reply};
+//! decoded lists, then back to words with their row counts, the change count,
+//! and the events that the port tells beside the Rust.
+use crate::call::{Buffer, Call, Reply};
+use crate::recording::{IP_DISABLED, LINK_DOWN, mark};
 use crate::words::{
     BASE_WORDS, LIMITS, STATE_WORDS, change_count, decode, encode_into, set_change_count,
 };
 use crate::{fit, well_formed};
-use reference::{Answer, Lists, Outcome};
+use reference::{Answer, EventRow, Lists, Outcome};
 
 /// Linux's EINVAL.
 pub const INVALID: u32 = 22;
@@ -41,12 +42,14 @@ pub fn outcome(call: &Call, state: &[u32], buffer: usize) -> Result<Outcome, u32
 
 /// Writes the answer into the words, and gives the reply.
 pub fn settle(call: &Call, outcome: &Outcome, state: &mut [u32], buffer: &mut [u32]) -> Reply {
+    let mark = told_beside(call, &outcome.lists, state);
     if !matches!(call, Call::Left { .. }) {
         leave(&outcome.lists, state);
     }
     match &outcome.answer {
         Answer::Refused(number) => Reply::refused(*number),
-        Answer::Events(rows) => {
+        Answer::Events(told) => {
+            let rows: Vec<EventRow> = told.iter().copied().chain(mark).collect();
             write(buffer, rows.as_flattened());
             Reply::value(rows.len() as u32)
         }
@@ -70,6 +73,18 @@ pub fn settle(call: &Call, outcome: &Outcome, state: &mut [u32], buffer: &mut [u
             second: *valid,
             ..Reply::default()
         },
+    }
+}
+
+/// What the port tells beside the Rust (document 02, Paper 9), behind all
+/// else: "event 5 on every `down`", "event 6 when the last address goes". The
+/// deletions that it adds where main rows fall in silence have no place: none
+/// does (the command `recordings` looks for one).
+fn told_beside(call: &Call, after: &Lists, before: &[u32]) -> Option<EventRow> {
+    match call {
+        Call::Down => Some(mark(LINK_DOWN)),
+        _ if call.buffer() != Buffer::Events => None,
+        _ => (before[0] > 0 && after.addresses.is_empty()).then(|| mark(IP_DISABLED)),
     }
 }
 
@@ -117,7 +132,7 @@ pub(crate) fn standing(call: &Call, state: &[u32]) -> Result<(), u32> {
 fn write(buffer: &mut [u32], words: &[u32]) {
     assert!(
         words.len() <= buffer.len(),
-        "document 01's buffer is too short: {} words in {}",
+        "the buffer is too short: {} words in {}",
         words.len(),
         buffer.len()
     );

@@ -332,6 +332,8 @@ pub fn event_text(row: &[u32]) -> String {
         2 => of("DelAddr4"),
         3 => format!("NewRoute4 {:#x} {}", row[1], route_text(&row[2..])),
         4 => format!("DelRoute4 {}", route_text(&row[2..])),
+        5 => "the device down".to_string(),
+        6 => "the last address gone".to_string(),
         other => format!("unknown event {other}"),
     }
 }

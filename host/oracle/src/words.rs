@@ -23,8 +23,10 @@ pub const COUNT_WORDS: usize = 2;
 pub const ROW_COUNTS_AT: usize = BASE_WORDS + COUNT_WORDS;
 pub const STATE_WORDS: usize = ROW_COUNTS_AT + TABLE_LIMIT;
 
-/// The fewest words of an event buffer (384 rows) and of a listing buffer.
-pub const EVENT_BUFFER: usize = 384 * EVENT_WORDS;
+/// The fewest rows and words of an event buffer ("385 event rows, 13,090
+/// words": document 02, Paper 9) and words of a listing buffer.
+pub const EVENT_ROWS: usize = 385;
+pub const EVENT_BUFFER: usize = EVENT_ROWS * EVENT_WORDS;
 pub const LISTING_BUFFER: usize = ROUTE_LIMIT * ROUTE_WORDS;
 
 /// The empty state.

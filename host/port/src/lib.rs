@@ -1,5 +1,6 @@
 //! The linked library behind the oracle's ports: on bytes, on words, and
 //! through `Addresses`.
+pub mod comparison;
 pub mod constants;
 pub mod events;
 pub mod guarded;
@@ -7,5 +8,6 @@ pub mod library;
 pub mod masks;
 pub mod messages;
 pub mod parts;
+pub mod recordings;
 pub mod records;
 pub mod typed;

@@ -3,10 +3,14 @@
 use oracle::call::{KINDS, NAMES};
 use oracle::campaign::{self, Campaign, Kinds};
 use oracle::port::Bytes;
+use port::comparison::Comparison;
+use port::events::Written;
 use port::library::{OnBytes, OnWords};
-use port::messages::{self, Boundary, Summary};
+use port::masks::WithMask;
+use port::messages::{Boundary, Read};
+use port::parts::{self, InParts};
+use port::recordings::{self, Recorded};
 use port::typed::Typed;
-use port::{events, masks, parts};
 use std::process::ExitCode;
 use std::time::{Duration, Instant, SystemTime};
 
@@ -16,35 +20,30 @@ const USAGE: &str = "usage: port [OPTION VALUE]..
   --cases N          N generated cases, and
   --pairs N          N pairs of runs, and
   --messages N       N messages, read and performed, N requests for an
-                     address with a netmask, N events, written, and N steps
-                     of runs in which listings are taken in parts
+                     address with a netmask, N events, written, N steps of
+                     runs in which listings are taken in parts, and N
+                     recordings of events, rebuilt or held together
   --seed N           where they come from; a fresh seed if it isn't given
   --calls A,B,..     only these calls (then no pairs); read: messages; mask:
                      requests with a netmask, and all 2^32 netmasks
                      (with counts only those beside a good one); write:
-                     events; part: listings taken in parts
+                     events; part: listings taken in parts; rebuild:
+                     recordings of events
   --boundary WHICH   bytes, words or addresses; all if it isn't given";
 
 /// What comes between two looks at the clock.
 const BATCH: usize = 500;
 const PAIRS_PER_BATCH: usize = 3;
-/// What is asked for beside the calls: that messages are read, requests with
-/// a netmask, that events are written, listings taken in parts.
-const OTHERS: [&str; 4] = [READ, MASK, WRITE, PART];
-const READ: &str = "read";
-const MASK: &str = "mask";
-const WRITE: &str = "write";
-const PART: &str = "part";
+/// What is compared beside the calls: messages read, requests with a netmask,
+/// events written, listings taken in parts, recordings of events.
+const OTHERS: [&str; 5] = ["read", "mask", "write", "part", "rebuild"];
 
 struct Options {
     seconds: u64,
     counts: Option<[usize; 3]>,
     seed: u64,
     calls: Kinds,
-    read: bool,
-    mask: bool,
-    write: bool,
-    part: bool,
+    others: [bool; OTHERS.len()],
     /// One of [`BOUNDARIES`], or all.
     boundary: Option<String>,
 }
@@ -68,10 +67,7 @@ fn options(arguments: &[String]) -> Result<Options, String> {
         counts: None,
         seed: fresh(),
         calls: [true; KINDS],
-        read: true,
-        mask: true,
-        write: true,
-        part: true,
+        others: [true; OTHERS.len()],
         boundary: None,
     };
     if !arguments.len().is_multiple_of(2) {
@@ -88,8 +84,7 @@ fn options(arguments: &[String]) -> Result<Options, String> {
             "--seed" => options.seed = number(value)?,
             "--calls" => {
                 options.calls = kinds(value)?;
-                let asked = OTHERS.map(|other| value.split(',').any(|name| name == other));
-                [options.read, options.mask, options.write, options.part] = asked;
+                options.others = OTHERS.map(|other| value.split(',').any(|name| name == other));
             }
             "--boundary" if BOUNDARIES.contains(&value.as_str()) => {
                 options.boundary = Some(value.clone());
@@ -131,47 +126,12 @@ fn run(options: &Options) -> Result<(), String> {
     for port in &mut ports {
         campaign = campaign.with(&mut **port);
     }
-    let mut others = Others {
-        messages: messages::Comparison::new(options.seed),
-        masks: masks::Comparison::new(options.seed),
-        events: events::Comparison::new(options.seed),
-        parts: parts::Comparison::new(options.seed),
-    };
+    let mut others = others(options);
     let begin = Instant::now();
     let found = compare(&mut campaign, &mut others, options);
     say(&campaign.summary, begin.elapsed(), options.seed);
-    let Others {
-        messages,
-        masks,
-        events,
-        parts,
-    } = others;
-    if options.read {
-        let Summary {
-            read,
-            performed,
-            calls,
-        } = &messages.summary;
-        println!("messages read {read:?}, performed {performed:?}; {calls} calls of the library");
-    }
-    if options.mask {
-        println!(
-            "with a netmask {:?}; {} calls of the library",
-            masks.numbers, masks.calls
-        );
-    }
-    if options.write {
-        println!(
-            "events written {:?}; {} calls of the library",
-            events.numbers, events.calls
-        );
-    }
-    if options.part {
-        println!(
-            "parts of listings {:?}, {} with the mark, and {} calls between them; {} calls of the \
-             library",
-            parts.numbers, parts.marked, parts.between, parts.calls
-        );
+    for other in &others {
+        println!("{}", other.said());
     }
     found.inspect(|()| println!("port: nothing found"))
 }
@@ -202,69 +162,59 @@ fn compared(options: &Options) -> String {
     }
     let asked = NAMES.iter().zip(options.calls).filter(|(_, asked)| *asked);
     let mut names: Vec<&str> = asked.map(|(name, _)| *name).collect();
-    let of_others = [options.read, options.mask, options.write, options.part];
-    let others = OTHERS.into_iter().zip(of_others);
+    let others = OTHERS.into_iter().zip(options.others);
     names.extend(others.filter(|(_, asked)| *asked).map(|(name, _)| name));
     format!("only {}, on {on}, and no pairs of runs", names.join(", "))
 }
 
-/// What is compared beside the calls.
-struct Others {
-    messages: messages::Comparison,
-    masks: masks::Comparison,
-    events: events::Comparison,
-    parts: parts::Comparison,
+/// Those of [`OTHERS`] that are asked for.
+fn others(options: &Options) -> Vec<Box<dyn Comparison>> {
+    let seed = options.seed;
+    let lent = || boundaries(options);
+    let all: [Box<dyn Comparison>; OTHERS.len()] = [
+        Box::new(Read::new(lent(), seed)),
+        Box::new(WithMask::new(seed)),
+        Box::new(Written::new(lent(), seed)),
+        Box::new(InParts::new(lent(), asked(options, parts::listers()), seed)),
+        Box::new(Recorded::new(
+            asked(options, recordings::rebuilders()),
+            seed,
+        )),
+    ];
+    let asked = all.into_iter().zip(options.others);
+    asked
+        .filter_map(|(other, asked)| asked.then_some(other))
+        .collect()
 }
 
-fn compare(campaign: &mut Campaign, others: &mut Others, options: &Options) -> Result<(), String> {
-    let Others {
-        messages,
-        masks,
-        events,
-        parts,
-    } = others;
+fn compare(
+    campaign: &mut Campaign,
+    others: &mut [Box<dyn Comparison>],
+    options: &Options,
+) -> Result<(), String> {
+    let seeded = |what| format!("{what}\n(seed {})", options.seed);
     campaign.by_hand()?;
-    let mut lent = boundaries(options);
-    let mut listers = asked(options, parts::listers());
-    if options.read {
-        messages.swept(&mut lent)?;
+    for other in &mut *others {
+        other.swept(options.counts.is_none())?;
     }
-    if options.write {
-        events.swept(&mut lent)?;
-    }
-    if options.mask {
-        masks::Comparison::prefixes(options.counts.is_none())?;
-    }
-    let mut part = |[cases, pairs, others]: [usize; 3]| {
-        let count = |asked| if asked { others } else { 0 };
+    let mut part = |[cases, pairs, count]: [usize; 3]| {
         campaign.cases(cases)?;
         campaign.pairs(pairs)?;
-        messages.generated(&mut lent, count(options.read))?;
-        masks.generated(count(options.mask))?;
-        events.generated(&mut lent, count(options.write))?;
-        parts.generated(&mut lent, &mut listers, count(options.part))
-    };
-    match options.counts {
-        Some(counts) => part(counts)?,
-        None => {
-            // all masks take as long as they take
-            let begin = Instant::now();
-            while begin.elapsed() < Duration::from_secs(options.seconds) {
-                part([BATCH, PAIRS_PER_BATCH, BATCH])?;
-            }
+        for other in &mut *others {
+            (0..count).try_for_each(|_| other.next()).map_err(seeded)?;
         }
+        Ok::<(), String>(())
+    };
+    if let Some(counts) = options.counts {
+        return part(counts);
     }
-    // a few cases need not reach them
-    if options.mask && options.counts.is_none() {
-        masks.reached()?;
+    // all masks take as long as they take
+    let begin = Instant::now();
+    while begin.elapsed() < Duration::from_secs(options.seconds) {
+        part([BATCH, PAIRS_PER_BATCH, BATCH])?;
     }
-    if options.write && options.counts.is_none() {
-        events.reached()?;
-    }
-    if options.part && options.counts.is_none() {
-        parts.reached()?;
-    }
-    Ok(())
+    // a few cases need not reach all
+    others.iter().try_for_each(|other| other.reached())
 }
 
 fn say(summary: &campaign::Summary, time: Duration, seed: u64) {

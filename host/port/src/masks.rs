@@ -1,5 +1,6 @@
 //! Requests for an address with a netmask in place of the prefix, on every
 //! boundary, against the model with masks.
+use crate::comparison::{Comparison, Tally};
 use crate::guarded::Guard;
 use crate::guarded::Lent::{Read, Write};
 use crate::library::{BYTE, WORD, named, reply};
@@ -10,66 +11,29 @@ use oracle::compare::{Case, Cut, Effect, effect, first_other};
 use oracle::generate::masks::Masks;
 use oracle::netmask::{self, Masked, place};
 use oracle::port::{self, Bytes};
-use std::collections::BTreeMap;
 
 /// The numbers in the order in which they are looked for, which must all be
 /// reached.
 const NUMBERS: [u32; 6] = [200, 201, 207, 202, 22, 203];
 
-pub struct Comparison {
+pub struct WithMask {
     masks: Masks,
     guard: Guard,
-    pub numbers: BTreeMap<u32, usize>,
-    pub calls: usize,
+    tally: Tally,
 }
 
-impl Comparison {
+impl WithMask {
     pub fn new(seed: u64) -> Self {
         Self {
             masks: Masks::new(seed),
             guard: Guard::default(),
-            numbers: BTreeMap::new(),
-            calls: 0,
-        }
-    }
-
-    /// Every mask by itself, or only the good ones and those beside them.
-    pub fn prefixes(all: bool) -> Result<(), String> {
-        let answer = |mask| reply(naskrefim::prefix(mask));
-        let other = match all {
-            true => netmask::differs(answer),
-            false => netmask::differs_beside(answer),
-        };
-        match other {
-            None => Ok(()),
-            Some(mask) => Err(format!(
-                "interface4_prefix({mask:#010x}): {:?} in place of {:?}",
-                answer(mask),
-                netmask::model(mask)
-            )),
-        }
-    }
-
-    /// The next `count` generated cases.
-    pub fn generated(&mut self, count: usize) -> Result<(), String> {
-        for _ in 0..count {
-            let case = self.masks.next_case();
-            self.one(&case)?;
-        }
-        Ok(())
-    }
-
-    /// All numbers came up.
-    pub fn reached(&self) -> Result<(), String> {
-        match NUMBERS.iter().find(|n| !self.numbers.contains_key(n)) {
-            None => Ok(()),
-            Some(number) => Err(format!("no request with a mask was refused by {number}")),
+            tally: Tally::default(),
         }
     }
 
     fn one(&mut self, case: &Case) -> Result<(), String> {
         let expected = effect(&mut Bytes(Masked), case);
-        *self.numbers.entry(expected.reply.number).or_default() += 1;
+        self.tally.given(expected.reply.number);
         let on_bytes = self.on_bytes(case);
         self.alike("on bytes", case, &on_bytes, &expected)?;
         if case.cut == Cut::default() {
@@ -89,7 +53,7 @@ impl Comparison {
         found: &Effect,
         right: &Effect,
     ) -> Result<(), String> {
-        self.calls += 1;
+        self.tally.calls += 1;
         let what = if found.reply != right.reply {
             Some(format!(
                 "replies {:?} in place of {:?}",
@@ -137,6 +101,36 @@ impl Comparison {
             state: port::bytes(&state),
             buffer: port::bytes(&buffer),
         }
+    }
+}
+
+impl Comparison for WithMask {
+    /// Every mask by itself, or only the good ones and those beside them.
+    fn swept(&mut self, all: bool) -> Result<(), String> {
+        let answer = |mask| reply(naskrefim::prefix(mask));
+        let other = match all {
+            true => netmask::differs(answer),
+            false => netmask::differs_beside(answer),
+        };
+        match other {
+            None => Ok(()),
+            Some(mask) => Err(format!(
+                "interface4_prefix({mask:#010x}): {:?} in place of {:?}",
+                answer(mask),
+                netmask::model(mask)
+            )),
+        }
+    }
+    fn next(&mut self) -> Result<(), String> {
+        let case = self.masks.next_case();
+        self.one(&case)
+    }
+    fn reached(&self) -> Result<(), String> {
+        self.tally.reached("request with a mask", &NUMBERS)
+    }
+    fn said(&self) -> String {
+        let Tally { numbers, calls } = &self.tally;
+        format!("with a netmask {numbers:?}; {calls} calls of the library")
     }
 }
 

@@ -1,5 +1,6 @@
 //! Messages through the library: each is read on every boundary, and what
 //! is read is performed there, on the state that a sequence has come to.
+use crate::comparison::{Comparison, Tally};
 use crate::records::event_words;
 use naskrefim::Addresses;
 use oracle::call::Reply;
@@ -9,78 +10,46 @@ use oracle::generate::messages::{MessageCase, Messages};
 use oracle::message::{Reader, call, read};
 use oracle::messages;
 use oracle::port::{Port, bytes, words};
-use std::collections::BTreeMap;
+
+/// The words of a state, the event rows and the last paper that the library
+/// says.
+const SIZES: (usize, usize, u32) = (9_541, 385, 9);
+/// The numbers of a message, which must all be reached.
+const NUMBERS: [u32; 5] = [0, 200, 204, 205, 206];
 
 /// What the library is met through.
 pub trait Boundary: Port + Reader + Writer {}
 impl<B: Port + Reader + Writer> Boundary for B {}
 
-/// How often messages were read and performed with each number.
-#[derive(Default)]
-pub struct Summary {
-    pub read: BTreeMap<u32, usize>,
-    pub performed: BTreeMap<u32, usize>,
-    /// Calls of the library.
-    pub calls: usize,
-}
-
 /// Messages that are compared on all boundaries.
-pub struct Comparison {
+pub struct Read {
+    boundaries: Vec<Box<dyn Boundary>>,
     messages: Messages,
-    seed: u64,
-    pub summary: Summary,
+    read: Tally,
+    performed: Tally,
 }
 
-impl Comparison {
-    pub fn new(seed: u64) -> Self {
+impl Read {
+    pub fn new(boundaries: Vec<Box<dyn Boundary>>, seed: u64) -> Self {
         Self {
+            boundaries,
             messages: Messages::new(seed),
-            seed,
-            summary: Summary::default(),
+            read: Tally::default(),
+            performed: Tally::default(),
         }
     }
 
-    /// Every size and length, and the library's own sizes.
-    pub fn swept(&mut self, boundaries: &mut [Box<dyn Boundary>]) -> Result<(), String> {
-        let sizes = naskrefim::sizes();
-        let found = (sizes.state_words, sizes.event_rows, sizes.paper);
-        if found != (9_541, 384, 8) {
-            return Err(format!("sizes: {found:?} in place of (9541, 384, 8)"));
-        }
-        let mut cases = messages::swept().into_iter();
-        cases.try_for_each(|case| self.one(boundaries, &case))
-    }
-
-    /// The next `count` generated messages.
-    pub fn generated(
-        &mut self,
-        boundaries: &mut [Box<dyn Boundary>],
-        count: usize,
-    ) -> Result<(), String> {
-        for _ in 0..count {
-            let case = self.messages.next_case();
-            self.one(boundaries, &case)
-                .map_err(|what| format!("{what}\n(seed {})", self.seed))?;
-        }
-        Ok(())
-    }
-
-    fn one(
-        &mut self,
-        boundaries: &mut [Box<dyn Boundary>],
-        case: &MessageCase,
-    ) -> Result<(), String> {
-        for boundary in boundaries.iter_mut() {
+    fn one(&mut self, case: &MessageCase) -> Result<(), String> {
+        for boundary in &mut self.boundaries {
             let reply = messages::against(&mut **boundary, case)?;
-            *self.summary.read.entry(reply.number).or_default() += 1;
-            self.summary.calls += 1;
+            self.read.called(reply.number);
         }
         let Ok((kind, request)) = read(&case.message, case.up) else {
             return Ok(());
         };
         let right = Case::new(call(kind, request, case.now), case.state.clone());
         let effect = expected(&right);
-        for boundary in boundaries {
+        for boundary in &mut self.boundaries {
             let mut request = vec![0; oracle::message::REQUEST_BYTES];
             let reply = boundary.read(&case.message, &mut request, case.up);
             let request = words(&request)[..reply.second as usize].to_vec();
@@ -89,18 +58,40 @@ impl Comparison {
                 ..right.clone()
             };
             against(&mut **boundary, &own, &effect).map_err(|found| found.to_string())?;
-            *self
-                .summary
-                .performed
-                .entry(effect.reply.number)
-                .or_default() += 1;
-            self.summary.calls += 2;
+            self.read.calls += 1;
+            self.performed.called(effect.reply.number);
         }
         if case.up <= 1 {
             typed(case, &effect)?;
-            self.summary.calls += 2;
+            self.performed.calls += 2;
         }
         Ok(())
+    }
+}
+
+impl Comparison for Read {
+    /// Every size and length, and the library's own sizes.
+    fn swept(&mut self, _all: bool) -> Result<(), String> {
+        let sizes = naskrefim::sizes();
+        let found = (sizes.state_words, sizes.event_rows, sizes.paper);
+        if found != SIZES {
+            return Err(format!("sizes: {found:?} in place of {SIZES:?}"));
+        }
+        messages::swept().iter().try_for_each(|case| self.one(case))
+    }
+    fn next(&mut self) -> Result<(), String> {
+        let case = self.messages.next_case();
+        self.one(&case)
+    }
+    fn reached(&self) -> Result<(), String> {
+        self.read.reached("message", &NUMBERS)
+    }
+    fn said(&self) -> String {
+        let calls = self.read.calls + self.performed.calls;
+        format!(
+            "messages read {:?}, performed {:?}; {calls} calls of the library",
+            self.read.numbers, self.performed.numbers
+        )
     }
 }
 

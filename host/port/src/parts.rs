@@ -1,5 +1,6 @@
 //! Listings taken in parts, with other calls between them, on every
 //! boundary, against the model of parts.
+use crate::comparison::{Comparison, Tally};
 use crate::guarded::Guard;
 use crate::guarded::Lent::{Read, Write};
 use crate::library::{BYTE, WORD, named, reply};
@@ -8,82 +9,81 @@ use crate::records::route_words;
 use naskrefim::{Addresses, Cursor, Part, bytes, words};
 use oracle::call::Reply;
 use oracle::campaign::smallest_state;
+use oracle::compare::{self, Case};
 use oracle::generate::parts::{Runs, Step};
+use oracle::json;
 use oracle::part::{self, Ask, CURSOR_WORDS, Lister, MARK, MOST, NUMBERS, PartCase, Take};
 use oracle::port::Bytes;
 use oracle::words::{ROUTE_WORDS, STATE_WORDS, change_count, halves};
-use oracle::{compare, json};
-use std::collections::BTreeMap;
 
-pub struct Comparison {
+pub struct InParts {
+    boundaries: Vec<Box<dyn Boundary>>,
+    listers: Vec<Box<dyn Lister<u8>>>,
     runs: Runs,
-    seed: u64,
-    /// How often parts gave each number; those with the mark, and the calls
-    /// between them.
-    pub numbers: BTreeMap<u32, usize>,
-    pub marked: usize,
-    pub between: usize,
-    /// Calls of the library.
-    pub calls: usize,
+    tally: Tally,
+    /// Parts with the mark, and the calls between parts.
+    marked: usize,
+    between: usize,
 }
 
-impl Comparison {
-    pub fn new(seed: u64) -> Self {
+impl InParts {
+    pub fn new(
+        boundaries: Vec<Box<dyn Boundary>>,
+        listers: Vec<Box<dyn Lister<u8>>>,
+        seed: u64,
+    ) -> Self {
         Self {
+            boundaries,
+            listers,
             runs: Runs::new(seed),
-            seed,
-            numbers: BTreeMap::new(),
+            tally: Tally::default(),
             marked: 0,
             between: 0,
-            calls: 0,
         }
     }
 
-    /// The next `count` steps of runs.
-    pub fn generated(
-        &mut self,
-        boundaries: &mut [Box<dyn Boundary>],
-        listers: &mut [Box<dyn Lister<u8>>],
-        count: usize,
-    ) -> Result<(), String> {
-        for _ in 0..count {
-            match self.runs.next_step()? {
-                Step::Call(case) => {
-                    self.between += 1;
-                    let expected = compare::expected(&case);
-                    for boundary in &mut *boundaries {
-                        self.calls += 1;
-                        compare::against(&mut **boundary, &case, &expected).map_err(|other| {
-                            format!("{other}\n(between parts, seed {})", self.seed)
-                        })?;
-                    }
-                }
-                Step::Part(case) => self.part(listers, &case)?,
-            }
+    fn call(&mut self, case: &Case) -> Result<(), String> {
+        self.between += 1;
+        let expected = compare::expected(case);
+        for boundary in &mut self.boundaries {
+            self.tally.calls += 1;
+            compare::against(&mut **boundary, case, &expected)
+                .map_err(|other| format!("{other}\n(between parts)"))?;
         }
         Ok(())
     }
 
-    fn part(&mut self, listers: &mut [Box<dyn Lister<u8>>], case: &PartCase) -> Result<(), String> {
+    fn part(&mut self, case: &PartCase) -> Result<(), String> {
         let expected = part::expected(case);
-        *self.numbers.entry(expected.reply.number).or_default() += 1;
+        self.tally.given(expected.reply.number);
         self.marked += usize::from(expected.reply.present == MARK);
-        for lister in listers {
-            self.calls += 1;
-            part::against(&mut **lister, case, &expected).map_err(|what| {
-                let small = smallest(&mut **lister, case);
-                format!("{what}\n{small}\n(seed {})", self.seed)
-            })?;
+        for lister in &mut self.listers {
+            self.tally.calls += 1;
+            part::against(&mut **lister, case, &expected)
+                .map_err(|what| format!("{what}\n{}", smallest(&mut **lister, case)))?;
         }
         Ok(())
     }
+}
 
-    /// All numbers came up.
-    pub fn reached(&self) -> Result<(), String> {
-        match NUMBERS.iter().find(|n| !self.numbers.contains_key(n)) {
-            None => Ok(()),
-            Some(number) => Err(format!("no part of a listing gave {number}")),
+impl Comparison for InParts {
+    /// The next step of a run.
+    fn next(&mut self) -> Result<(), String> {
+        match self.runs.next_step()? {
+            Step::Call(case) => self.call(&case),
+            Step::Part(case) => self.part(&case),
         }
+    }
+    fn reached(&self) -> Result<(), String> {
+        self.tally.reached("part of a listing", &NUMBERS)
+    }
+    fn said(&self) -> String {
+        let Tally { numbers, calls } = &self.tally;
+        format!(
+            "parts of listings {numbers:?}, {} with the mark, and {} calls between them; {calls} calls \
+             of the library",
+            self.marked, self.between
+        )
     }
 }
 

@@ -210,6 +210,8 @@ pub fn event(words: &[u32]) -> Option<Event> {
                 _ => Event::DelRoute4(route),
             })
         }
+        5 => Some(Event::LinkDown),
+        6 => Some(Event::IpDisabled),
         _ => None,
     }
 }
@@ -220,6 +222,8 @@ pub fn event_words(event: &Event) -> Vec<u32> {
         Event::DelAddr4(a) => (vec![2, 0], address_words(a)),
         Event::NewRoute4(r, flags) => (vec![3, u32::from(*flags)], route_words(r)),
         Event::DelRoute4(r) => (vec![4, 0], route_words(r)),
+        Event::LinkDown => (vec![5], vec![]),
+        Event::IpDisabled => (vec![6], vec![]),
     };
     words.extend(row);
     words.resize(34, 0);

@@ -1,5 +1,5 @@
 -- `call_change::expire` meets its contract.
-use Rattle.std.proofs.Common.{refl, rules, length, leb-true}
+use Rattle.std.proofs.Common.{refl, rules, arith, length, leb-true}
 use Rattle.definition.specs.Reference.Addresses.{goes}
 use Rattle.definition.specs.Reference.Removal.{expire}
 use Rattle.definition.specs.Preservation.Shrinking.{potential}
@@ -29,4 +29,4 @@ unfolding expire_call
 returns c =
     let p = passed (semantics (Call.expire (length c.args.events.now) c.args.clock c.args.allowance)).checks c.args.state.now (c.checked.ensures.refuses _ c.fit_expire.ensures) c.in_ok-checked.was in
     counts-answers (Call.expire (length c.args.events.now) c.args.clock c.args.allowance) (goes (expire c.args.allowance c.args.clock (state_of c.args.state.now))) p refl (some-rule c.args.state.now) c.changed.ensures tt
-    (λ a b d h m. whole_goes (state_of c.args.state.now) (expire-roomy c.args.allowance c.args.clock (state_of c.args.state.now) p.good) (search (rules, m)) (search (rules, m, fitting p h (leb-true event_room (length c.args.events.now) p.room))))
+    (λ a b d h m. whole_goes (state_of c.args.state.now) (expire-roomy c.args.allowance c.args.clock (state_of c.args.state.now) p.good) (search (rules, m)) (grind (arith, m, fitting p h (leb-true event_room (length c.args.events.now) p.room))))

@@ -1,6 +1,6 @@
 -- Row counts (document 02, Paper 8): after every call of every run they are true, a wrong one is met by 201, and what they are in literals.
 -- Assumes nothing.
-use Rattle.std.specs.Prelude.{ℕ, ◌+◌, ◌-◌, ◌≤◌, ◌<◌, ◌≡◌, ◌↔◌, refl, Bool, true, false, List, [], ◌∷◌, ◌++◌, map, eqb, ltb, length, get_or, take, drop}
+use Rattle.std.specs.Prelude.{ℕ, ◌+◌, ◌-◌, ◌≤◌, ◌<◌, ◌≡◌, ◌↔◌, refl, Bool, true, false, List, [], ◌∷◌, ◌++◌, map, eqb, ltb, length, get_or, drop}
 use Rattle.std.proofs.Common.{sym, ap, ◌∙◌, arith, length-drop, get_or-drop, get_or-append-add, ext_get_or, eqb-true, eq-eqb}
 use Rattle.std.proofs.Math.ListN.{get_or-append, length-map}
 use Rattle.std.proofs.lemmas.Bool.{ltb-true, ltb-false}
@@ -12,8 +12,8 @@ use Rattle.lists.specs.Put.{get_d_zeros}
 use Rattle.layout.specs.Route.{table}
 use Rattle.definition.specs.State.{State}
 use Rattle.definition.specs.Words.{table_limit, row_counts_at, state_size, encode, well_formed, base, state_of, rows_of_table, row_counts, formed}
-use Rattle.definition.specs.Call.{Call, Reply}
-use Rattle.definition.specs.Step.{Result, Checks, checked, refuses, event_room, semantics, step}
+use Rattle.definition.specs.Call.{Call}
+use Rattle.definition.specs.Step.{Result, checked, refuses, event_room, semantics, step}
 use Rattle.definition.specs.Computing.{computing}
 use Rattle.definition.specs.Examples.{ip, up, del_v4}
 use Rattle.definition.specs.Preservation.Encode.{encodable, good-decode, length-row_counts}

@@ -10,7 +10,7 @@ use Rattle.lists.specs.Count.{length-keep, count_most, length-remove_first-most,
 use Rattle.layout.specs.Address.{local}
 use Rattle.layout.specs.Route as Route
 use Rattle.layout.specs.Route.{table}
-use Rattle.layout.specs.Event.{new_addr4, del_addr4, new_route4, del_route4}
+use Rattle.layout.specs.Event.{new_addr4, del_addr4, new_route4, del_route4, link_down, ip_disabled}
 use Rattle.definition.specs.State.{State, Sizes, Out, sizes, most, becomes, stays, also, through, with_addresses, with_routes}
 use Rattle.definition.specs.Words.{within}
 use Rattle.definition.specs.Reference.Lookup.{main_table, local_table, local_kind, listed, local4}
@@ -75,13 +75,13 @@ fewer_routes st l h = record { of_addresses = omega arith; of_routes = h; of_tab
 fewer_addresses : (st : State) (l : List Row) → length l ≤ length st.addresses → Covers (sizes (with_addresses l st)) (sizes st)
 fewer_addresses st l h = record { of_addresses = h; of_routes = omega arith; of_tables = omega arith }
 
-dropped_under : (p : Row → Bool) (st : State) → Under st (stays (with_routes (keep p st.routes) st))
-dropped_under p st =
-    becomes-under st (with_routes (keep p st.routes) st) [] (fewer_routes st (keep p st.routes) (omega (arith, length-keep p st.routes, count_most p st.routes)))
+dropped_under : (p : Row → Bool) (rows : List Row) (st : State) → Under st (becomes (with_routes (keep p st.routes) st) rows)
+dropped_under p rows st =
+    becomes-under st (with_routes (keep p st.routes) st) rows (fewer_routes st (keep p st.routes) (omega (arith, length-keep p st.routes, count_most p st.routes)))
 
 pub down-under : (st : State) → Under st (down st)
 unfolding down
-down-under st = dropped_under (λ r. not (eqb (Route.device r) 1 && not (eqb (Route.scope r) host_scope))) st
+down-under st = dropped_under (λ r. not (eqb (Route.device r) 1 && not (eqb (Route.scope r) host_scope))) (link_down ∷ []) st
 
 removed-under : (p : Row → Bool) (o : Option Row) (st : State) → Under st (removed p o st)
 removed-under p none st = stays-under st
@@ -102,7 +102,7 @@ fall-under a routes st =
 disable-under : (st : State) → Under st (disable st)
 unfolding disable
 disable-under st =
-    cond-case (Under st) (eqb (length st.addresses) 0) (λ e. dropped_under (λ r. not (eqb (Route.device r) 1)) st) (λ e. stays-under st)
+    cond-case (Under st) (eqb (length st.addresses) 0) (λ e. dropped_under (λ r. not (eqb (Route.device r) 1)) (ip_disabled ∷ []) st) (λ e. stays-under st)
 
 pub remove_one-under : (a : Row) (st : State) → Under st (remove_one a st)
 unfolding remove_one

@@ -212,7 +212,7 @@ kept c w long well =
 
 -- ---- what is emitted, whatever the words
 pub record Events (rows : List Row) : Type 0 where
-  pub few : length rows ≤ 384
+  pub few : length rows ≤ 385
   pub size : sized 34 rows ≡ true
 
 no-events : Events []

@@ -9,15 +9,15 @@ use Rattle.layout.specs.Address.{fit_address}
 use Rattle.layout.specs.Address as Address
 use Rattle.layout.specs.Route.{fit_route, table}
 use Rattle.layout.specs.Route as Route
-use Rattle.layout.specs.Event.{new_addr4, new_route4, del_route4}
+use Rattle.layout.specs.Event.{new_addr4, new_route4, del_route4, bare}
 use Rattle.layout.specs.Request.{fit_add_v4, replace_asked, up_at_add_v4}
-use Rattle.definition.specs.State.{State, becomes, stays, with_addresses, with_routes}
+use Rattle.definition.specs.State.{State, becomes, with_addresses, with_routes}
 use Rattle.definition.specs.Reference.Insert.{create4, list_table, insert4, Inserted, placed, nothing, inserted, kernel_add4, kernel_del4, matches, removed, kernel_flags}
 use Rattle.definition.specs.Reference.Addresses.{Outcome, candidates, prefix_route, install, place4, yields, new_address, changed_to, moved, reroutes, change_v4, added_over, add_v4, asked, as_secondary, same_address, same_subnet, loopback, out_of, up, down, host_scope}
 use Rattle.definition.specs.Preservation.Fit.{Invariant, fields_address}
 use Rattle.definition.specs.Preservation.Routes.{keep-fit, remove_first-fit, Puts, insert_fit, list_table-fit}
 use Rattle.definition.specs.Preservation.Keeps.{Kept, Keeps, KeptOutcome, KeepsOutcome, fit-addresses, fit-routes, fit-tables, becomes-kept, stays_keeps, also_kept, through_keeps}
-use Rattle.definition.specs.Preservation.Rows.{new_addr4-emitted, new_route4-emitted, del_route4-emitted, asked-fit, as_secondary-fit, changed_to-fit, candidates-fit, subnet_fit}
+use Rattle.definition.specs.Preservation.Rows.{new_addr4-emitted, new_route4-emitted, del_route4-emitted, bare-emitted, asked-fit, as_secondary-fit, changed_to-fit, candidates-fit, subnet_fit}
 
 -- ---- routes
 pub create4-fit : (t : ℕ) (st : State) → Invariant st → Invariant (create4 t st)
@@ -49,9 +49,10 @@ pub kernel_del4_keeps : (p : Row) → Keeps (kernel_del4 p)
 unfolding kernel_del4
 kernel_del4_keeps p = record { kept = λ st f. removed-kept (matches p) (first (matches p) st.routes) st (λ r e. all_first fit_route (matches p) st.routes r f.of_routes.each e) f }
 
--- some of the routes go
-pub dropped_kept : (p : Row → Bool) (st : State) → Invariant st → Kept (stays (with_routes (keep p st.routes) st))
-dropped_kept p st f = stays_keeps.kept (with_routes (keep p st.routes) st) (fit-routes st (keep p st.routes) f (keep-fit p st.routes f.of_routes))
+-- some of the routes go, with one event for all
+pub dropped_kept : (p : Row → Bool) (kind : ℕ) (st : State) → Invariant st → Kept (becomes (with_routes (keep p st.routes) st) (bare kind ∷ []))
+dropped_kept p kind st f =
+    becomes-kept (with_routes (keep p st.routes) st) (bare kind ∷ []) (bare-emitted kind) (fit-routes st (keep p st.routes) f (keep-fit p st.routes f.of_routes))
 
 -- ---- addresses
 pub install_keeps : (routes : List Row) → all fit_route routes ≡ true → Keeps (install routes)
@@ -145,4 +146,4 @@ up_keeps now =
 pub down_keeps : Keeps down
 unfolding down
 down_keeps =
-    record { kept = λ st f. dropped_kept (λ r. not (eqb (Route.device r) 1 && not (eqb (Route.scope r) host_scope))) st f }
+    record { kept = λ st f. dropped_kept (λ r. not (eqb (Route.device r) 1 && not (eqb (Route.scope r) host_scope))) 5 st f }

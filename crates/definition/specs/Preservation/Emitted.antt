@@ -1,4 +1,4 @@
--- What a changing call emits: at most 384 rows of 34 words, whatever words it is handed.
+-- What a changing call emits: at most 385 rows of 34 words, whatever words it is handed.
 -- Assumes nothing.
 use Rattle.std.specs.Prelude.{ℕ, ◌+◌, ◌≤◌, ◌≡◌, refl, Bool, true, not, ◌&&◌, eqb, length}
 use Rattle.std.proofs.Math.Option.{Option, none, some}
@@ -24,9 +24,9 @@ use Rattle.definition.specs.Preservation.Growing.{Adds, new_address-adds, up-add
 use Rattle.definition.specs.Preservation.Shrinking.{Drops, live, remove_v4_drops, expire_drops}
 
 -- ---- few rows
--- a step that keeps to the limits emits at most 384 rows
+-- a step that keeps to the limits emits at most 385 rows
 pub record EventBound (o : Out) : Type 0 where
-  pub few : within o.peak ≡ true → length o.emitted ≤ 384
+  pub few : within o.peak ≡ true → length o.emitted ≤ 385
 
 abbrev pub EventBoundOutcome : Outcome → Type 0
 EventBoundOutcome (goes o) = EventBound o

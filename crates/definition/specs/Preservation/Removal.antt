@@ -33,7 +33,7 @@ unfolding disable
 disable_keeps =
     record {
       kept = λ st f.
-          cond-case Kept (eqb (length st.addresses) 0) (λ e. dropped_kept (λ r. not (eqb (Route.device r) 1)) st f) (λ e. stays_keeps.kept st f);
+          cond-case Kept (eqb (length st.addresses) 0) (λ e. dropped_kept (λ r. not (eqb (Route.device r) 1)) 6 st f) (λ e. stays_keeps.kept st f);
     }
 
 pub remove_one_keeps : (a : Row) → fit_address a ≡ true → Keeps (remove_one a)

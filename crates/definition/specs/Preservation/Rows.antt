@@ -15,7 +15,7 @@ use Rattle.layout.specs.Address.{fit_address, prefix, set_flags, set_proto, set_
 use Rattle.layout.specs.Spelled.{spelled, by-words}
 use Rattle.layout.specs.Route as Route
 use Rattle.layout.specs.Route.{fit_route, dst, len, kind}
-use Rattle.layout.specs.Event.{new_addr4, del_addr4, new_route4, del_route4}
+use Rattle.layout.specs.Event.{new_addr4, del_addr4, new_route4, del_route4, bare}
 use Rattle.layout.specs.Request.{valid_asked, preferred_asked, fit_add_v4, fit_add_route4, metrics_error}
 use Rattle.definition.specs.Reference.Lookup.{local_kind, broadcast_kind}
 use Rattle.definition.specs.Reference.Addresses.{names_broadcast, own_network, link_scope, host_scope, primary_of, kernel_route, local_route, prefix_route, up_routes, candidates, only, set_life, asked, as_secondary, changed_to}
@@ -135,6 +135,10 @@ new_route4-emitted r flags h = rw (length-route r h)
 pub del_route4-emitted : (r : Row) → fit_route r ≡ true → sized 34 (del_route4 r ∷ []) ≡ true
 unfolding del_route4
 del_route4-emitted r h = rw (length-route r h)
+
+pub bare-emitted : (kind : ℕ) → sized 34 (bare kind ∷ []) ≡ true
+unfolding bare
+bare-emitted kind = rw (length-zeros 33)
 
 -- ---- the route that a request asks for
 then-zero : (a b : ℕ) → then a b ≡ 0 → (a ≡ 0) × (b ≡ 0)

@@ -1,7 +1,8 @@
--- How many rows a removing step emits: no more than the routes and addresses shrink, an address counting twice until it is deprecated.
+-- How many rows a removing step emits: no more than the routes and addresses shrink, an address counting twice until it is deprecated,
+-- and the last one once more, for the event of what goes with it.
 -- Assumes nothing.
-use Rattle.std.specs.Prelude.{ℕ, zero, suc, ◌+◌, ◌-◌, ◌*◌, ◌/◌, ◌%◌, ◌^◌, ◌≤◌, ◌≡◌, refl, Bool, true, cond, not, ◌&&◌, List, [], ◌∷◌, ◌++◌, map, eqb, length}
-use Rattle.std.proofs.Common.{sym, ap, ◌∙◌, arith, length-append, get_or-set_same, eq-eqb}
+use Rattle.std.specs.Prelude.{ℕ, zero, suc, min, ◌+◌, ◌-◌, ◌*◌, ◌/◌, ◌%◌, ◌^◌, ◌≤◌, ◌≡◌, refl, Bool, true, cond, not, ◌&&◌, List, [], ◌∷◌, ◌++◌, map, eqb, length}
+use Rattle.std.proofs.Common.{sym, ap, ◌∙◌, arith, length-append, get_or-set_same, eqb-true, eq-eqb}
 use Rattle.std.proofs.Math.Option.{Option, none, some}
 use Rattle.std.proofs.lemmas.List.{length-map}
 use Rattle.lists.specs.Lists.{Row, any, keep, first, until, onward, remove_first, eq_row}
@@ -12,7 +13,7 @@ use Rattle.layout.specs.Flags.{has_bit, set_bit, clear_bit}
 use Rattle.layout.specs.Address.{fit_address, deprecated, secondary, local, flags}
 use Rattle.layout.specs.Route as Route
 use Rattle.layout.specs.Event.{new_addr4, del_addr4}
-use Rattle.definition.specs.State.{State, Out, becomes, stays, also, through, with_addresses, with_routes}
+use Rattle.definition.specs.State.{State, Out, becomes, stays, also, through, with_addresses}
 use Rattle.definition.specs.Reference.Lookup.{main_table, local_kind, listed, local4}
 use Rattle.definition.specs.Reference.Insert.{kernel_del4, matches, removed}
 use Rattle.definition.specs.Reference.Addresses.{same_subnet}
@@ -59,13 +60,18 @@ fall_away a routes st =
     (λ e. through_away kernel_del4 (cond (listed main_table st) (keep (dependent_on (local a)) st.routes) []) kernel_del4_away st)
     (λ e. stays_away st)
 
-dropped_away : (p : Row → Bool) (st : State) → Away st (stays (with_routes (keep p st.routes) st))
-dropped_away p st = record { same_addresses = refl; shrunk = omega (arith, length-keep p st.routes, count_most p st.routes) }
+-- the event of what goes with the last address is emitted only where none is left
+pub record Disables (st : State) (o : Out) : Type 0 where
+  pub same_addresses : o.state.addresses ≡ st.addresses
+  pub shrunk : length o.emitted + length o.state.routes + min 1 (length st.addresses) ≤ suc (length st.routes)
 
-pub disable_away : (st : State) → Away st (disable st)
+pub disable_disables : (st : State) → Disables st (disable st)
 unfolding disable
-disable_away st =
-    cond-case (Away st) (eqb (length st.addresses) 0) (λ e. dropped_away (λ r. not (eqb (Route.device r) 1)) st) (λ e. stays_away st)
+disable_disables st =
+    let goes : Row → Bool = λ r. not (eqb (Route.device r) 1) in
+    cond-case (Disables st) (eqb (length st.addresses) 0)
+    (λ e. record { same_addresses = refl; shrunk = omega (arith, eqb-true (length st.addresses) 0 e, length-keep goes st.routes, count_most goes st.routes) })
+    (λ e. record { same_addresses = refl; shrunk = omega arith })
 
 -- ---- steps that take addresses away or mark them
 -- not marked as deprecated
@@ -73,7 +79,7 @@ abbrev pub live : Row → Bool
 live a = not (deprecated a)
 
 abbrev pub potential : State → ℕ
-potential st = length st.routes + (length st.addresses + count live st.addresses)
+potential st = length st.routes + (length st.addresses + count live st.addresses) + min 1 (length st.addresses)
 
 pub record Drops (st : State) (o : Out) : Type 0 where
   pub lighter : length o.emitted + potential o.state ≤ potential st
@@ -97,20 +103,34 @@ also_removes a st o g h k =
       shrunk = omega (arith, h.shrunk, later.shrunk, length-append o.emitted (g o.state).emitted);
     }
 
-pub remove_one_removes : (a : Row) (st : State) → RemovesOne a st (remove_one a st)
+-- the whole removal, with what goes with the last address
+pub record Removes (a : Row) (st : State) (o : Out) : Type 0 where
+  pub rest : o.state.addresses ≡ remove_first (eq_row a) st.addresses
+  pub shrunk : length o.emitted + length o.state.routes + min 1 (length o.state.addresses) ≤ suc (suc (length st.routes))
+
+then_disabled : (a : Row) (st : State) (o : Out) → RemovesOne a st o → Removes a st (also o disable)
+unfolding also
+then_disabled a st o h =
+    let later = disable_disables o.state in
+    let n : length (disable o.state).state.addresses ≡ length o.state.addresses = ap length later.same_addresses in
+    record {
+      rest = later.same_addresses ∙ h.rest;
+      shrunk = omega (arith, h.shrunk, later.shrunk, length-append o.emitted (disable o.state).emitted);
+    }
+
+pub remove_one_removes : (a : Row) (st : State) → Removes a st (remove_one a st)
 unfolding remove_one
 remove_one_removes a st =
     let remaining : List Row = remove_first (eq_row a) st.addresses in
     let routes : List Row = unwanted st.addresses remaining a in
-    also_removes a st _ disable
+    then_disabled a st _
     (also_removes a st _ (fall a routes)
     (also_removes a st (becomes (with_addresses remaining st) (del_addr4 a ∷ [])) (through kernel_del4 routes)
     (record { rest = refl; shrunk = omega arith }) (through_away kernel_del4 routes kernel_del4_away))
     (fall_away a routes))
-    disable_away
 
 -- an address that is there
-pub removes_drops : (a : Row) (st : State) (o : Out) → any (eq_row a) st.addresses ≡ true → RemovesOne a st o → Drops st o
+pub removes_drops : (a : Row) (st : State) (o : Out) → any (eq_row a) st.addresses ≡ true → Removes a st o → Drops st o
 removes_drops a st o h r =
     let n : length o.state.addresses ≡ length (remove_first (eq_row a) st.addresses) = ap length r.rest in
     let c : count live o.state.addresses ≡ count live (remove_first (eq_row a) st.addresses) = ap (count live) r.rest in

@@ -8,9 +8,9 @@ use Rattle.layout.specs.Flags.{clear_bit, set_bit}
 use Rattle.layout.specs.Address as Address
 use Rattle.layout.specs.Address.{local, address, prefix, broadcast_present, scope, flags, set_flags, set_proto, set_priority, set_valid, set_preferred, set_created, set_changed, secondary, secondary_bit, deprecated_bit, permanent_bit, no_prefix_route}
 use Rattle.layout.specs.Route as Route
-use Rattle.layout.specs.Event.{new_addr4}
+use Rattle.layout.specs.Event.{new_addr4, link_down}
 use Rattle.layout.specs.Request.{valid_asked, preferred_asked, replace_asked, up_at_add_v4}
-use Rattle.definition.specs.State.{State, Out, becomes, silently, stays, also, through, with_addresses, with_routes}
+use Rattle.definition.specs.State.{State, Out, becomes, stays, also, through, with_addresses, with_routes}
 use Rattle.definition.specs.Reference.Lookup.{local_table, local_kind, broadcast_kind}
 use Rattle.definition.specs.Reference.Insert.{kernel_add4, kernel_del4}
 
@@ -240,7 +240,8 @@ up now st =
     also (out_of (add_v4 loopback now st))
     (λ later. through (λ a. install (candidates later.addresses Bool.true a)) later.addresses later)
 
--- the routes through the device go, but for those of host scope, without a word [down; fib_sync_down_dev]
+-- the routes through the device go, but for those of host scope, with one event for all [down; fib_sync_down_dev]
 unfoldable pub down : State → Out
 down st =
-    silently (with_routes (keep (λ r. not (eqb (Route.device r) 1 && not (eqb (Route.scope r) host_scope))) st.routes) st)
+    becomes (with_routes (keep (λ r. not (eqb (Route.device r) 1 && not (eqb (Route.scope r) host_scope))) st.routes) st)
+    (link_down ∷ [])

@@ -7,9 +7,9 @@ use Rattle.layout.specs.Flags.{set_bit}
 use Rattle.layout.specs.Address.{local, prefix, flags, set_flags, secondary, permanent, deprecated, deprecated_bit, label_length, label, valid, preferred, changed}
 use Rattle.layout.specs.Route as Route
 use Rattle.layout.specs.Route.{table, dst, len, kind}
-use Rattle.layout.specs.Event.{new_addr4, del_addr4}
+use Rattle.layout.specs.Event.{new_addr4, del_addr4, ip_disabled}
 use Rattle.layout.specs.Request.{local_present, local_given, address_present, address_given, prefix_given, label_present, label_length_given, label_given}
-use Rattle.definition.specs.State.{State, Out, becomes, silently, stays, also, through, with_addresses, with_routes}
+use Rattle.definition.specs.State.{State, Out, becomes, stays, also, through, with_addresses, with_routes}
 use Rattle.definition.specs.Reference.Lookup.{main_table, local_kind, broadcast_kind, listed, local4}
 use Rattle.definition.specs.Reference.Insert.{kernel_del4}
 use Rattle.definition.specs.Reference.Addresses.{covers, same_subnet, kernel_route, local_route, up_routes, primary_of, candidates, Outcome, goes, refused}
@@ -62,9 +62,9 @@ fall a routes st = cond (dependents_fall a routes st) (through kernel_del4 (depe
 abbrev pub deviceless : State → State
 deviceless st = with_routes (keep (λ r. not (eqb (Route.device r) 1)) st.routes) st
 
--- the last address takes every route through the device with it, without a word [the end of remove_v4; fib_disable_ip]
+-- the last address takes every route through the device with it, with one event for all [the end of remove_v4; fib_disable_ip]
 unfoldable pub disable : State → Out
-disable st = cond (eqb (length st.addresses) 0) (silently (deviceless st)) (stays st)
+disable st = cond (eqb (length st.addresses) 0) (becomes (deviceless st) (ip_disabled ∷ [])) (stays st)
 
 -- one address goes: the first row equal to it, emitted; then its routes that none wants; then what falls with it [the loop of remove_v4]
 unfoldable pub remove_one : Row → State → Out

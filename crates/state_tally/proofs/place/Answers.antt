@@ -1,4 +1,3 @@
-use Rattle.std.proofs.Common.{sym}
 use Rattle.state_tally.specs.Tally.{placed-search}
 use Rattle.state_tally.proofs.place.Goals as goal
 

@@ -10,7 +10,7 @@ pub const FAULTS: &[Fault] = &[
         "not counted: a refused add_route4 that listed its table",
         |c, s, b| recount(c, s, b, |made| made.unless(made.refused())),
     ),
-    Fault::new("not counted: a down, which tells nothing", |c, s, b| {
+    Fault::new("not counted: a down", |c, s, b| {
         recount(c, s, b, |made| made.unless(matches!(made.call, Call::Down)))
     }),
     Fault::new("not counted: an expire that only marks", |c, s, b| {

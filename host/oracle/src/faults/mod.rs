@@ -4,9 +4,11 @@ mod answers;
 pub mod counts;
 mod effects;
 pub mod events;
+mod marks;
 pub mod masks;
 pub mod messages;
 pub mod parts;
+pub mod recordings;
 mod refusals;
 pub mod row_counts;
 
@@ -74,6 +76,7 @@ fn all() -> Vec<Fault> {
         refusals::FAULTS,
         counts::FAULTS,
         row_counts::FAULTS,
+        marks::FAULTS,
     ]
     .concat()
 }

@@ -21,7 +21,7 @@ pub const FAULTS: &[Fault] = &[
     Fault::new("every request to add a route denied", denied),
     Fault::new("202 before 201", request_first),
     Fault::new("201 before 200", state_first),
-    Fault::new("383 event rows suffice", short_buffer),
+    Fault::new("384 event rows suffice", short_buffer),
     Fault::part_words("one to three bytes more not looked at"),
     Fault::new("unused words not looked at", unused_unchecked),
     Fault::new("the order of routes not looked at", order_unchecked),

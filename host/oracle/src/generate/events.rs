@@ -7,6 +7,7 @@ use super::runs::Run;
 use super::states;
 use crate::event::{Given, MESSAGE_BYTES, event};
 use crate::port::bytes;
+use crate::recording::{IP_DISABLED, LINK_DOWN};
 use crate::rng::Rng;
 use crate::words::{self, ADDRESS_WORDS};
 
@@ -75,10 +76,14 @@ pub const DAMAGES: [(&str, u32, Damage); 6] = [
     }),
 ];
 
+/// What events 5 and 6 of a run are called, which are told like all others.
+const NO_MESSAGE: &str = "an event without a message";
+
 /// The names of all damage.
 pub fn damages() -> impl Iterator<Item = (&'static str, u32)> {
     let rows = ADDRESS_CLAUSES.iter().map(|(name, _)| (*name, 201));
     let rows = rows.chain(ROUTE_CLAUSES.iter().map(|(name, _)| (*name, 201)));
+    let rows = rows.chain([(NO_MESSAGE, 201)]);
     rows.chain(DAMAGES.iter().map(|(name, number, _)| (*name, *number)))
 }
 
@@ -110,7 +115,11 @@ impl Events {
 
     pub fn next_case(&mut self) -> EventCase {
         let (row, mut damage) = match self.rng.below(8) {
-            0..3 => (self.of_run(), Vec::new()),
+            0..3 => {
+                let told = self.of_run();
+                let mark = matches!(told[0], LINK_DOWN | IP_DISABLED);
+                (told, if mark { vec![NO_MESSAGE] } else { Vec::new() })
+            }
             3..6 => (direct(&mut self.rng), Vec::new()),
             _ => self.damaged_row(),
         };

@@ -10,6 +10,7 @@ pub mod message_damage;
 pub mod messages;
 pub mod parts;
 pub mod pools;
+pub mod recordings;
 pub mod requests;
 pub mod runs;
 pub mod states;

@@ -5,15 +5,12 @@ use super::kinds;
 use crate::call::Reply;
 use crate::faults::parts::{FAULTS, PartFault};
 use crate::generate::parts::{Runs, Step};
-use crate::listed::{self, Wanted};
+use crate::listed::Source;
 use crate::part::{CURSOR_WORDS, Lister, MOST, Model, PartCase, Take};
 use crate::port::bytes;
 use crate::vectors::check;
 use crate::words::STATE_WORDS;
-use std::collections::BTreeMap;
 
-/// "NKP1" in the file's first four bytes.
-const MAGIC: u32 = u32::from_le_bytes(*b"NKP1");
 /// The words that the replayer holds of a state, of a listing's buffer and
 /// of a cursor, and what each of the buffer's holds.
 const HELD: usize = STATE_WORDS + 1;
@@ -24,7 +21,7 @@ const PATTERN: u32 = 0xa5a5_a5a5;
 /// of the most rows.
 const SMALL: usize = 400;
 
-struct Record {
+pub struct Record {
     case: PartCase,
     /// The state's words, with zeros behind them.
     held: Vec<u32>,
@@ -97,41 +94,31 @@ impl Record {
     }
 }
 
-/// Writes the list and what is to be printed into `folder`.
-pub fn write(count: usize, seed: u64, folder: &str) -> Result<(), String> {
-    let records = records(count, seed)?;
-    let total = records.len();
-    let mut list = vec![MAGIC, seed as u32, total as u32];
-    let mut lines = Vec::new();
-    let mut numbers: BTreeMap<u32, usize> = BTreeMap::new();
-    let mut before = vec![0; HELD];
-    for record in &records {
-        list.extend(record.words(&before));
-        before.clone_from(&record.held);
-        let (reply, line) = record.answer(&mut Model);
-        lines.push(line);
-        *numbers.entry(reply.number).or_default() += 1;
-    }
-    let list = bytes(&list);
-    listed::write("parts", folder, &list, &lines)?;
-    println!(
-        "part-list: {total} parts in {} bytes, seed {seed}; by number: {numbers:?}",
-        list.len()
-    );
-    Ok(())
+/// Parts taken in runs.
+pub struct Parts {
+    runs: Runs,
+    /// The state's words of the record before.
+    before: Vec<u32>,
 }
 
-fn records(count: usize, seed: u64) -> Result<Vec<Record>, String> {
-    let wanted = Wanted {
-        what: "parts",
-        count,
-        faults: FAULTS,
-        name: |fault| fault.name,
-        but: &[],
-    };
-    let mut runs = Runs::new(seed);
-    let next = || {
-        let Ok(Step::Part(case)) = runs.next_step() else {
+impl Source for Parts {
+    const NAMES: [&'static str; 2] = ["part", "parts"];
+    const MAGIC: [u8; 4] = *b"NKP1";
+    const FAULTS: &'static [PartFault] = FAULTS;
+    type Record = Record;
+    type Fault = PartFault;
+
+    fn new(seed: u64) -> Self {
+        Self {
+            runs: Runs::new(seed),
+            before: vec![0; HELD],
+        }
+    }
+    fn name(fault: &PartFault) -> &'static str {
+        fault.name
+    }
+    fn next(&mut self) -> Option<(Record, Vec<String>)> {
+        let Ok(Step::Part(case)) = self.runs.next_step() else {
             return None;
         };
         let record = Record::new(case)?;
@@ -141,10 +128,16 @@ fn records(count: usize, seed: u64) -> Result<Vec<Record>, String> {
             shown.extend(kinds(&record.case, reply).map(ToString::to_string));
         }
         Some((record, shown))
-    };
-    listed::chosen(&wanted, Vec::new(), next, finds)
-}
-
-fn finds(record: &Record, mut fault: PartFault) -> bool {
-    record.answer(&mut fault).1 != record.answer(&mut Model).1
+    }
+    fn bytes(&mut self, record: &Record) -> Vec<u8> {
+        let words = record.words(&self.before);
+        self.before.clone_from(&record.held);
+        bytes(&words)
+    }
+    fn right(record: &Record) -> (Reply, String) {
+        record.answer(&mut Model)
+    }
+    fn wrong(record: &Record, mut fault: PartFault) -> (Reply, String) {
+        record.answer(&mut fault)
+    }
 }

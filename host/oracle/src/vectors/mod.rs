@@ -22,7 +22,7 @@ use crate::netmask;
 use crate::port::bytes;
 use crate::rng::Rng;
 use crate::script::written;
-use crate::words::{self, BASE_WORDS, ROW_COUNTS_AT, STATE_WORDS};
+use crate::words::{self, BASE_WORDS, EVENT_BUFFER, ROW_COUNTS_AT, STATE_WORDS};
 use replay::answers;
 use std::collections::BTreeMap;
 use std::fs;
@@ -37,7 +37,7 @@ const RECORD_HEAD_WORDS: usize = 17;
 /// The longest record, and the longest buffer: a replayer has room for no
 /// more.
 const RECORD_WORDS: usize = 4096;
-const BUFFER_WORDS: usize = 13_056;
+const BUFFER_WORDS: usize = EVENT_BUFFER;
 pub const SEED: u64 = 1;
 /// The replayer's state has one word more than a state, so that it can lend
 /// one that is too long.
