@@ -113,7 +113,7 @@ pub fn table_lookup4<'a>(routes: Routes<'a>, set: Tables, f: Flow) -> Option<&'a
 }
 
 // What a set's answer comes to; none and a throw alike lead on.
-fn ruled<'a>(found: Option<&'a RouteRow>) -> Option<Result<&'a RouteRow, Refusal>>
+pub fn ruled<'a>(found: Option<&'a RouteRow>) -> Option<Result<&'a RouteRow, Refusal>>
     ensures { rules (lent found.entry) result }
 {
     let r = found?;
