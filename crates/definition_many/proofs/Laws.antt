@@ -64,7 +64,7 @@ answers-sized st g (d ∷ ds) =
 
 -- ---- the rows weighed
 -- "With no destinations it is 0"
-weighed-nothing : (tables : ℕ → Bool) (rows : List Row) → weighed tables rows [] ≡ 0
+pub weighed-nothing : (tables : ℕ → Bool) (rows : List Row) → weighed tables rows [] ≡ 0
 weighed-nothing tables [] = refl
 weighed-nothing tables (r ∷ rows) =
     omega (arith, tick-none (tables (table r) && false) (and-false (tables (table r))), weighed-nothing tables rows)

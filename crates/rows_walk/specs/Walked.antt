@@ -1,18 +1,19 @@
 -- How far a walk has come.
 -- Assumes nothing.
-use Rattle.std.specs.Prelude.{ℕ, ◌+◌, ◌-◌, ◌≤◌, ◌<◌, ◌≡◌, refl, Bool, true, false, cond, not, ◌&&◌, List, [], ◌∷◌, ◌++◌, leb, length, get_or, take, drop, Option}
-use Rattle.std.proofs.Common.{arith, sym, ap, ◌∙◌, append_assoc, append-nil, length-append, length-drop, take_all, le-leb, leb-true, leb-false, ne_eqb}
+use Rattle.std.specs.Prelude.{ℕ, ◌+◌, ◌-◌, ◌≤◌, ◌<◌, ◌≡◌, refl, Bool, true, false, cond, not, ◌&&◌, List, [], ◌∷◌, ◌++◌, leb, ltb, length, get_or, take, drop, Option}
+use Rattle.std.proofs.Common.{arith, sym, ap, ◌∙◌, append_assoc, append-nil, length-append, length-drop, take_all, le-leb, leb-true, leb-false, ltb-false, ne_eqb}
 use Rattle.std.proofs.lemmas.Bool.{lt-leb}
 use Rattle.std.proofs.Math.Option as Math
 use Rattle.std.proofs.Math.Option.{none, some}
 use denote.Ref.{Bor}
 use Rattle.lists.specs.Lists.{Row, all, keep, pairwise}
 use Rattle.lists.specs.All.{all_always, all_mono, all_append, all_back, all_head, all_keep, pairwise-head, pairwise_tail}
-use Rattle.lists.specs.Bools.{test-case}
+use Rattle.lists.specs.Bools.{not-both, test-case}
 use Rattle.lists.specs.Count.{count, length-keep}
 use Rattle.lists.specs.Keep.{keep_append}
 use Rattle.prefix.specs.Mask.{network}
-use Rattle.layout.specs.Route.{table, dst, len}
+use Rattle.layout.specs.Route.{table, dst, len, before}
+use Rattle.definition.specs.Words.{ordered}
 use Rattle.definition.specs.Reference.Lookup.{fits, answer, longest, flow_to}
 use Rattle.definition_many.specs.Many.{up_to}
 use Rattle.rows_lookup.specs.Flow.{set_of}
@@ -24,6 +25,21 @@ use Rattle.rows_walk.specs.Longest.{picked-longest}
 -- the rows come by rising dst
 abbrev pub Rising : List Row → Type 0
 Rising l = pairwise (λ a b. leb (dst a) (dst b)) l ≡ true
+
+pairwise-mono : {A : Type 0} (r q : A → A → Bool) (l : List A) → ((x y : A) → r x y ≡ true → q x y ≡ true) → pairwise r l ≡ true → pairwise q l ≡ true
+pairwise-mono r q [] h e = refl
+pairwise-mono r q (x ∷ l) h e =
+    rw (all_mono (r x) (q x) l (h x) (pairwise-head r x l e), pairwise-mono r q l h (pairwise_tail r x l e))
+
+-- rows in the order of routes do
+pub ordered-rising : (l : List Row) → ordered l ≡ true → Rising l
+unfolding ordered before
+ordered-rising l e = pairwise-mono (λ a b. not (before b a)) (λ a b. leb (dst a) (dst b)) l go e
+  where
+    go : (a b : Row) → not (before b a) ≡ true → leb (dst a) (dst b) ≡ true
+    go a b h =
+        le-leb (dst a) (dst b)
+        (test-case (ltb (dst b) (dst a)) (λ f. absurd (not-both (before b a) (rw f) h)) (λ f. ltb-false (dst b) (dst a) f))
 
 -- a destination isn't below the last one, if there is one
 abbrev pub Onward : Math.Option ℕ → ℕ → Type 0
@@ -56,13 +72,11 @@ pub walked-nothing : (l : List Row) → all (λ r. not (up_to none r)) l ≡ tru
 walked-nothing l = all_always (λ r. not (up_to none r)) l (λ r. refl)
 
 -- ---- rows that rise
-rising-before : (a : List Row) (r : Row) (b : List Row) → Rising (a ++ (r ∷ b)) → low (dst r) a ≡ true
-rising-before [] r b h = refl
-rising-before (x ∷ a) r b h =
-    let above : leb (dst x) (dst r) ≡ true =
-    all_head (λ s. leb (dst x) (dst s)) r b (all_back (λ s. leb (dst x) (dst s)) a (r ∷ b) (pairwise-head (λ a b. leb (dst a) (dst b)) x (a ++ (r ∷ b)) h))
-    in
-    rw (above, rising-before a r b (pairwise_tail (λ a b. leb (dst a) (dst b)) x (a ++ (r ∷ b)) h))
+pub pairwise-before : {A : Type 0} (r : A → A → Bool) (a : List A) (x : A) (b : List A) → pairwise r (a ++ (x ∷ b)) ≡ true → all (λ y. r y x) a ≡ true
+pairwise-before r [] x b h = refl
+pairwise-before r (y ∷ a) x b h =
+    let near : r y x ≡ true = all_head (r y) x b (all_back (r y) a (x ∷ b) (pairwise-head r y (a ++ (x ∷ b)) h)) in
+    rw (near, pairwise-before r a x b (pairwise_tail r y (a ++ (x ∷ b)) h))
 
 rising-back : (a b : List Row) → Rising (a ++ b) → Rising b
 rising-back [] b h = h
@@ -118,7 +132,7 @@ module _ (t : Tables) (l : List Row) where
     whole = rw (front-one rest some_left) k.split
 
     pub not-above : low (dst r) (keep (of_tables t) k.passed) ≡ true
-    not-above = all_keep (λ s. leb (dst s) (dst r)) (of_tables t) k.passed (rising-before k.passed r (drop 1 rest) (rw whole up))
+    not-above = all_keep (λ s. leb (dst s) (dst r)) (of_tables t) k.passed (pairwise-before (λ a b. leb (dst a) (dst b)) k.passed r (drop 1 rest) (rw whole up))
 
     module _ (within : dst r ≤ d) where
       more : {kept' : List (Option (Bor Row))} {weighed' : ℕ} → Keeps (keep (of_tables t) (k.passed ++ (r ∷ []))) kept'
