@@ -2,17 +2,18 @@
 // So each is a line, of another call; `Stored` is another crate's, so they are no methods of it.
 #![tactic(auto)]
 
-ghost use Rattle.std.specs.Prelude.{◌≡◌, ◌≤◌, length, true};
+ghost use Rattle.std.specs.Prelude.{◌≡◌, ◌*◌, ◌≤◌, length, true};
 ghost use Rattle.rows_lookup.specs.Flow.{flow_of};
 ghost use Rattle.rows_lookup.specs.Answer.{answered};
 ghost use Rattle.definition.specs.State.{State};
-ghost use Rattle.definition.specs.Words.{decode, none_twice};
+ghost use Rattle.definition.specs.Words.{decode, none_twice, ordered};
 ghost use Rattle.definition.specs.Reference.Lookup.{lookup_in, local4};
 ghost use Rattle.definition.specs.Reference.Source.{select4, source4, source, dump4};
 ghost use Rattle.state.specs.Represents.{Represents};
 ghost use Rattle.lists.specs.Library.{own, lent_ok};
 ghost use Rattle.lists.specs.Lists.{flat, put};
 ghost use Rattle.definition.specs.Step.{listing_room};
+ghost use Rattle.definition_many.specs.Many.{answer_size, answers as each_answer, rising, rows_weighed};
 
 use layout::RouteRow;
 use refusal::Refusal;
@@ -65,4 +66,16 @@ pub fn list(s: Stored<'_>, listing: &mut [u32]) -> usize
     ensures listing_after { listing.new ≡ put 0 (flat (dump4 (decode s.entry.words.now))) listing.old }
 {
     rows_dump::dump4(s.routes(), state_tables::tables(s), listing)
+}
+
+// For each destination of some that rise what `lookup4_in` finds, in the buffer; how many rows were weighed is returned.
+pub fn lookup4_many(s: Stored<'_>, destinations: &[u32], answers: &mut [u32]) -> u32
+    requires in_order { ordered (decode s.words.now).routes ≡ true }
+    requires destinations { rising destinations.now ≡ true }
+    requires room { answer_size * length destinations.now ≤ length answers.old }
+    ensures value { result ≡ rows_weighed (decode s.entry.words.now) destinations.now }
+    ensures answers_after { answers.new ≡ put 0 (flat (each_answer (decode s.entry.words.now) destinations.now)) answers.old }
+{
+    let listed = state_tables::listed(s, layout::TABLE_DEFAULT);
+    rows_many::lookup4_many(s.routes(), listed, destinations, answers)
 }
