@@ -1,9 +1,9 @@
 -- The reply for many destinations: an answer for each, its shape, and how many rows can be weighed.
 -- Assumes nothing.
-use Rattle.std.specs.Prelude.{ℕ, zero, suc, ◌+◌, ◌*◌, ◌≤◌, ◌<◌, ◌≡◌, refl, Bool, true, false, cond, ◌&&◌, List, [], ◌∷◌, ◌↔◌, ◌≢◌, eqb, leb, length, get_or}
-use Rattle.std.proofs.Common.{arith, ap, eqb-true, eq-eqb, leb-true}
+use Rattle.std.specs.Prelude.{ℕ, zero, suc, ◌+◌, ◌*◌, ◌≤◌, ◌<◌, ◌≡◌, refl, Bool, true, false, cond, ◌&&◌, List, [], ◌∷◌, ◌↔◌, ◌≢◌, eqb, leb, length, get_or, take}
+use Rattle.std.proofs.Common.{arith, sym, ap, ◌∙◌, length-take-le, take_all, eqb-true, eq-eqb, leb-true, leb-false, le-leb}
 use Rattle.std.proofs.Math.Bool.{and-false}
-use Rattle.std.proofs.lemmas.Bool.{eqb-false}
+use Rattle.std.proofs.lemmas.Bool.{eqb-false, lt-leb}
 use Rattle.lists.specs.Lists.{Row, keep}
 use Rattle.lists.specs.Rows.{sized, length-zeros}
 use Rattle.lists.specs.Bools.{and_both, cond-case, test-case}
@@ -145,3 +145,35 @@ many-shaped room ds w =
     record { counts = few; size = answers-sized st (good-held w p.held) ds; fits = omega (arith, few, p.spacious) })
     (λ n h.
     record { counts = cond-case (λ (k : ℕ). 0 ≡ k) (eqb n 0) (λ e. absurd (h (eqb-true n 0 e))) (λ e. refl); size = refl; fits = omega arith })
+
+-- ---- only the first destinations count
+-- calls whose checks come to the same, and their replies where they pass
+module _ (w : List ℕ) (room most : ℕ) (ds es : List ℕ) (roomy : answer_size * length ds ≤ room) (roomy' : answer_size * length es ≤ most)
+    (request : unfit_destinations ds ≡ unfit_destinations es) where
+  same_number : checked (many_checks room ds) w ≡ checked (many_checks most es) w
+  same_number = rw (le-leb (answer_size * length ds) room roomy, le-leb (answer_size * length es) most roomy', request)
+
+  same-call : (checked (many_checks most es) w ≡ 0 → ds ≡ es) → (lookup4_many_call room ds w).reply ≡ (lookup4_many_call most es w).reply
+  unfolding lookup4_many_call reading
+  same-call same =
+      let n = checked (many_checks most es) w in
+      rw same_number
+      (test-case (eqb n 0) (λ e. ap (λ (l : List ℕ). cond (eqb n 0) (many_reply l (state_of w)) (refusal n)) (same (eqb-true n 0 e))) (λ e. rw e))
+
+-- More than 257 are refused as the first 257 of them are, in any buffer that suffices: so a call on bytes needs to read no more of them.
+pub many_first : (w : List ℕ) (room most : ℕ) (ds : List ℕ) → answer_size * length ds ≤ room → answer_size * length (take 257 ds) ≤ most
+    → (lookup4_many_call room ds w).reply ≡ (lookup4_many_call most (take 257 ds) w).reply
+many_first w room most ds roomy roomy' =
+    test-case (leb (length ds) 257)
+    (λ e.
+    let all : ds ≡ take 257 ds = sym (take_all 257 ds (leb-true (length ds) 257 e)) in
+    same-call w room most ds (take 257 ds) roomy roomy' (ap unfit_destinations all) (λ z. all))
+    (λ e.
+    let long : 257 < length ds = leb-false (length ds) 257 e in
+    let cut : length (take 257 ds) ≡ 257 = length-take-le 257 ds (omega (arith, long)) in
+    let over : unfit_destinations ds ≡ 210 = rw (lt-leb (length ds) destination_limit (omega (arith, long))) in
+    let over' : unfit_destinations (take 257 ds) ≡ 210 = rw (lt-leb (length (take 257 ds)) destination_limit (omega (arith, cut))) in
+    same-call w room most ds (take 257 ds) roomy roomy' (over ∙ sym over')
+    (λ z.
+    let few = (passed most (take 257 ds) w z).few in
+    absurd (omega (arith, few, cut))))
