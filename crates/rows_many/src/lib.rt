@@ -54,7 +54,7 @@ impl<'a> Walks<'a> {
         }
     }
 
-    // What lookup4 gives for a destination, which isn't below those asked for before.
+    // What `rows_lookup::lookup4_in` finds for a destination, which isn't below those asked for before: 255 and 254, then 253.
     fn answer(&mut self, ip: u32) -> Result<&'a RouteRow, Refusal>
         ensures { (listed : Bool) (l : List Row) (ds : List ℕ) → Rising l → Above ip ds → Both listed l ds self.old
             → (lent_ok result ≡ answered (lookup_rows listed l (flow_to ip))) × Both listed l (ds ++ (ip ∷ [])) self.new }
@@ -72,7 +72,7 @@ impl<'a> Walks<'a> {
     }
 }
 
-// Each destination's answer, in the buffer, and the number of rows weighed.
+// Each destination's answer, in the buffer; how many rows were weighed is returned.
 pub fn lookup4_many(
     routes: Routes<'_>,
     default_listed: bool,

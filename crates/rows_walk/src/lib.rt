@@ -21,8 +21,8 @@ use rows_lookup::{Flow, Tables};
 // The greatest length of a prefix.
 const LONGEST: usize = 32;
 
-// Of the rows passed, for each length of a prefix, the longest first, the first row of the greatest dst: of that length it alone can
-// answer a destination that isn't below them.
+// Of the rows passed that have no tos, for each length of a prefix, the longest first, the first row of the greatest dst: of that
+// length it alone can answer a destination that isn't below them.
 #[derive(Drop)]
 struct Kept<'a> {
     rows: [Option<&'a RouteRow>; LONGEST + 1],
@@ -36,7 +36,7 @@ fn fits(kept: Option<&RouteRow>, ip: u32) -> bool
 }
 
 impl<'a> Kept<'a> {
-    // One row more. With a tos it answers no destination alone.
+    // One row more. With a tos it answers none, since no flow's tos is asked for.
     fn pass(&mut self, r: &'a RouteRow)
         requires fit { fit_route r.now ≡ true }
         ensures { (l : List Row) → Keeps l self.old.rows → NotAbove l r.now → Keeps (l ++ (r.now ∷ [])) self.new.rows }
