@@ -102,12 +102,12 @@ fn replay_list(rt: &impl Print, input: &mut impl Read, records: u32) {
     }
 }
 
-// How many records the list has, whose first word is "NKM1" in its bytes.
+// How many records the list has, whose first word is "NKL1" in its bytes.
 fn records(input: &mut impl Read) -> Option<u32> {
     let mut head = [0u32; 3];
     streams::read_words(input, &mut head).ok()?;
     let [magic, _, records] = head;
-    if magic.to_le_bytes() == *b"NKM1" {
+    if magic.to_le_bytes() == *b"NKL1" {
         Some(records)
     } else {
         None
