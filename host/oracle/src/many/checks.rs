@@ -99,6 +99,18 @@ fn by_hand(checks: &mut Checks) {
         many(&s, &["11.0.0.0"]),
         (0, 5, vec![101]),
     );
+    let texts = ["10.1.0.1", "10.2.3.4", "10.2.4.4", "10.4.0.1", "127.0.0.1"];
+    let to = texts.map(ip);
+    let mut answers = vec![7; ANSWER_WORDS * to.len()];
+    Model.many(&s.state, &to, &mut answers);
+    for (text, answer) in texts.iter().zip(answers.chunks(ANSWER_WORDS)) {
+        let told = s.lookup(text);
+        let mut alone = vec![told.reply.number];
+        alone.extend(told.written);
+        alone.resize(ANSWER_WORDS, 0);
+        let name = format!("the answer for {text} is lookup4's, or zeros");
+        checks.same(&name, answer, &alone);
+    }
     let refused = |to: &[u32], room: usize| {
         let mut answers = vec![7; room];
         let reply = Model.many(&s.state, to, &mut answers);

@@ -137,7 +137,7 @@ pub fn ruling<'a>(lists: &'a Lists, tables: &[u32], ip: u32) -> Option<&'a Route
     let covers = |row: &&RouteRow| {
         tables.contains(&row[0]) && row[3] == 0 && row[1] == ip & mask(row[2] as u8)
     };
-    // of equal lengths the last of an iterator is its greatest
+    // of several of the greatest length the last in this turned order
     let rows = lists.routes.iter().rev().filter(covers);
     rows.max_by_key(|row| row[2])
 }

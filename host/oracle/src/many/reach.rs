@@ -170,7 +170,7 @@ const KINDS: [(&str, Holds); 34] = [
             of_length(other, row) && other[1] == row[1] && row[0] == 255 && other[0] == 254
         })
     }),
-    ("a row with a tos before the one that answers", |s| {
+    ("a row with a tos beside the one that answers", |s| {
         s.beside(&FIRST, |other, _, row| {
             of_length(other, row) && other[1] == row[1] && other[3] != 0
         })
