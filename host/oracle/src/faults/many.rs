@@ -1,13 +1,13 @@
-//! Faults in destinations looked up together.
+//! Faults in destinations looked up together (document 02, Paper 10).
 use crate::call::Reply;
 use crate::many::{
     ANSWER_WORDS, FIRST, Looker, MOST, Model, NOT_RISING, Rust, SECOND, TOO_MANY, UNREACHABLE,
-    refusal, up_to, weighed,
+    refusal, ruling, up_to, weighed,
 };
 use crate::model::{UNFIT_BUFFER, UNFIT_STATE};
 use crate::well_formed;
 use crate::words::{STATE_WORDS, decode};
-use reference::{Lists, RouteRow};
+use reference::{Lists, RouteRow, mask};
 
 /// The call as it is made.
 pub struct Asked<'a> {
@@ -50,6 +50,23 @@ impl Asked<'_> {
         reply
     }
 
+    /// The model's count, with each answer by the rows that `sees` lets it
+    /// see: of it and of the destination before it.
+    fn seeing(&mut self, sees: fn(&RouteRow, u32, Option<u32>) -> bool) -> Reply {
+        let reply = self.model();
+        if reply.number == 0 {
+            let all = decode(self.state);
+            let mut before = None;
+            for (answer, &ip) in self.answers.chunks_mut(ANSWER_WORDS).zip(self.destinations) {
+                let mut lists = all.clone();
+                lists.routes.retain(|row| sees(row, ip, before));
+                answer.copy_from_slice(&Rust::on(&lists).lookup4(ip));
+                before = Some(ip);
+            }
+        }
+        reply
+    }
+
     /// The model's, with each answer changed afterwards.
     fn each(&mut self, change: fn(&Lists, u32, &mut [u32])) -> Reply {
         let reply = self.model();
@@ -78,13 +95,42 @@ impl Asked<'_> {
     }
 }
 
-/// The row of the first set that answers, a throw too.
-fn first_answer(lists: &Lists, ip: u32) -> Option<&RouteRow> {
-    let covers = |row: &&RouteRow| {
-        FIRST.contains(&row[0]) && row[3] == 0 && row[1] == ip & reference::mask(row[2] as u8)
+/// Of the rows of 254 and 255 without a tos that are passed for `ip`, those
+/// kept of each length, the longest first.
+fn kept(lists: &Lists, ip: u32, keep: fn(&[&RouteRow]) -> usize) -> Vec<RouteRow> {
+    let lengths = (0..=32).rev();
+    lengths
+        .filter_map(|len| {
+            let rows = lists.routes.iter();
+            let passed = |row: &&RouteRow| {
+                FIRST.contains(&row[0]) && row[1] <= ip && row[2] == len && row[3] == 0
+            };
+            let rows: Vec<&RouteRow> = rows.filter(passed).collect();
+            (!rows.is_empty()).then(|| *rows[keep(&rows)])
+        })
+        .collect()
+}
+
+/// The number of a kind's row, and the row, which a throw and what isn't
+/// there leave.
+fn put(answer: &mut [u32], row: Option<&RouteRow>) {
+    let number = match row.map(|row| row[5]) {
+        None | Some(9) => return,
+        Some(6) => 22,
+        Some(7) => 113,
+        Some(8) => 13,
+        Some(_) => 0,
     };
-    let rows = lists.routes.iter().rev();
-    rows.filter(covers).max_by_key(|row| row[2])
+    answer.fill(0);
+    answer[0] = number;
+    if let (Some(row), 0) = (row, number) {
+        answer[1..].copy_from_slice(row);
+    }
+}
+
+fn put_none(answer: &mut [u32]) {
+    answer.fill(0);
+    answer[0] = UNREACHABLE;
 }
 
 fn second(lists: &Lists, last: Option<&u32>) -> u32 {
@@ -200,7 +246,17 @@ pub const FAULTS: &[ManyFault] = &[
     }),
     fault("a throw doesn't open 253 to the count", |a| {
         a.counting(|lists, to| {
-            let open = last_open(lists, to, |lists, ip, _| first_answer(lists, ip).is_none());
+            let open = last_open(lists, to, |lists, ip, _| {
+                ruling(lists, &FIRST, ip).is_none()
+            });
+            up_to(lists, &FIRST, to.last()) + second(lists, open)
+        })
+    }),
+    fault("a throw alone opens 253 to the count", |a| {
+        a.counting(|lists, to| {
+            let open = last_open(lists, to, |lists, ip, _| {
+                ruling(lists, &FIRST, ip).is_some_and(|row| row[5] == 9)
+            });
             up_to(lists, &FIRST, to.last()) + second(lists, open)
         })
     }),
@@ -242,6 +298,12 @@ pub const FAULTS: &[ManyFault] = &[
     fault("the count of a private table's rows too", |a| {
         a.counting(|lists, to| weighed(lists, to) + up_to(lists, &[100], to.last()))
     }),
+    fault("each destination weighs its rows anew", |a| {
+        a.counting(|lists, to| {
+            let anew = |ip: &u32| up_to(lists, &FIRST, Some(ip));
+            weighed(lists, to) - up_to(lists, &FIRST, to.last()) + to.iter().map(anew).sum::<u32>()
+        })
+    }),
     fault("the count for no destinations is 1", |a| {
         a.counting(|lists, to| weighed(lists, to).max(u32::from(to.is_empty())))
     }),
@@ -257,17 +319,79 @@ pub const FAULTS: &[ManyFault] = &[
         }
     }),
     // the answers
+    fault(
+        "rows that an earlier destination passed are forgotten",
+        |a| a.seeing(|row, ip, before| before.is_none_or(|before| before == ip || row[1] > before)),
+    ),
+    fault("a destination's own row doesn't answer", |a| {
+        a.seeing(|row, ip, _| row[1] != ip)
+    }),
+    fault("254 and 255 answer only while they are listed", |a| {
+        a.answering(|lists| {
+            let tables = &lists.tables;
+            let listed = |row: &RouteRow| !FIRST.contains(&row[0]) || tables.contains(&row[0]);
+            lists.routes.retain(listed);
+        })
+    }),
+    fault(
+        "a row that was passed answers though it doesn't cover",
+        |a| {
+            a.each(|lists, ip, answer| {
+                let first_of_last = |rows: &[&RouteRow]| {
+                    let last = rows.last().map(|row| row[1]);
+                    rows.iter()
+                        .position(|row| Some(row[1]) == last)
+                        .unwrap_or(0)
+                };
+                put(answer, kept(lists, ip, first_of_last).first());
+            })
+        },
+    ),
+    fault("the first dst of a length is kept for good", |a| {
+        a.each(|lists, ip, answer| {
+            let rows = kept(lists, ip, |_| 0);
+            let covers = |row: &&RouteRow| row[1] == ip & mask(row[2] as u8);
+            match rows.iter().find(covers) {
+                None if FIRST.contains(&answer[1]) => put_none(answer),
+                row => put(answer, row),
+            }
+        })
+    }),
+    fault(
+        "the last of the rows with its dst and length answers",
+        |a| {
+            a.each(|lists, ip, answer| {
+                let rows = kept(lists, ip, |rows| rows.len() - 1);
+                let covers = |row: &&RouteRow| row[1] == ip & mask(row[2] as u8);
+                put(answer, rows.iter().find(covers));
+            })
+        },
+    ),
     fault("a throw doesn't lead on", |a| {
         a.each(|lists, ip, answer| {
-            if first_answer(lists, ip).is_some_and(|row| row[5] == 9) {
+            if ruling(lists, &FIRST, ip).is_some_and(|row| row[5] == 9) {
                 answer.fill(0);
                 answer[0] = 11;
             }
         })
     }),
+    fault("a throw is 101, whatever 253 has", |a| {
+        a.each(|lists, ip, answer| {
+            if ruling(lists, &FIRST, ip).is_some_and(|row| row[5] == 9) {
+                put_none(answer);
+            }
+        })
+    }),
+    fault("253 answers throws alone", |a| {
+        a.each(|lists, ip, answer| {
+            if ruling(lists, &FIRST, ip).is_none() {
+                put_none(answer);
+            }
+        })
+    }),
     fault("a throw is answered with its row", |a| {
         a.each(|lists, ip, answer| {
-            if let Some(row) = first_answer(lists, ip).filter(|row| row[5] == 9) {
+            if let Some(row) = ruling(lists, &FIRST, ip).filter(|row| row[5] == 9) {
                 answer[0] = 0;
                 answer[1..].copy_from_slice(row);
             }
@@ -298,9 +422,6 @@ pub const FAULTS: &[ManyFault] = &[
             }
         })
     }),
-    fault("the last of equal length answers", |a| {
-        a.answering(|lists| lists.routes.reverse())
-    }),
     fault("a row with a tos answers", |a| {
         a.answering(|lists| {
             for row in &mut lists.routes {
@@ -310,9 +431,8 @@ pub const FAULTS: &[ManyFault] = &[
     }),
     fault("255 is read before 254, whatever the length", |a| {
         a.each(|lists, ip, answer| {
-            let covers = |row: &&RouteRow| {
-                row[0] == 255 && row[3] == 0 && row[1] == ip & reference::mask(row[2] as u8)
-            };
+            let covers =
+                |row: &&RouteRow| row[0] == 255 && row[3] == 0 && row[1] == ip & mask(row[2] as u8);
             let local = lists.routes.iter().rev().filter(covers);
             if let Some(row) = local.max_by_key(|row| row[2]).filter(|row| row[5] <= 3) {
                 answer[0] = 0;
@@ -334,7 +454,7 @@ pub const FAULTS: &[ManyFault] = &[
     fault("the row of a kind that refuses is given", |a| {
         a.each(|lists, ip, answer| {
             if let Some(row) =
-                first_answer(lists, ip).filter(|_| [13, 22, 113].contains(&answer[0]))
+                ruling(lists, &FIRST, ip).filter(|_| [13, 22, 113].contains(&answer[0]))
             {
                 answer[1..].copy_from_slice(row);
             }
@@ -375,6 +495,21 @@ pub const FAULTS: &[ManyFault] = &[
         let reply = a.model();
         if reply.number != 0 {
             a.answers.fill(0);
+        }
+        reply
+    }),
+    fault("211 leaves the answers before the fall", |a| {
+        let reply = a.model();
+        if reply.number == NOT_RISING {
+            let mut rust = Rust::on(&decode(a.state));
+            let rising = a
+                .destinations
+                .windows(2)
+                .take_while(|pair| pair[0] <= pair[1]);
+            let rising = &a.destinations[..=rising.count()];
+            for (answer, &ip) in a.answers.chunks_mut(ANSWER_WORDS).zip(rising) {
+                answer.copy_from_slice(&rust.lookup4(ip));
+            }
         }
         reply
     }),
@@ -438,7 +573,9 @@ pub const FAULTS: &[ManyFault] = &[
         a.refusing(|a| (a.lengths() && a.destinations.len() > MOST).then_some(TOO_MANY))
     }),
     fault("211 before 201", |a| {
-        a.refusing(|a| (a.lengths() && !a.destinations.is_sorted()).then_some(NOT_RISING))
+        a.refusing(|a| {
+            (a.refusal() == Some(UNFIT_STATE) && !a.destinations.is_sorted()).then_some(NOT_RISING)
+        })
     }),
     fault("201 before 200", |a| {
         a.refusing(|a| {

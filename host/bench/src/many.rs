@@ -7,7 +7,7 @@ use crate::{ratio, time};
 use naskrefim::{Addresses, Reply, bytes, words};
 use oracle::many::{ANSWER_WORDS, FIRST, Looker, MOST, Model, SECOND, UNREACHABLE};
 use oracle::port::bytes as bytes_of;
-use oracle::words::{ROUTE_WORDS, ROUTES_AT, STATE_WORDS, TABLES_AT};
+use oracle::words::{ROUTE_WORDS, ROUTES_AT, STATE_WORDS, TABLES_AT, decode, encode};
 use reference::{Arguments, Native, Request, RouteRow, kind_error, mask};
 use std::hint::black_box;
 use std::net::Ipv4Addr;
@@ -32,7 +32,7 @@ struct Stage {
 
 impl Stage {
     fn new(state: Vec<u32>) -> Self {
-        let lists = oracle::words::decode(&state);
+        let lists = decode(&state);
         let to = destinations();
         let answers = vec![0; ANSWER_WORDS * MOST];
         Self {
@@ -46,6 +46,12 @@ impl Stage {
             to,
             state,
         }
+    }
+
+    /// A refusal leaves what a row's words hold.
+    fn clear(&mut self) {
+        self.answers.fill(0);
+        self.answer_bytes.fill(0);
     }
 
     /// All destinations by this way; how many have a route.
@@ -138,22 +144,23 @@ fn walked<const TUNED: bool>(state: &[u32], to: &[u32], answers: &mut [u32]) -> 
     let (rows, _) = state[ROUTES_AT..TABLES_AT].as_chunks::<ROUTE_WORDS>();
     let rows = &rows[..state[1] as usize];
     let listed = state[TABLES_AT..][..state[2] as usize].contains(&SECOND);
-    let (first, mut weighed) = walk(rows, &FIRST, to);
+    let (first, mut weighed) = walk::<TUNED>(rows, &FIRST, to);
     let open = first.iter().rposition(|found| settled(*found).is_none());
     let mut second = Vec::new();
     if let Some(last) = open.filter(|_| listed) {
-        let (found, more) = walk(rows, &[SECOND], &to[..=last]);
+        let (found, more) = walk::<TUNED>(rows, &[SECOND], &to[..=last]);
         second = found;
         weighed += more;
     }
     for (i, answer) in answers.chunks_mut(ANSWER_WORDS).take(to.len()).enumerate() {
         let later = || second.get(i).copied().flatten();
         let ruling = settled(first[i]).or_else(|| settled(later()));
-        answer.fill(0);
-        match ruling.unwrap_or(Err(UNREACHABLE)) {
-            Ok(row) => answer[1..].copy_from_slice(row),
-            Err(number) => answer[0] = number,
-        }
+        let (number, row) = match ruling.unwrap_or(Err(UNREACHABLE)) {
+            Ok(row) => (0, row),
+            Err(number) => (number, &[0; ROUTE_WORDS]),
+        };
+        answer[0] = number;
+        answer[1..].copy_from_slice(row);
     }
     Reply {
         value: weighed,
@@ -173,8 +180,14 @@ fn settled(found: Option<&RouteRow>) -> Option<Result<&RouteRow, u32>> {
 
 /// The row of these tables that answers each destination, and the rows
 /// weighed: for each length the first row of the last dst passed is kept.
-fn walk<'a>(rows: &'a [RouteRow], tables: &[u32], to: &[u32]) -> (Vec<Option<&'a RouteRow>>, u32) {
+/// Tuned, the lengths that have one are a word's bits.
+fn walk<'a, const TUNED: bool>(
+    rows: &'a [RouteRow],
+    tables: &[u32],
+    to: &[u32],
+) -> (Vec<Option<&'a RouteRow>>, u32) {
     let mut kept: [Option<&RouteRow>; 33] = [None; 33];
+    let mut lengths = 0_u64;
     let mut rows = rows.iter().peekable();
     let mut weighed = 0;
     let mut answer = |ip: u32| {
@@ -186,10 +199,22 @@ fn walk<'a>(rows: &'a [RouteRow], tables: &[u32], to: &[u32]) -> (Vec<Option<&'a
             let held = &mut kept[row[2] as usize];
             if row[3] == 0 && held.is_none_or(|held| held[1] != row[1]) {
                 *held = Some(row);
+                lengths |= 1 << row[2];
             }
         }
         let covers = |len: u8| kept[len as usize].filter(|row| row[1] == ip & mask(len));
-        (0..=32).rev().find_map(covers)
+        if !TUNED {
+            return (0..=32).rev().find_map(covers);
+        }
+        let mut left = lengths;
+        while left != 0 {
+            let longest = 63 - left.leading_zeros();
+            if let Some(row) = covers(longest as u8) {
+                return Some(row);
+            }
+            left ^= 1 << longest;
+        }
+        None
     };
     let found = to.iter().map(|&ip| answer(ip)).collect();
     (found, weighed)
@@ -208,34 +233,59 @@ pub fn table(rounds: usize) {
     );
     println!("|---|---:|---:|---:|---:|---:|---:|---:|---:|---:|---:|");
     for [a, r, t] in SIZES {
-        let mut stage = Stage::new(of_size([a, r, t]));
-        let mut answers = stage.answers.clone();
-        let reply = Model.many(&stage.state, &stage.to, &mut answers);
-        let found = stage.all(1);
-        assert_eq!(stage.answers, answers, "one by one");
-        for tuned in [false, true] {
-            let mut own = vec![7; answers.len()];
-            let walk = if tuned {
-                walked::<true>
-            } else {
-                walked::<false>
-            };
-            let given = walk(&stage.state, &stage.to, &mut own);
-            assert_eq!((given.value, own), (reply.value, answers.clone()), "plain");
-        }
-        for way in 0..WAYS {
-            assert_eq!(stage.all(way), found, "way {way} finds the same");
-        }
-        let times: [f64; WAYS] = in_turn(rounds, |way| {
-            black_box(stage.all(way));
-        });
-        let [_, one_by_one, plain, tuned, on_words, ..] = times;
-        let text = times.map(time).join(" | ");
-        println!(
-            "| {MOST}, {a}/{r}/{t} | {text} | {} | {} | {} |",
-            ratio(on_words, one_by_one),
-            ratio(on_words, plain),
-            ratio(on_words, tuned)
-        );
+        row(&format!("{a}/{r}/{t}"), of_size([a, r, t]), rounds);
     }
+    let [a, r, t] = SIZES[2];
+    row(&format!("{a}/{r}/{t}, 253 walked too"), with_253(), rounds);
+}
+
+/// The greatest size, with 253 in the place of a private table: it is walked
+/// for the destinations that have no route in 254 and 255.
+fn with_253() -> Vec<u32> {
+    let mut lists = decode(&of_size(SIZES[2]));
+    let in_place = |table: &mut u32| {
+        if *table == 100 {
+            *table = SECOND;
+        }
+    };
+    lists.tables.iter_mut().for_each(in_place);
+    lists
+        .routes
+        .iter_mut()
+        .for_each(|row| in_place(&mut row[0]));
+    encode(&lists)
+}
+
+fn row(name: &str, state: Vec<u32>, rounds: usize) {
+    let mut stage = Stage::new(state);
+    let mut answers = stage.answers.clone();
+    let reply = Model.many(&stage.state, &stage.to, &mut answers);
+    let found = stage.all(1);
+    for walk in [walked::<false>, walked::<true>] {
+        let mut own = vec![7; answers.len()];
+        let given = walk(&stage.state, &stage.to, &mut own);
+        assert_eq!((given.value, &own), (reply.value, &answers), "plain");
+    }
+    for way in 0..WAYS {
+        stage.clear();
+        assert_eq!(stage.all(way), found, "way {way} finds as many");
+        match way {
+            0..5 => assert_eq!(stage.answers, answers, "way {way}"),
+            5 => assert_eq!(stage.answer_bytes, bytes_of(&answers), "on bytes"),
+            _ => {}
+        }
+    }
+    let counted = words::lookup4_many(&stage.state, &stage.to, &mut answers);
+    assert_eq!(counted.value, reply.value, "the rows weighed");
+    let times: [f64; WAYS] = in_turn(rounds, |way| {
+        black_box(stage.all(way));
+    });
+    let [_, one_by_one, plain, tuned, on_words, ..] = times;
+    let text = times.map(time).join(" | ");
+    println!(
+        "| {MOST}, {name} | {text} | {} | {} | {} |",
+        ratio(on_words, one_by_one),
+        ratio(on_words, plain),
+        ratio(on_words, tuned)
+    );
 }

@@ -1,4 +1,6 @@
-//! Destinations looked up together, on every boundary, against the model.
+//! Destinations looked up together, on every boundary, against the model of
+//! many destinations.
+use crate::comparison::{Comparison, Tally};
 use crate::guarded::Guard;
 use crate::guarded::Lent::{Read, Write};
 use crate::library::{BYTE, WORD, named, reply};
@@ -11,61 +13,55 @@ use oracle::json;
 use oracle::many::{self, ANSWER_WORDS, Looker, ManyCase, NUMBERS};
 use oracle::port::Bytes;
 use oracle::words::STATE_WORDS;
-use std::collections::BTreeMap;
 use std::net::Ipv4Addr;
 
-pub struct Comparison {
+pub struct Together {
+    lookers: Vec<Box<dyn Looker<u8>>>,
     cases: Manies,
-    seed: u64,
-    /// How often the call gave each number, and for how many destinations it
-    /// answered.
-    pub numbers: BTreeMap<u32, usize>,
-    pub answers: usize,
-    /// Calls of the library.
-    pub calls: usize,
+    tally: Tally,
+    /// Destinations that were answered, and the rows weighed for them.
+    answers: usize,
+    weighed: usize,
 }
 
-impl Comparison {
-    pub fn new(seed: u64) -> Self {
+impl Together {
+    pub fn new(lookers: Vec<Box<dyn Looker<u8>>>, seed: u64) -> Self {
         Self {
+            lookers,
             cases: Manies::new(seed),
-            seed,
-            numbers: BTreeMap::new(),
+            tally: Tally::default(),
             answers: 0,
-            calls: 0,
+            weighed: 0,
         }
     }
+}
 
-    /// The next `count` cases.
-    pub fn generated(
-        &mut self,
-        lookers: &mut [Box<dyn Looker<u8>>],
-        count: usize,
-    ) -> Result<(), String> {
-        for _ in 0..count {
-            let case = self.cases.next_case();
-            let expected = many::expected(&case);
-            *self.numbers.entry(expected.reply.number).or_default() += 1;
-            if expected.reply.number == 0 {
-                self.answers += case.destinations.len();
-            }
-            for looker in &mut *lookers {
-                self.calls += 1;
-                many::against(&mut **looker, &case, &expected).map_err(|what| {
-                    let small = smallest(&mut **looker, &case);
-                    format!("{what}\n{small}\n(seed {})", self.seed)
-                })?;
-            }
+impl Comparison for Together {
+    fn next(&mut self) -> Result<(), String> {
+        let case = self.cases.next_case();
+        let expected = many::expected(&case);
+        self.tally.given(expected.reply.number);
+        if expected.reply.number == 0 {
+            self.answers += case.destinations.len();
+            self.weighed += expected.reply.value as usize;
+        }
+        for looker in &mut self.lookers {
+            self.tally.calls += 1;
+            many::against(&mut **looker, &case, &expected)
+                .map_err(|what| format!("{what}\n{}", smallest(&mut **looker, &case)))?;
         }
         Ok(())
     }
-
-    /// All numbers came up.
-    pub fn reached(&self) -> Result<(), String> {
-        match NUMBERS.iter().find(|n| !self.numbers.contains_key(n)) {
-            None => Ok(()),
-            Some(number) => Err(format!("no lookup of many destinations gave {number}")),
-        }
+    fn reached(&self) -> Result<(), String> {
+        self.tally.reached("lookup of many destinations", &NUMBERS)
+    }
+    fn said(&self) -> String {
+        let Tally { numbers, calls } = &self.tally;
+        format!(
+            "destinations together {numbers:?}, {} answers and {} rows weighed for them; {calls} calls \
+             of the library",
+            self.answers, self.weighed
+        )
     }
 }
 

@@ -1,19 +1,16 @@
-//! The list of destinations that the proved program `many_cases` replays,
+//! The list of destinations that the proved program `many_cases` looks up,
 //! and what it has to print, by the model of [`crate::many`] alone.
 //! host/README.md describes its format.
-use super::checks::kinds;
+use super::reach::kinds;
 use super::{ANSWER_WORDS, Looker, MOST, ManyCase, Model};
 use crate::call::Reply;
 use crate::faults::many::{FAULTS, ManyFault};
 use crate::generate::many::Manies;
-use crate::listed::{self, Wanted};
+use crate::listed::Source;
 use crate::port::bytes;
 use crate::vectors::check;
 use crate::words::STATE_WORDS;
-use std::collections::BTreeMap;
 
-/// "NKM1" in the file's first four bytes.
-const MAGIC: u32 = u32::from_le_bytes(*b"NKM1");
 /// The words that the replayer holds of a state, of destinations and of
 /// answers, and what each of the answers' holds.
 const HELD: usize = STATE_WORDS + 1;
@@ -23,8 +20,10 @@ const PATTERN: u32 = 0xa5a5_a5a5;
 /// A state with more words that aren't 0 stands in the list only for the
 /// most destinations.
 const SMALL: usize = 400;
+/// More destinations stand in the list only for what none before them shows.
+const FEW: usize = 40;
 
-struct Record {
+pub struct Record {
     case: ManyCase,
     /// The state's words, with zeros behind them.
     held: Vec<u32>,
@@ -64,9 +63,8 @@ impl Record {
         all
     }
 
-    /// What a looker makes of it: its reply and its answers, and the line
-    /// with the check of the whole buffer.
-    fn answer(&self, looker: &mut dyn Looker<u32>) -> (Reply, Vec<u32>, String) {
+    /// What a looker makes of it: its reply, and the whole buffer.
+    fn effect(&self, looker: &mut dyn Looker<u32>) -> (Reply, Vec<u32>) {
         let mut answers = vec![PATTERN; ROOM];
         let ManyCase {
             state,
@@ -75,61 +73,65 @@ impl Record {
             ..
         } = &self.case;
         let reply = looker.many(state, destinations, &mut answers[..room.len()]);
-        let said = match (reply.number, reply.present, reply.second) {
-            (0, 0, 0) => format!("{} rows", reply.value),
-            _ => reply.number.to_string(),
+        (reply, answers)
+    }
+
+    /// Its reply, and the line with the check of the whole buffer.
+    fn answer(&self, looker: &mut dyn Looker<u32>) -> (Reply, String) {
+        let (reply, answers) = self.effect(looker);
+        let said = match reply.number {
+            0 => format!("{} rows", reply.value),
+            number => number.to_string(),
         };
-        let line = format!("{said}, check {}", check(&answers));
-        (reply, answers, line)
+        (reply, format!("{said}, check {}", check(&answers)))
     }
 }
 
-/// Writes the list and what is to be printed into `folder`.
-pub fn write(count: usize, seed: u64, folder: &str) -> Result<(), String> {
-    let records = records(count, seed)?;
-    let total = records.len();
-    let mut list = vec![MAGIC, seed as u32, total as u32];
-    let mut lines = Vec::new();
-    let mut numbers: BTreeMap<u32, usize> = BTreeMap::new();
-    let mut before = vec![0; HELD];
-    for record in &records {
-        list.extend(record.words(&before));
-        before.clone_from(&record.held);
-        let (reply, _, line) = record.answer(&mut Model);
-        lines.push(line);
-        *numbers.entry(reply.number).or_default() += 1;
-    }
-    let list = bytes(&list);
-    listed::write("calls", folder, &list, &lines)?;
-    println!(
-        "many-list: {total} calls in {} bytes, seed {seed}; by number: {numbers:?}",
-        list.len()
-    );
-    Ok(())
+/// Destinations, most of them rising.
+pub struct Lookups {
+    cases: Manies,
+    /// The state's words of the record before.
+    before: Vec<u32>,
 }
 
-fn records(count: usize, seed: u64) -> Result<Vec<Record>, String> {
-    let wanted = Wanted {
-        what: "calls",
-        count,
-        faults: FAULTS,
-        name: |fault| fault.name,
-        but: &[],
-    };
-    let mut cases = Manies::new(seed);
-    let next = || {
-        let record = Record::new(cases.next_case())?;
-        let (reply, answers, _) = record.answer(&mut Model);
+impl Source for Lookups {
+    const NAMES: [&'static str; 2] = ["many", "calls"];
+    const MAGIC: [u8; 4] = *b"NKL1";
+    const FAULTS: &'static [ManyFault] = FAULTS;
+    type Record = Record;
+    type Fault = ManyFault;
+
+    fn new(seed: u64) -> Self {
+        Self {
+            cases: Manies::new(seed),
+            before: vec![0; HELD],
+        }
+    }
+    fn name(fault: &ManyFault) -> &'static str {
+        fault.name
+    }
+    fn next(&mut self) -> Option<(Record, Vec<String>)> {
+        let record = Record::new(self.cases.next_case())?;
+        let (reply, answers) = record.effect(&mut Model);
         let mut shown = vec![reply.number.to_string()];
         if reply.number == 0 {
             let kinds = kinds(&record.case, &answers);
             shown.extend(kinds.iter().map(ToString::to_string));
         }
         Some((record, shown))
-    };
-    listed::chosen(&wanted, Vec::new(), next, finds)
-}
-
-fn finds(record: &Record, mut fault: ManyFault) -> bool {
-    record.answer(&mut fault).2 != record.answer(&mut Model).2
+    }
+    fn may_fill(record: &Record) -> bool {
+        record.case.destinations.len() <= FEW
+    }
+    fn bytes(&mut self, record: &Record) -> Vec<u8> {
+        let words = record.words(&self.before);
+        self.before.clone_from(&record.held);
+        bytes(&words)
+    }
+    fn right(record: &Record) -> (Reply, String) {
+        record.answer(&mut Model)
+    }
+    fn wrong(record: &Record, mut fault: ManyFault) -> (Reply, String) {
+        record.answer(&mut fault)
+    }
 }

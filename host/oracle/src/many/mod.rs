@@ -2,6 +2,7 @@
 //! the paper's words alone; a line in quotation marks is the paper's.
 pub mod checks;
 pub mod list;
+pub mod reach;
 
 use crate::call::Reply;
 use crate::compare::{Cut, first_other, shortened};
@@ -9,7 +10,7 @@ use crate::model::{UNFIT_BUFFER, UNFIT_STATE};
 use crate::port::{Bytes, exact, words as words_of, write_back};
 use crate::well_formed;
 use crate::words::{ROUTE_WORDS, STATE_WORDS, decode};
-use reference::{Arguments, Lists, Native, Request};
+use reference::{Arguments, Lists, Native, Request, RouteRow, mask};
 use std::fmt;
 
 /// "Each answer takes 33 words".
@@ -128,6 +129,17 @@ pub fn up_to(lists: &Lists, tables: &[u32], last: Option<&u32>) -> u32 {
     let rows = lists.routes.iter();
     rows.filter(|row| tables.contains(&row[0]) && row[1] <= last)
         .count() as u32
+}
+
+/// The row of these tables that rules over a destination, a throw too: of
+/// those without a tos that cover it the longest, the first in list order.
+pub fn ruling<'a>(lists: &'a Lists, tables: &[u32], ip: u32) -> Option<&'a RouteRow> {
+    let covers = |row: &&RouteRow| {
+        tables.contains(&row[0]) && row[3] == 0 && row[1] == ip & mask(row[2] as u8)
+    };
+    // of several of the greatest length the last in this turned order
+    let rows = lists.routes.iter().rev().filter(covers);
+    rows.max_by_key(|row| row[2])
 }
 
 /// The number that refuses the call, in their order.
