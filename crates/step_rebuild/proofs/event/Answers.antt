@@ -1,3 +1,4 @@
+-- `step_rebuild::event` meets its contract.
 use Rattle.std.proofs.Common.{arith}
 use Rattle.definition_recording.specs.Recording.{fit_address_event}
 use Rattle.step_rebuild.specs.Laws.{checked-came, of-address, of-new-route, of_del_route, of_link_down, of-ip-disabled, of-no-kind}

@@ -1,3 +1,4 @@
+-- `step_rebuild::fit_address` meets its contract.
 use Rattle.std.proofs.Common.{ap, ap₂, ◌∙◌, Bool, ◌&&◌, eqb, arith}
 use Rattle.lists.specs.Lists.{all_zero}
 use Rattle.refusal.specs.declared.Refusal.TheVariants.{UnfitEvent}

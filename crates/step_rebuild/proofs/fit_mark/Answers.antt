@@ -1,3 +1,4 @@
+-- `step_rebuild::fit_mark` meets its contract.
 use Rattle.std.proofs.Common.{ap, ◌∙◌, Bool, arith}
 use Rattle.lists.specs.Lists.{all_zero}
 use Rattle.refusal.specs.declared.Refusal.TheVariants.{UnfitEvent}

@@ -1,3 +1,4 @@
+-- `step_rebuild::fit_route` meets its contract.
 use Rattle.std.proofs.Common.{◌≡◌, sym, ap, ◌∙◌, true, leb, take, drop, arith}
 use Rattle.layout.specs.Route.{fit_route}
 use Rattle.refusal.specs.Laws.{passed}

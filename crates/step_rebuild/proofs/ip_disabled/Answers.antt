@@ -1,3 +1,4 @@
+-- `step_rebuild::ip_disabled` meets its contract.
 use Rattle.std.proofs.Common.{sym, ◌∙◌}
 use Rattle.refusal.specs.Laws.{passed}
 use Rattle.definition_recording.specs.Recording.{fit_mark}

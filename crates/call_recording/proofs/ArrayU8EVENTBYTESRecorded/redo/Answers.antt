@@ -1,3 +1,4 @@
+-- `call_recording::ArrayU8EVENTBYTESRecorded::redo` meets its contract.
 use Rattle.std.proofs.Common.{arith, refl}
 use Rattle.endian.specs.Laws.{words-whole}
 use Rattle.call_recording.proofs.ArrayU8EVENTBYTESRecorded.redo.Goals as goal
