@@ -13,10 +13,10 @@ use layout::STATE_WORDS;
 use refusal::Refusal;
 use rows_many::ANSWER_WORDS;
 
-// As many destinations are read on bytes: more are refused as these are.
+// Of destinations on bytes as many are read: more are refused as these are.
 const READ: usize = DESTINATIONS + 1;
 
-// Room for an answer to each: it is the lent bytes that may have none.
+// Room for an answer to each, which the call on words then never lacks.
 const ANSWERS: usize = READ * ANSWER_WORDS;
 
 #[unsafe(no_mangle)]
