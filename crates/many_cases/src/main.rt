@@ -37,11 +37,7 @@ fn replay_call(rt: &impl Print, i: u32, state: &[u32], destinations: &[u32], roo
     requires { room ≤ 8500 }
 {
     let mut answers = [PATTERN; ROOM];
-    let answer = Answer(call_many::lookup4_many(
-        state,
-        destinations,
-        &mut answers[..room],
-    ));
+    let answer = Answer(call_many::lookup4_many(state, destinations, &mut answers[..room]));
     let _ = println!(rt; "{i}: {answer}, check {}", recorded::check(&answers));
 }
 
