@@ -111,6 +111,12 @@ extern "C" {
  */
 #define INTERFACE4_CURSOR_WORDS 3
 #define INTERFACE4_DUMP_INTERRUPTED 16
+/*
+ * The most destinations that are looked up together, and the words of the
+ * answer to one: the number or 0, and the route row or zeros.
+ */
+#define INTERFACE4_DESTINATIONS 256
+#define INTERFACE4_ANSWER_WORDS 33
 
 /*
  * Requests, in words. An absent value has 0 in its word; where both stand
@@ -136,6 +142,7 @@ extern "C" {
 #define INTERFACE4_EVENT_BYTES 136
 #define INTERFACE4_STATE_BYTES 38164
 #define INTERFACE4_CURSOR_BYTES 12
+#define INTERFACE4_ANSWER_BYTES 132
 #define INTERFACE4_EVENT_BUFFER_BYTES 52360
 #define INTERFACE4_LISTING_BUFFER_BYTES 32768
 #define INTERFACE4_ROW_BUFFER_BYTES 128
@@ -159,7 +166,7 @@ extern "C" {
 #define INTERFACE4_MESSAGE_BYTES 216
 
 /* The last of document 02's papers that this header knows: see interface4_sizes. */
-#define INTERFACE4_PAPER 9
+#define INTERFACE4_PAPER 10
 
 /* A lifetime that never ends. */
 #define INTERFACE4_FOREVER UINT32_MAX
@@ -196,6 +203,9 @@ extern "C" {
 #define INTERFACE4_BAD_MASK 207            /* a netmask that isn't ones, then zeros */
 #define INTERFACE4_UNKNOWN_EVENT 208       /* in a recording: of another kind */
 #define INTERFACE4_UNFIT_EVENT 209         /* in a recording: its words, or for the rows so far */
+/* looked up together */
+#define INTERFACE4_TOO_MANY_DESTINATIONS 210
+#define INTERFACE4_NOT_RISING 211          /* a destination below the one before it */
 
 /* What every call replies: number is 0, or a refusal and then the rest 0. */
 typedef struct interface4_reply {
@@ -222,6 +232,7 @@ typedef struct interface4_reply {
 #define INTERFACE4W_STACK_DUMP4_NEXT 36864
 #define INTERFACE4W_STACK_LOOKUP4 4096
 #define INTERFACE4W_STACK_LOOKUP4_FLOW 4096
+#define INTERFACE4W_STACK_LOOKUP4_MANY 4096
 #define INTERFACE4W_STACK_LOCAL4 4096
 #define INTERFACE4W_STACK_SOURCE4 4096
 #define INTERFACE4W_STACK_SOURCE 4096
@@ -246,6 +257,7 @@ typedef struct interface4_reply {
 #define INTERFACE4_STACK_DUMP4_NEXT 110592
 #define INTERFACE4_STACK_LOOKUP4 40960
 #define INTERFACE4_STACK_LOOKUP4_FLOW 40960
+#define INTERFACE4_STACK_LOOKUP4_MANY 77824
 #define INTERFACE4_STACK_LOCAL4 40960
 #define INTERFACE4_STACK_SOURCE4 40960
 #define INTERFACE4_STACK_SOURCE 40960
@@ -365,6 +377,25 @@ interface4_reply interface4w_lookup4_flow(const uint32_t *state, size_t state_le
                                           uint32_t ip, uint32_t tos, uint32_t oif);
 interface4_reply interface4_lookup4_flow(const uint8_t *state, size_t state_len, uint8_t *row, size_t row_len,
                                          uint32_t ip, uint32_t tos, uint32_t oif);
+
+/*
+ * The routes to up to INTERFACE4_DESTINATIONS addresses in rising order, equal
+ * ones allowed: for each what lookup4 gives, refusals too, found by one walk of
+ * the rows for each set of tables. The answers stand from the start of
+ * `answers`, which has room for INTERFACE4_ANSWER_WORDS for each; what is
+ * behind them keeps what it held, and a refusal leaves all. `value` is the
+ * number of rows weighed: those of 254 and 255 whose dst isn't above the last
+ * destination, and, if 253 is listed, those of 253 whose dst isn't above the
+ * last destination for which 254 and 255 had none or a throw.
+ *
+ * 200, also for answers without room for all of too many destinations, and for
+ * bytes of destinations that aren't whole words; then 201, 210 for too many,
+ * 211 where one is below the one before it.
+ */
+interface4_reply interface4w_lookup4_many(const uint32_t *state, size_t state_len, const uint32_t *destinations,
+                                          size_t destinations_len, uint32_t *answers, size_t answers_len);
+interface4_reply interface4_lookup4_many(const uint8_t *state, size_t state_len, const uint8_t *destinations,
+                                         size_t destinations_len, uint8_t *answers, size_t answers_len);
 
 /* Whether ip is the loopback's: `value` is 1 or 0. */
 interface4_reply interface4w_local4(const uint32_t *state, size_t state_len, uint32_t ip);

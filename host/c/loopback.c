@@ -32,6 +32,12 @@ static uint32_t route[INTERFACE4_ADD_ROUTE4_WORDS];
 static uint32_t same_route[INTERFACE4_DEL_ROUTE4_WORDS];
 static uint32_t request[INTERFACE4_REQUEST_BUFFER_WORDS];
 static uint8_t written[INTERFACE4_MESSAGE_BYTES];
+/* Destinations, the second of which has no route; room for one answer more. */
+static const uint32_t to[2] = {PEER, FAR};
+static uint32_t answers[3 * INTERFACE4_ANSWER_WORDS];
+/* One destination too many. */
+static uint32_t too_many[INTERFACE4_DESTINATIONS + 1];
+static uint32_t their_answers[(INTERFACE4_DESTINATIONS + 1) * INTERFACE4_ANSWER_WORDS];
 /* Event rows, one call's behind the other's. */
 static uint32_t recording[16 * INTERFACE4_EVENT_WORDS], again[16 * INTERFACE4_EVENT_WORDS];
 static size_t recorded;
@@ -154,6 +160,19 @@ static void found_route(void)
   is("its kind", row[5], 2);
 }
 
+/* The route that lookup4 gave, none for the second destination, and what is behind the two answers. */
+static void two_answers(void)
+{
+  const uint32_t *second = answers + INTERFACE4_ANSWER_WORDS;
+
+  is("the first answer's number", answers[0], 0);
+  is("its route", (uint32_t)memcmp(answers + 1, row, sizeof row), 0);
+  is("the second answer's number", second[0], INTERFACE4_NO_ROUTE_TO_NETWORK);
+  is("its first word", second[1], 0);
+  is("its last word", second[INTERFACE4_ROUTE_WORDS], 0);
+  is("what is behind them", second[INTERFACE4_ANSWER_WORDS], 0x5a5a5a5au);
+}
+
 /* What the message is read as: the request above, and nothing behind it. */
 static void same_request(void)
 {
@@ -200,6 +219,15 @@ static void on_words(void)
   told("lookup4_flow", interface4w_lookup4_flow(W(state), W(row), PEER, 8, 1), 0, 0, 0);
   found_route();
   refused("another device", interface4w_lookup4_flow(W(state), W(row), PEER, 1, 8), 101);
+  memset(answers, 0x5a, sizeof answers);
+  told("lookup4_many", interface4w_lookup4_many(W(state), W(to), W(answers)), 0, 6, 0);
+  two_answers();
+  told("lookup4_many of none", interface4w_lookup4_many(W(state), to, 0, answers, 0), 0, 0, 0);
+  refused("room for one answer", interface4w_lookup4_many(W(state), W(to), answers, INTERFACE4_ANSWER_WORDS), 200);
+  refused("257 destinations", interface4w_lookup4_many(W(state), W(too_many), W(their_answers)), 210);
+  too_many[0] = 1;
+  refused("a destination below another", interface4w_lookup4_many(W(state), too_many, 2, W(answers)), 211);
+  two_answers();
   told("source4", interface4w_source4(W(state), W(row), PEER), 1, OWN, 0);
   reply = interface4w_source(W(state), PEER);
   told("source", reply, 0, OWN, 0);
@@ -280,6 +308,10 @@ static void on_bytes(void)
   told("lookup4_flow, on bytes", interface4_lookup4_flow(B(state), B(row), PEER, 8, 1), 0, 0, 0);
   found_route();
   refused("another device, on bytes", interface4_lookup4_flow(B(state), B(row), PEER, 1, 8), 101);
+  memset(answers, 0x5a, sizeof answers);
+  told("lookup4_many, on bytes", interface4_lookup4_many(B(state), B(to), B(answers)), 0, 6, 0);
+  two_answers();
+  refused("part of a destination", interface4_lookup4_many(B(state), (const uint8_t *)to, 5, B(answers)), 200);
   told("source4, on bytes", interface4_source4(B(state), B(row), PEER), 1, OWN, 0);
   told("source, on bytes", interface4_source(B(state), PEER), 0, OWN, 0);
   told("local4, on bytes", interface4_local4(B(state), OWN), 0, 1, 0);

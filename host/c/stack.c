@@ -33,6 +33,8 @@ static uint8_t written[INTERFACE4_MESSAGE_BYTES];
 /* Two recordings of events: an address, the most routes, and three events more. */
 #define R ((INTERFACE4_ROUTES + 4) * INTERFACE4_EVENT_WORDS)
 static uint32_t recording[R], second[R];
+/* Destinations, and their answers. */
+static uint32_t to[INTERFACE4_DESTINATIONS], answers[INTERFACE4_DESTINATIONS * INTERFACE4_ANSWER_WORDS];
 static uint64_t now;
 static uint32_t ip;
 static interface4_reply reply;
@@ -56,6 +58,7 @@ static interface4_reply reply;
   CALL(dump4_next, (P(state), P(listing), P(cursor), 256))      \
   CALL(lookup4, (P(state), P(row), ip))                         \
   CALL(lookup4_flow, (P(state), P(row), ip, 8, 1))              \
+  CALL(lookup4_many, (P(state), P(to), P(answers)))             \
   CALL(local4, (P(state), ip))                                  \
   CALL(source4, (P(state), P(row), ip))                         \
   CALL(source, (P(state), ip))                                  \
@@ -211,12 +214,16 @@ static void fill(uint32_t addresses, uint32_t prefix, uint32_t apart, uint32_t l
 /* A row and requests that reach far into the state. */
 static void requests(void)
 {
+  uint32_t i;
   if (state[1] > 0)
     memcpy(row, state + INTERFACE4_ROUTES_AT + 32 * (state[1] - 1), sizeof row);
   if (state[0] > 0)
     memcpy(own, state + INTERFACE4_ADDRESSES_AT + 20 * (state[0] - 1), sizeof own);
   now = 2000000000u;
   ip = 0x0d000007u;
+  /* to the routes, some of them several times, and past them */
+  for (i = 0; i < INTERFACE4_DESTINATIONS; i++)
+    to[i] = 0x0cffff00u + i / 2 * 0x240u;
 }
 
 static void gateways(void)

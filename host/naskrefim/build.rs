@@ -12,7 +12,7 @@ const DEFAULT: &str = "crates/interface4/out/libinterface4.a";
 const PREFIXES: [&str; 2] = ["interface4_", "interface4w_"];
 const CALLS: &str = "up down add_v4 del_v4 expire add_route4 del_route4 dump4 lookup4 \
                      lookup4_flow local4 source4 source select4 left check read add_v4_mask \
-                     del_v4_mask write dump4_begin dump4_next rebuild same";
+                     del_v4_mask write dump4_begin dump4_next rebuild same lookup4_many";
 /// What it exports once.
 const ONCE: &str = "interface4_sizes interface4_prefix";
 /// What the library is compiled for: cargo's name of each, and its value.

@@ -1,4 +1,5 @@
 pub mod Bytes
 pub mod Laws
 pub mod Parts
+pub mod Many
 pub mod Recording

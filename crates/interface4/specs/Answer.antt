@@ -16,7 +16,7 @@ prefix_reply mask = cond (good mask) (valued (ones mask)) (refusal bad_mask)
 
 -- the number of the last paper of document 02 that landed
 abbrev pub paper : ℕ
-paper = 9
+paper = 10
 
 -- a host asks once, and knows that it and the library mean the same words
 abbrev pub sizes_reply : Reply

@@ -7,3 +7,4 @@ pub mod Message
 pub mod Mask
 pub mod Parts
 pub mod Recording
+pub mod Many

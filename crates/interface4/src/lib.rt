@@ -8,6 +8,7 @@ use layout::{ADDRESS_WORDS, EVENT_BUFFER, LISTING_BUFFER, ROUTE_WORDS, STATE_WOR
 mod changing;
 mod events;
 mod given;
+mod many;
 mod masks;
 mod messages;
 mod on_words;

@@ -39,7 +39,7 @@ pub extern "C" fn interface4_read(message: &[u8], request: &mut [u8], up: u32) -
 }
 
 // The last paper of document 02 that landed.
-const PAPER: u32 = 9;
+const PAPER: u32 = 10;
 
 #[unsafe(no_mangle)]
 pub extern "C" fn interface4_sizes() -> Reply

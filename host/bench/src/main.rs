@@ -2,6 +2,7 @@
 //! doing the port's job on lent words (plainly, and tuned), the port on
 //! words, on bytes and through `Addresses`. The tables are Markdown.
 mod events;
+mod many;
 mod masks;
 mod measure;
 mod messages;
@@ -29,7 +30,7 @@ const USAGE: &str = "usage: bench [--addresses] [--rounds N] [--only TEXT]
   --only TEXT    only calls whose name has TEXT in it; check: the check of a
                  state alone; read: messages; mask: netmasks; write: events;
                  part: listings taken in parts; rebuild: recordings of
-                 events";
+                 events; many: destinations looked up together";
 /// Cases on which the Rust on lent words is first compared with the model.
 const COMPARED: usize = 3_000;
 
@@ -71,9 +72,9 @@ fn main() -> ExitCode {
     if addresses {
         return swap(&usual, &special, rounds);
     }
-    let others = ["check", "read", "mask", "write", "part", "rebuild"];
+    let others = ["check", "read", "mask", "write", "part", "rebuild", "many"];
     let others = others.map(|name| name.contains(only.as_str()));
-    let [check, read, mask, write, part, rebuild] = others;
+    let [check, read, mask, write, part, rebuild, many] = others;
     if usual.is_empty() && special.is_empty() && !others.contains(&true) {
         eprintln!("no call has {only} in its name\n{USAGE}");
         return ExitCode::FAILURE;
@@ -119,6 +120,9 @@ fn main() -> ExitCode {
     }
     if rebuild {
         recordings::table(rounds);
+    }
+    if many {
+        many::table(rounds);
     }
     ExitCode::SUCCESS
 }

@@ -5,6 +5,7 @@
 //! must find that.
 use oracle::call::{Buffer, Call};
 use oracle::event::{self, Given, WordWriter, Writer};
+use oracle::many::{self, Looker};
 use oracle::message::{self, Reader};
 use oracle::model::model;
 use oracle::netmask::{self, Masked};
@@ -65,6 +66,7 @@ trait Element: Copy + Default {
     ) -> oracle::call::Reply;
     fn rebuild(recording: &[Self], rows: &mut [Self]) -> oracle::call::Reply;
     fn same(first: &[Self], second: &[Self]) -> oracle::call::Reply;
+    fn many(state: &[Self], destinations: &[Self], answers: &mut [Self]) -> oracle::call::Reply;
 }
 
 impl Element for u8 {
@@ -99,6 +101,9 @@ impl Element for u8 {
     }
     fn same(first: &[u8], second: &[u8]) -> oracle::call::Reply {
         Bytes(recording::Model).same(first, second)
+    }
+    fn many(state: &[u8], destinations: &[u8], answers: &mut [u8]) -> oracle::call::Reply {
+        Bytes(many::Model).many(state, destinations, answers)
     }
 }
 
@@ -148,6 +153,9 @@ impl Element for u32 {
     }
     fn same(first: &[u32], second: &[u32]) -> oracle::call::Reply {
         recording::Model.same(first, second)
+    }
+    fn many(state: &[u32], destinations: &[u32], answers: &mut [u32]) -> oracle::call::Reply {
+        many::Model.many(state, destinations, answers)
     }
 }
 
@@ -386,6 +394,41 @@ fn same<E: Element>(first: &mut [E], second: &mut [E]) -> Reply {
     reply.into()
 }
 
+/// Destinations looked up together.
+fn many<E: Element>(state: &mut [E], destinations: &mut [E], answers: &mut [E]) -> Reply {
+    let fault = fault();
+    let before = answers.to_vec();
+    let mut reply = Reply::from(E::many(state, destinations, answers));
+    match fault.as_str() {
+        "swapped count" => (reply.value, reply.second) = (reply.second, reply.value),
+        // SAFETY: none, this is the fault; the comparison lends guarded slices
+        "past the answers" => unsafe {
+            answers.as_mut_ptr_range().end.write(E::default());
+        },
+        "the answers cleared behind" if reply.number == 0 => {
+            if let Some(last) = answers.last_mut() {
+                *last = E::default();
+            }
+        }
+        "the answers not written back" if !E::ALIGNED => answers.copy_from_slice(&before),
+        "writes the destinations" => destinations.fill(E::default()),
+        "destinations' spare bytes overlooked"
+            if !E::ALIGNED && !destinations.len().is_multiple_of(4) =>
+        {
+            let whole = destinations.len() / 4 * 4;
+            return E::many(state, &destinations[..whole], answers).into();
+        }
+        "210 before 201 on bytes"
+            if !E::ALIGNED && reply.number == 201 && destinations.len() > 4 * many::MOST =>
+        {
+            reply.number = 210;
+        }
+        "many words unlike bytes" if E::ALIGNED && reply.number == 211 => reply.number = 210,
+        _ => {}
+    }
+    reply
+}
+
 /// The check alone: what `local4` refuses.
 fn checked(local4: Reply) -> Reply {
     let lax = fault() == "a lax check" && local4.number == 201;
@@ -538,6 +581,23 @@ macro_rules! all {
 
         parts! { $element, $prefix: dump4_begin Begin, dump4_next Next }
         recordings! { $element, $prefix: rebuild, same }
+
+        /// # Safety
+        /// Each pointer and length are those of one slice.
+        #[unsafe(export_name = concat!($prefix, "lookup4_many"))]
+        pub unsafe extern "C" fn lookup4_many(
+            state: *mut $element,
+            state_length: usize,
+            destinations: *mut $element,
+            destinations_length: usize,
+            answers: *mut $element,
+            answers_length: usize,
+        ) -> Reply {
+            let state = unsafe { from_raw_parts_mut(state, state_length) };
+            let destinations = unsafe { from_raw_parts_mut(destinations, destinations_length) };
+            let answers = unsafe { from_raw_parts_mut(answers, answers_length) };
+            many::<$element>(state, destinations, answers)
+        }
     };
 }
 
@@ -563,7 +623,7 @@ pub extern "C" fn prefix(mask: u32) -> Reply {
 pub extern "C" fn sizes() -> Reply {
     Reply {
         number: 0,
-        present: 9,
+        present: 10,
         value: if fault() == "other sizes" {
             9_509
         } else {

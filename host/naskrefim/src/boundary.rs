@@ -178,6 +178,13 @@ macro_rules! exported {
             /// The route of a flow is written to `row`: see
             /// [`Addresses::lookup4_flow`](crate::Addresses::lookup4_flow).
             lookup4_flow(state: read, row: write; ip: u32, tos: u32, oif: u32);
+            /// The routes to `destinations`, at most
+            /// [`DESTINATION_LIMIT`](crate::DESTINATION_LIMIT) and rising,
+            /// are written to `answers`,
+            /// [`ANSWER_WORDS`](crate::ANSWER_WORDS) for each: see
+            /// [`Addresses::lookup4_many`](crate::Addresses::lookup4_many).
+            /// `value` is the number of rows weighed.
+            lookup4_many(state: read, destinations: read, answers: write;);
             /// Whether `ip` is the loopback's own: `value` is 1 or 0.
             local4(state: read; ip: u32);
             /// The source of packets to `ip` by the route in `row`:
@@ -292,7 +299,7 @@ pub struct Sizes {
 /// use naskrefim::{EVENT_LIMIT, STATE_WORDS, sizes};
 /// let sizes = sizes();
 /// assert_eq!((sizes.state_words, sizes.event_rows), (STATE_WORDS, EVENT_LIMIT));
-/// assert_eq!(sizes.paper, 9);
+/// assert_eq!(sizes.paper, 10);
 /// ```
 #[must_use]
 pub fn sizes() -> Sizes {

@@ -9,7 +9,8 @@
 //! rtnetlink message asks for, as it comes off the socket, and
 //! [`Addresses::perform`] does it; [`Event::message`] is what those who
 //! listen are told. [`Parts`] lists the routes a few at a time while other
-//! calls go on. [`rebuild`] makes the routes of a recording of events, and
+//! calls go on. [`Addresses::lookup4_many`] looks up to 256 destinations up
+//! together. [`rebuild`] makes the routes of a recording of events, and
 //! [`same`] holds two recordings together. No function of this crate is
 //! unsafe, whatever it is given.
 //!
@@ -63,6 +64,7 @@
 //! | `dump4_next` | 36,864 | 110,592 |
 //! | `lookup4` | 4,096 | 40,960 |
 //! | `lookup4_flow` | 4,096 | 40,960 |
+//! | `lookup4_many` | 4,096 | 77,824 |
 //! | `local4` | 4,096 | 40,960 |
 //! | `source4` | 4,096 | 40,960 |
 //! | `source` | 4,096 | 40,960 |
@@ -89,6 +91,7 @@ mod addresses;
 mod boundary;
 mod constants;
 mod layout;
+mod many;
 mod netmask;
 mod parts;
 mod recordings;
@@ -105,6 +108,7 @@ pub use constants::{
     NO_METRICS, NO_PREFIX_ROUTE, PERMANENT, PROTO_KERNEL, SCOPE_HOST, SCOPE_LINK, SCOPE_NOWHERE,
     SCOPE_UNIVERSE, SECONDARY, TABLE_DEFAULT, TABLE_LOCAL, TABLE_MAIN,
 };
+pub use many::Lookups;
 pub use netmask::Netmask;
 pub use parts::{Cursor, Part, Parts};
 pub use recordings::{rebuild, same};
@@ -145,6 +149,12 @@ pub const LISTING_BUFFER_WORDS: usize = ROUTE_LIMIT * ROUTE_WORDS;
 /// The words of the cursor of a listing that is taken in parts: the next
 /// place, and the start's change count as its low and its high word.
 pub const CURSOR_WORDS: usize = 3;
+
+/// The most destinations of [`Addresses::lookup4_many`].
+pub const DESTINATION_LIMIT: usize = 256;
+/// The words of an answer of [`words::lookup4_many`]: the number or 0, and
+/// the row or zeros.
+pub const ANSWER_WORDS: usize = 1 + ROUTE_WORDS;
 
 /// The most bytes of the message of an [`Event`], and the fewest that
 /// [`words::write`] is lent for it.

@@ -87,6 +87,12 @@ numbers! {
     /// stand in no state, another word should be 0, or the routes so far
     /// don't allow it ([`rebuild`](crate::rebuild)).
     UNFIT_EVENT = 209, "an event that does not fit its recording";
+    /// More than 256 destinations
+    /// ([`lookup4_many`](crate::Addresses::lookup4_many)).
+    TOO_MANY_DESTINATIONS = 210, "more than 256 destinations";
+    /// A destination below the one before it
+    /// ([`lookup4_many`](crate::Addresses::lookup4_many)).
+    NOT_RISING = 211, "destinations that do not rise";
 }
 
 impl Refused {

@@ -45,11 +45,13 @@ fn sizes_are_the_crates_and_the_librarys() {
         ("DEL_ROUTE4", DEL_ROUTE4_WORDS),
         ("REQUEST_BUFFER", DEL_ROUTE4_WORDS),
         ("CURSOR", CURSOR_WORDS),
+        ("ANSWER", ANSWER_WORDS),
     ] {
         assert_eq!(of(&format!("{name}_WORDS")), words, "{name}");
         assert_eq!(of(&format!("{name}_BYTES")), 4 * words, "{name}");
     }
     assert_eq!(of("MESSAGE_BYTES"), MESSAGE_BYTES);
+    assert_eq!(of("DESTINATIONS"), DESTINATION_LIMIT);
     assert_eq!(of("FUZZ") as u64, FUZZ);
     assert_eq!(of("ALLOWANCE_LIMIT") as u64, ALLOWANCE_LIMIT);
     assert_eq!(of("ADDRESSES_AT"), 3);
@@ -80,6 +82,7 @@ fn refusals() {
         NO_SUCH_ADDRESS DOWN NO_ROUTE_TO_NETWORK UNREACHABLE
         UNFIT_BUFFER UNFIT_STATE UNFIT_REQUEST NO_SPACE
         BAD_LENGTH NOT_IPV4 BAD_ATTRIBUTE BAD_MASK UNKNOWN_EVENT UNFIT_EVENT
+        TOO_MANY_DESTINATIONS NOT_RISING
     };
     let defined = defined();
     for (name, number) in all {
@@ -114,5 +117,5 @@ fn stack() {
         assert!(docs.lines().any(|line| line == row), "{row}");
         rows += 1;
     }
-    assert_eq!(rows, 24);
+    assert_eq!(rows, 25);
 }

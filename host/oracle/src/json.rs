@@ -5,9 +5,11 @@ use crate::compare::Case;
 use crate::event::{Given, Model, WordWriter as _};
 use crate::generate::cases::{Cases, Weights};
 use crate::generate::events::Events;
+use crate::generate::many::Manies;
 use crate::generate::messages::{MessageCase, Messages};
 use crate::generate::parts::{Runs, Step};
 use crate::generate::recordings::Recordings;
+use crate::many::{self, ANSWER_WORDS, Looker, ManyCase};
 use crate::message::read;
 use crate::model::model;
 use crate::part::{self, Lister, PartCase, Take};
@@ -123,6 +125,44 @@ pub fn recordings(count: usize, seed: u64) {
         printed += 1;
         println!("{}", recording_line(&case));
     }
+}
+
+/// Prints `count` lists of destinations with their answers, few of them long
+/// or on long lists.
+pub fn many(count: usize, seed: u64) {
+    let mut cases = Manies::new(seed);
+    let (mut printed, mut long) = (0, 0);
+    while printed < count {
+        let case = cases.next_case();
+        let is_long = case.state.get(1).is_some_and(|&routes| routes > LONG)
+            || case.destinations.len() > LONG as usize;
+        if case.cut != Default::default() || (is_long && long * PER_LONG >= printed) {
+            continue;
+        }
+        long += usize::from(is_long);
+        printed += 1;
+        println!("{}", many_line(&case));
+    }
+}
+
+/// Destinations, with the rows weighed and an answer for each.
+pub fn many_line(case: &ManyCase) -> String {
+    let mut answers = case.answers.clone();
+    let Reply { number, value, .. } =
+        many::Model.many(&case.state, &case.destinations, &mut answers);
+    let given = match number {
+        0 => case.destinations.len(),
+        _ => 0,
+    };
+    let given = answers.chunks(ANSWER_WORDS).take(given);
+    format!(
+        "{{\"many\":{},\"buffer\":{},\"state\":{},\
+         \"expect\":{{\"number\":{number},\"value\":{value},\"rows\":{}}}}}",
+        array(&case.destinations),
+        case.answers.len(),
+        state_text(&case.state),
+        list(given.map(array))
+    )
 }
 
 /// A recording, or two, of whole words, with the answer.

@@ -17,6 +17,7 @@ pub mod generate;
 pub mod json;
 pub mod linux;
 pub mod listed;
+pub mod many;
 pub mod message;
 pub mod messages;
 pub mod model;

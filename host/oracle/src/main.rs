@@ -5,8 +5,8 @@ use oracle::generate::messages::Messages;
 use oracle::generate::recordings::Recordings;
 use oracle::vectors::{MODELS, Makers};
 use oracle::{
-    checks, coverage, document, events, examples, facts, faults, json, linux, listed, messages,
-    netmask, pairs, parts, recordings, rfc, tables, vectors,
+    checks, coverage, document, events, examples, facts, faults, json, linux, listed, many,
+    messages, netmask, pairs, parts, recordings, rfc, tables, vectors,
 };
 use std::process::ExitCode;
 use std::time::Instant;
@@ -31,6 +31,8 @@ const USAGE: &str = "usage: oracle COMMAND
   recordings [N] [SEED]  recordings of events: by hand, the paper's sentences
                          on runs and on N generated cases, N generated
                          recordings, and planted faults
+  many [N] [SEED]        destinations looked up together: by hand, on N
+                         generated cases, and with planted faults
   selftest [SEED]        planted faults, which the comparison must find
   vectors FOLDER [SEED]  writes the fixed list of answers, and damaged ones
   replay FILE            replays such a list against the model and against
@@ -42,6 +44,7 @@ const USAGE: &str = "usage: oracle COMMAND
   message-cases N SEED   prints N random messages as JSON lines
   event-cases N SEED     prints N random events as JSON lines
   recording-cases N SEED prints N recordings as JSON lines
+  many-cases N SEED      prints N lists of destinations as JSON lines
   message-list N SEED FOLDER
                          writes a list of N messages, and what is to be
                          printed of them
@@ -51,10 +54,12 @@ const USAGE: &str = "usage: oracle COMMAND
                          the same of N parts of listings
   recording-list N SEED FOLDER
                          the same of N recordings
+  many-list N SEED FOLDER
+                         the same of N lists of destinations
   all                    all of examples, linux, rfc, facts, tables,
                          netmasks, document, generator, pairs, parts,
-                         messages, events, recordings, selftest, and a list of
-                         answers replayed";
+                         messages, events, recordings, many, selftest, and a
+                         list of answers replayed";
 
 const CASES: usize = 30_000;
 const PAIRS: usize = 2_000;
@@ -130,6 +135,14 @@ fn command(arguments: &[String]) -> Result<bool, String> {
             let count = number(rest, 0, recordings::RECORDINGS)?;
             Ok(recordings::run(count, number(rest, 1, SEED)?))
         }
+        "many" => {
+            most(2)?;
+            let (count, seed) = (
+                number(rest, 0, many::checks::CASES)?,
+                number(rest, 1, SEED)?,
+            );
+            Ok(many::checks::run(count, seed))
+        }
         "selftest" => {
             most(1)?;
             Ok(faults::selftest(number(rest, 0, SEED)?))
@@ -146,32 +159,38 @@ fn command(arguments: &[String]) -> Result<bool, String> {
             replayed(&oracle::port::words(&data))
         }
         "cases" => cases(rest),
-        "message-cases" | "event-cases" | "part-cases" | "recording-cases" => match rest {
-            [_, _] => {
-                let (count, seed) = (number(rest, 0, 0)?, number(rest, 1, SEED)?);
-                match name.as_str() {
-                    "message-cases" => json::messages(count, seed),
-                    "event-cases" => json::events(count, seed),
-                    "recording-cases" => json::recordings(count, seed),
-                    _ => json::parts(count, seed),
+        "message-cases" | "event-cases" | "part-cases" | "recording-cases" | "many-cases" => {
+            match rest {
+                [_, _] => {
+                    let (count, seed) = (number(rest, 0, 0)?, number(rest, 1, SEED)?);
+                    match name.as_str() {
+                        "message-cases" => json::messages(count, seed),
+                        "event-cases" => json::events(count, seed),
+                        "recording-cases" => json::recordings(count, seed),
+                        "many-cases" => json::many(count, seed),
+                        _ => json::parts(count, seed),
+                    }
+                    Ok(true)
                 }
-                Ok(true)
+                _ => Err(USAGE.to_string()),
             }
-            _ => Err(USAGE.to_string()),
-        },
-        "message-list" | "event-list" | "part-list" | "recording-list" => match rest {
-            [_, _, folder] => {
-                let (count, seed) = (number(rest, 0, 0)?, number(rest, 1, SEED)?);
-                let write = match name.as_str() {
-                    "message-list" => listed::write::<Messages>,
-                    "event-list" => listed::write::<Events>,
-                    "recording-list" => listed::write::<Recordings>,
-                    _ => listed::write::<parts::list::Parts>,
-                };
-                write(count, seed, folder).map(|()| true)
+        }
+        "message-list" | "event-list" | "part-list" | "recording-list" | "many-list" => {
+            match rest {
+                [_, _, folder] => {
+                    let (count, seed) = (number(rest, 0, 0)?, number(rest, 1, SEED)?);
+                    let write = match name.as_str() {
+                        "message-list" => listed::write::<Messages>,
+                        "event-list" => listed::write::<Events>,
+                        "recording-list" => listed::write::<Recordings>,
+                        "many-list" => listed::write::<many::list::Lookups>,
+                        _ => listed::write::<parts::list::Parts>,
+                    };
+                    write(count, seed, folder).map(|()| true)
+                }
+                _ => Err(USAGE.to_string()),
             }
-            _ => Err(USAGE.to_string()),
-        },
+        }
         "all" => most(0).and_then(|()| all()),
         _ => Err(USAGE.to_string()),
     }
@@ -223,7 +242,7 @@ type Part = dyn Fn() -> Result<bool, String>;
 /// Everything, and one line of counts for each part.
 fn all() -> Result<bool, String> {
     let begin = Instant::now();
-    let parts: [(&str, &Part); 15] = [
+    let parts: [(&str, &Part); 16] = [
         ("examples", &|| Ok(checks::run("examples", examples::check))),
         ("linux", &|| Ok(checks::run("linux", linux::check))),
         ("rfc", &|| Ok(checks::run("rfc", rfc::check))),
@@ -239,6 +258,7 @@ fn all() -> Result<bool, String> {
         ("recordings", &|| {
             Ok(recordings::run(recordings::RECORDINGS, SEED))
         }),
+        ("many", &|| Ok(many::checks::run(many::checks::CASES, SEED))),
         ("selftest", &|| Ok(faults::selftest(SEED))),
         ("replay", &|| replayed(&vectors::vectors(vectors::SEED))),
     ];

@@ -5,6 +5,7 @@ pub mod constants;
 pub mod events;
 pub mod guarded;
 pub mod library;
+pub mod many;
 pub mod masks;
 pub mod messages;
 pub mod parts;

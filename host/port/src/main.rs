@@ -6,6 +6,7 @@ use oracle::port::Bytes;
 use port::comparison::Comparison;
 use port::events::Written;
 use port::library::{OnBytes, OnWords};
+use port::many::{self, Together};
 use port::masks::WithMask;
 use port::messages::{Boundary, Read};
 use port::parts::{self, InParts};
@@ -21,22 +22,24 @@ const USAGE: &str = "usage: port [OPTION VALUE]..
   --pairs N          N pairs of runs, and
   --messages N       N messages, read and performed, N requests for an
                      address with a netmask, N events, written, N steps of
-                     runs in which listings are taken in parts, and N
-                     recordings of events, rebuilt or held together
+                     runs in which listings are taken in parts, N recordings
+                     of events, rebuilt or held together, and N lists of
+                     destinations, looked up together
   --seed N           where they come from; a fresh seed if it isn't given
   --calls A,B,..     only these calls (then no pairs); read: messages; mask:
                      requests with a netmask, and all 2^32 netmasks
                      (with counts only those beside a good one); write:
                      events; part: listings taken in parts; rebuild:
-                     recordings of events
+                     recordings of events; many: destinations together
   --boundary WHICH   bytes, words or addresses; all if it isn't given";
 
 /// What comes between two looks at the clock.
 const BATCH: usize = 500;
 const PAIRS_PER_BATCH: usize = 3;
 /// What is compared beside the calls: messages read, requests with a netmask,
-/// events written, listings taken in parts, recordings of events.
-const OTHERS: [&str; 5] = ["read", "mask", "write", "part", "rebuild"];
+/// events written, listings taken in parts, recordings of events, destinations
+/// looked up together.
+const OTHERS: [&str; 6] = ["read", "mask", "write", "part", "rebuild", "many"];
 
 struct Options {
     seconds: u64,
@@ -180,6 +183,7 @@ fn others(options: &Options) -> Vec<Box<dyn Comparison>> {
             asked(options, recordings::rebuilders()),
             seed,
         )),
+        Box::new(Together::new(asked(options, many::lookers()), seed)),
     ];
     let asked = all.into_iter().zip(options.others);
     asked

@@ -13,7 +13,7 @@ use oracle::port::{Port, bytes, words};
 
 /// The words of a state, the event rows and the last paper that the library
 /// says.
-const SIZES: (usize, usize, u32) = (9_541, 385, 9);
+const SIZES: (usize, usize, u32) = (9_541, 385, 10);
 /// The numbers of a message, which must all be reached.
 const NUMBERS: [u32; 5] = [0, 200, 204, 205, 206];
 

@@ -4,6 +4,7 @@ mod answers;
 pub mod counts;
 mod effects;
 pub mod events;
+pub mod many;
 mod marks;
 pub mod masks;
 pub mod messages;

@@ -5,6 +5,7 @@ pub mod damage;
 pub mod drafts;
 pub mod events;
 pub mod limits;
+pub mod many;
 pub mod masks;
 pub mod message_damage;
 pub mod messages;

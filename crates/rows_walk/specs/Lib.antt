@@ -1,0 +1,3 @@
+pub mod Keeps
+pub mod Longest
+pub mod Walked
